@@ -1,0 +1,70 @@
+-- The agreement of tablets on transactions.
+--     kind_at logs n s      how the logs disagree on the transaction n at tablet s, by the first rule
+--     disagreement logs      the case of the least transaction, then of the least tablet
+use Rattle.std.specs.Prelude.{ℕ, Bool, true, false, List, [], ◌∷◌, ◌++◌, Option, Some, None, if◌then◌else◌, ◌&&◌, ◌==◌, not, filter, flat_map, nat_le, nat_lt, is_some}
+use Rattle.std.specs.List.{list_any}
+use Rattle.std.specs.Option.{option_map_or, option_map}
+use Rattle.xc_record.specs.declared.record.AgreeKind.{AgreeKind}
+use Rattle.xc_record.specs.declared.record.AgreeKind.TheVariants.{CommitDiffers, LateIntent, Aborted, Straggler}
+use Rattle.xc_record.specs.declared.record.Kind.{Kind}
+use Rattle.xc_record.specs.declared.record.Kind.TheVariants.{Abort}
+use Rattle.xc_record.specs.declared.record.Record.{Record}
+use Rattle.xc_record.specs.declared.record.Logs.{Logs}
+use Rattle.xc_record.specs.Hash.{hash_of, holds}
+use Rattle.xc_record.specs.Order.{safe_value}
+use Rattle.xc_record.specs.Accepted.{AcceptedTablet, accepted_tablets}
+use Rattle.xc_record.specs.Path.{waiting}
+use Rattle.xc_record.specs.Commits.{applies, commit_of, applied, intent_ops, txn_ops}
+use Rattle.xc_record.specs.Lists.{first_some}
+
+pub record Disagreement : Type 0 where
+  pub txn : ℕ
+  pub tablet : ℕ
+  pub kind : AgreeKind
+
+-- an accepted apply of n with another commit
+abbrev pub commit_differs : ℕ → ℕ → AcceptedTablet → Bool
+commit_differs n commit b = list_any (λ r. option_map_or (λ c. not (c == commit)) (applies n r.kind) false) b.records
+
+-- an accepted intent of n at or above the commit
+abbrev pub late_intent : ℕ → ℕ → AcceptedTablet → Bool
+late_intent n commit b = list_any (λ r. is_some (intent_ops n r.kind) && nat_le commit r.time) b.records
+
+abbrev pub aborts : ℕ → Kind → Bool
+aborts n (Abort txn) = txn == n
+aborts n _ = false
+
+abbrev pub aborted : ℕ → AcceptedTablet → Bool
+aborted n b = list_any (λ r. aborts n r.kind) b.records
+
+-- the records of the key's path above the tablet of accepted_tablet b
+abbrev pub path_above : List AcceptedTablet → AcceptedTablet → List ℕ → List Record
+path_above all b k = flat_map (λ a. a.records) (filter (λ a. holds a.header (hash_of k) && nat_lt a.header.id b.header.id) all)
+
+-- whether, after the records before, n waits at the key at a safe record of value at or above the commit
+abbrev pub straggles_at : ℕ → ℕ → List ℕ → List Record → List Record → Bool
+straggles_at n commit k before [] = false
+straggles_at n commit k before (r ∷ rs) =
+    if option_map_or (λ value. nat_le commit value) (safe_value r.kind) false && list_any (λ w. w.txn == n) (waiting k before)
+    then true
+    else straggles_at n commit k (before ++ r ∷ []) rs
+
+unfoldable pub straggler : Logs → ℕ → ℕ → AcceptedTablet → Bool
+straggler logs n commit b =
+    list_any (λ op. holds b.header (hash_of op.key) && straggles_at n commit op.key (path_above (accepted_tablets logs) b op.key) b.records) (txn_ops logs n)
+
+-- the kind of the first row whose test is true
+abbrev pub first_kind : List (Bool × AgreeKind) → Option AgreeKind
+first_kind [] = None
+first_kind (row ∷ rows) = if row.0 then Some row.1 else first_kind rows
+
+unfoldable pub kind_at : Logs → ℕ → ℕ → AcceptedTablet → Option AgreeKind
+kind_at logs n commit b =
+    first_kind ((commit_differs n commit b, CommitDiffers) ∷ (late_intent n commit b, LateIntent) ∷ (aborted n b, Aborted) ∷ (straggler logs n commit b, Straggler) ∷ [])
+
+unfoldable pub disagreement_on : Logs → ℕ → ℕ → Option Disagreement
+disagreement_on logs n commit =
+    first_some (λ b. option_map (λ kind. record { txn = n; tablet = b.header.id; kind = kind }) (kind_at logs n commit b)) (accepted_tablets logs)
+
+unfoldable pub disagreement : Logs → Option Disagreement
+disagreement logs = first_some (λ n. option_map_or (disagreement_on logs n) (commit_of logs n) None) (applied logs)

@@ -1,0 +1,11 @@
+pub mod Lists
+pub mod Hash
+pub mod Order
+pub mod Headers
+pub mod Accepted
+pub mod Path
+pub mod Commits
+pub mod Rows
+pub mod Agreement
+pub mod SafeTime
+pub mod Valid

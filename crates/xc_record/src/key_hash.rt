@@ -1,0 +1,18 @@
+//! The hash of a key.
+ghost use Rattle.std.specs.Prelude.{◌≡◌, ◌≤◌, ◌<◌, ℕ};
+ghost use Rattle.xc_record.specs.Hash.{hash_of};
+
+use xc_base::Key;
+
+/// The hash of a key.
+#[tactic(auto, unfolding(crate::specs::Hash::hash_of))]
+pub fn hash(key: &Key) -> u16
+    ensures { result ≡ hash_of key.now }
+{
+    let mut h: u32 = 0;
+    for byte in key.bytes() {
+        h = (31 * h + u32::from(*byte)) % 65_536;
+    }
+    h as u16
+}
+

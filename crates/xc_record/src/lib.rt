@@ -1,0 +1,10 @@
+//! Records of the source's logs, and the definitions over them.
+#![tactic(auto)]
+
+mod key_hash;
+mod record;
+mod rules;
+
+pub use key_hash::hash;
+pub use record::{AgreeKind, Break, Header, Kind, Logs, Op, Ops, Record, Records, Tablet, Tablets};
+pub use rules::{Next, valid};

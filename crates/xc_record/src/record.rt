@@ -1,0 +1,180 @@
+// Records of a tablet's log.
+ghost use Rattle.std.specs.Prelude.{◌≡◌};
+ghost use Rattle.xc_record.specs.Hash.{holds};
+
+use xc_base::{Key, Value};
+use std::marker::Model;
+use xc_time::HybridTime;
+
+/// Sets a key to a value, or removes it.
+#[derive(Clone, Copy, PartialEq, Eq, Debug)]
+pub struct Op {
+    pub key: Key,
+    pub value: Option<Value>,
+}
+
+#[derive(Drop, Debug)]
+pub struct Ops {
+    items: Vec<Op>,
+}
+
+impl Ops {
+    pub fn from_vec(items: Vec<Op>) -> Ops
+        ensures { result ≡ items.items }
+    {
+        Ops { items }
+    }
+
+    pub fn into_vec(self) -> Vec<Op>
+        ensures { result.items ≡ self }
+    {
+        self.items
+    }
+
+    pub fn as_slice(&self) -> &[Op]
+        ensures { result.now ≡ self.now }
+    {
+        self.items.as_slice()
+    }
+}
+
+impl Model for Ops {
+    ghost use Rattle.std.specs.Prelude.{List};
+    ghost use Rattle.xc_record.specs.declared.record.Op.{Op};
+
+    ghost Value = { List Op };
+
+    ghost view = { λ l. l.items.items };
+}
+
+#[derive(Drop, Debug)]
+pub enum Kind {
+    Write { ops: Ops },
+    Intent { txn: u32, ops: Ops },
+    Apply { txn: u32, commit: HybridTime },
+    Abort { txn: u32 },
+    Safe { value: HybridTime },
+    Split { at: u16, left: u32, right: u32 },
+}
+
+#[derive(Drop, Debug)]
+pub struct Record {
+    pub time: HybridTime,
+    pub kind: Kind,
+}
+
+#[derive(Drop, Debug)]
+pub struct Records {
+    items: Vec<Record>,
+}
+
+impl Records {
+    pub fn from_vec(items: Vec<Record>) -> Records
+        ensures { result ≡ items.items }
+    {
+        Records { items }
+    }
+
+    pub fn into_vec(self) -> Vec<Record>
+        ensures { result.items ≡ self }
+    {
+        self.items
+    }
+
+    pub fn as_slice(&self) -> &[Record]
+        ensures { result.now ≡ self.now }
+    {
+        self.items.as_slice()
+    }
+}
+
+impl Model for Records {
+    ghost use Rattle.std.specs.Prelude.{List};
+    ghost use Rattle.xc_record.specs.declared.record.Record.{Record};
+
+    ghost Value = { List Record };
+
+    ghost view = { λ l. l.items.items };
+}
+
+#[derive(Clone, Copy, PartialEq, Eq, Debug)]
+pub struct Header {
+    pub id: u32,
+    pub lo: u16,
+    pub hi: u16,
+    pub parent: Option<u32>,
+}
+
+impl Header {
+    /// Whether the tablet holds the hash.
+    pub fn holds(&self, hash: u16) -> bool
+        ensures { result ≡ holds self.now hash }
+    {
+        self.lo <= hash && hash <= self.hi
+    }
+}
+
+#[derive(Drop, Debug)]
+pub struct Tablet {
+    pub header: Header,
+    pub records: Records,
+}
+
+#[derive(Drop, Debug)]
+pub struct Tablets {
+    items: Vec<Tablet>,
+}
+
+impl Tablets {
+    pub fn from_vec(items: Vec<Tablet>) -> Tablets
+        ensures { result ≡ items.items }
+    {
+        Tablets { items }
+    }
+
+    pub fn into_vec(self) -> Vec<Tablet>
+        ensures { result.items ≡ self }
+    {
+        self.items
+    }
+
+    pub fn as_slice(&self) -> &[Tablet]
+        ensures { result.now ≡ self.now }
+    {
+        self.items.as_slice()
+    }
+}
+
+impl Model for Tablets {
+    ghost use Rattle.std.specs.Prelude.{List};
+    ghost use Rattle.xc_record.specs.declared.record.Tablet.{Tablet};
+
+    ghost Value = { List Tablet };
+
+    ghost view = { λ l. l.items.items };
+}
+
+#[derive(Drop, Debug)]
+pub struct Logs {
+    pub tablets: Tablets,
+}
+
+/// How a record breaks the order of its tablet.
+#[derive(Clone, Copy, PartialEq, Eq, Debug)]
+pub enum Break {
+    TimeBack,
+    CommitAhead,
+    CommitBelow,
+    SafeBack,
+    SafeAhead,
+    AfterSplit,
+}
+
+/// How the logs disagree on a transaction at a tablet.
+#[derive(Clone, Copy, PartialEq, Eq, Debug)]
+pub enum AgreeKind {
+    CommitDiffers,
+    LateIntent,
+    Aborted,
+    Straggler,
+}

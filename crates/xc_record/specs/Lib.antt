@@ -9,3 +9,5 @@ pub mod Rows
 pub mod Agreement
 pub mod SafeTime
 pub mod Valid
+pub mod Session
+pub mod Step

@@ -15,4 +15,3 @@ pub fn hash(key: &Key) -> u16
     }
     h as u16
 }
-

@@ -4,7 +4,9 @@
 mod key_hash;
 mod record;
 mod rules;
+mod session;
 
 pub use key_hash::hash;
 pub use record::{AgreeKind, Break, Header, Kind, Logs, Op, Ops, Record, Records, Tablet, Tablets};
 pub use rules::{Next, valid};
+pub use session::{Command, Line, Numbers, PollAnswer};

@@ -2,8 +2,8 @@
 ghost use Rattle.std.specs.Prelude.{◌≡◌};
 ghost use Rattle.xc_record.specs.Hash.{holds};
 
-use xc_base::{Key, Value};
 use std::marker::Model;
+use xc_base::{Key, Value};
 use xc_time::HybridTime;
 
 /// Sets a key to a value, or removes it.

@@ -8,8 +8,8 @@ ghost use Rattle.xc_record.specs.Valid.{headers_of, is_txn, op_fits, ops_fit, ki
 ghost use Rattle.std.specs.Option.{option_map_or};
 
 use crate::key_hash::hash;
-use xc_base::{Key, Value};
 use crate::record::{Header, Kind, Logs, Op, Record, Tablet};
+use xc_base::{Key, Value};
 
 /// What header may stand next.
 #[derive(Clone, Copy, PartialEq, Eq, Debug)]

@@ -1,0 +1,40 @@
+-- Words on how far the records of the tablets are accepted.
+--     numbered n o      the break with the number of its record
+--     start_from runs parent      where a tablet of this parent begins, after the runs of the tablets before it
+--     IsRun run b t      the run says what the accepted tablet b of the tablet t says
+--     IsRuns runs bs ts      the same, one for each tablet
+use Rattle.std.specs.Prelude.{◌≡◌, ℕ, ◌+◌, Bool, true, false, List, [], ◌∷◌, Option, Some, None, ◌&&◌, if◌then◌else◌, slice_get, length, take}
+use Rattle.std.specs.Option.{option_map_or}
+use Rattle.xc_record.specs.declared.record.Break.{Break}
+use Rattle.xc_record.specs.declared.record.Tablet.{Tablet}
+use Rattle.xc_record.specs.Order.{Progress}
+use Rattle.xc_record.specs.Accepted.{AcceptedTablet, root_start, halt_from}
+use Rattle.xc_agree.specs.declared.run.Start.{Start}
+use Rattle.xc_agree.specs.declared.run.Run.{Run}
+
+abbrev pub numbered : ℕ → Option Break → Option (ℕ × Break)
+numbered n None = None
+numbered n (Some kind) = Some (n, kind)
+
+abbrev pub child_from : Run → Start
+child_from run = record {
+  reached = run.reached && run.walk.order.split;
+  order = record { floor = run.walk.order.floor; last = run.walk.order.last; split = false };
+}
+
+abbrev pub start_from : List Run → Option ℕ → Start
+start_from runs None = record { reached = true; order = root_start }
+start_from runs (Some parent) = option_map_or child_from (slice_get runs parent) (record { reached = false; order = root_start })
+
+pub record IsRun (run : Run) (b : AcceptedTablet) (t : Tablet) : Type 0 where
+  pub header : b.header ≡ t.header
+  pub reached : run.reached ≡ b.reached
+  pub order : run.walk.order ≡ b.end
+  pub accepted : run.walk.accepted ≡ length b.records
+  pub records : b.records ≡ take run.walk.accepted t.records
+  pub halt : numbered (run.walk.accepted + 1) run.walk.halt ≡ (if b.reached then halt_from b.start 1 t.records else None)
+
+abbrev pub IsRuns : List Run → List AcceptedTablet → List Tablet → Type 0
+IsRuns [] [] [] = Unit {0}
+IsRuns (run ∷ runs) (b ∷ bs) (t ∷ ts) = IsRun run b t × IsRuns runs bs ts
+IsRuns _ _ _ = ⊥

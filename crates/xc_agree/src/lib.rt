@@ -1,0 +1,7 @@
+//! The audit of whole logs: what each tablet accepts, where it ends, and whether the tablets agree.
+#![tactic(auto)]
+
+mod audit;
+mod run;
+
+pub use audit::{AgreeFail, Audit, End, EndState, Ends};

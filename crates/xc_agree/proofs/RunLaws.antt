@@ -1,5 +1,6 @@
 -- Laws of runs.
-use Rattle.std.proofs.Common.{◌≡◌, ℕ, zero, suc, ◌+◌, Bool, true, false, List, [], ◌∷◌, ◌++◌, length, take, refl, ap, sym, ◌∙◌, subst, arith}
+use Rattle.std.proofs.lemmas.List.{take_more}
+use Rattle.std.proofs.Common.{◌≡◌, ℕ, zero, suc, ◌+◌, ◌<◌, Bool, true, false, List, [], ◌∷◌, ◌++◌, length, take, get_or, refl, ap, sym, ◌∙◌, subst, arith}
 use Rattle.std.specs.Prelude.{Option, Some, None, fold, slice_get, if◌then◌else◌, is_none}
 use Rattle.xc_record.specs.declared.record.Record.{Record}
 use Rattle.xc_record.specs.declared.record.Tablet.{Tablet}
@@ -79,3 +80,12 @@ next_run runs bs ts t run h r =
       records = kept (reached_after bs t.header.parent) (start_after bs t.header.parent) t.records ∙ ap (λ n. take n t.records) (sym q.accepted);
       halt = q.halt;
     }
+
+-- the runs with that of the tablet at i
+pub add_run : (runs more : List Run) (ts : List Tablet) (i : ℕ) (t : Tablet) (run : Run) (start : Start) (before : List Run) (rs : List Record) → i < length ts → t ≡ get_or ts i t → IsRuns runs (accepted_tablets_after [] (take i ts)) (take i ts)
+    → before ≡ runs → start ≡ start_from before t.header.parent → rs ≡ t.records → IsRunOf run start rs → more ≡ runs ++ run ∷ [] → IsRuns more (accepted_tablets_after [] (take (i + 1) ts)) (take (i + 1) ts)
+add_run runs more ts i t run start before rs below is h same begins all r e =
+    let next : IsRun run (accepted_tablet_after (accepted_tablets_after [] (take i ts)) t) t =
+        next_run runs (accepted_tablets_after [] (take i ts)) (take i ts) t run h (subst (λ s. IsRunOf run s t.records) (begins ∙ ap (λ x. start_from x t.header.parent) same) (subst (λ x. IsRunOf run start x) all r)) in
+    let one : take (i + 1) ts ≡ take i ts ++ t ∷ [] = take_more ts i t below ∙ ap (λ u. take i ts ++ u ∷ []) (sym is) in
+    rw (e, one, accepted_tablets-snoc [] (take i ts) t) (IsRuns-snoc runs (accepted_tablets_after [] (take i ts)) (take i ts) run (accepted_tablet_after (accepted_tablets_after [] (take i ts)) t) t h next)

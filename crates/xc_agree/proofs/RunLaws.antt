@@ -1,14 +1,14 @@
 -- Laws of runs.
 use Rattle.std.proofs.lemmas.List.{take_more}
 use Rattle.std.proofs.Common.{◌≡◌, ℕ, zero, suc, ◌+◌, ◌<◌, Bool, true, false, List, [], ◌∷◌, ◌++◌, length, take, get_or, refl, ap, sym, ◌∙◌, subst, arith}
-use Rattle.std.specs.Prelude.{Option, Some, None, fold, slice_get, if◌then◌else◌, is_none}
+use Rattle.std.specs.Prelude.{Option, Some, None, fold, slice_get, if◌then◌else◌, is_none, option_map}
 use Rattle.xc_record.specs.declared.record.Record.{Record}
 use Rattle.xc_record.specs.declared.record.Tablet.{Tablet}
 use Rattle.xc_record.specs.Order.{Progress, break_of, after, accepted_from}
 use Rattle.xc_record.specs.Accepted.{AcceptedTablet, accepted_tablets_after, accepted_tablet_after, start_after, reached_after, halt_from}
 use Rattle.xc_agree.specs.declared.run.Start.{Start}
 use Rattle.xc_agree.specs.declared.run.Run.{Run}
-use Rattle.xc_agree.specs.Runs.{IsRun, IsRuns, start_from, numbered}
+use Rattle.xc_agree.specs.Runs.{IsRun, IsRuns, start_from, halt_at}
 
 -- the accepted records are the first ones
 pub accepted-first : (p : Progress) (rs : List Record) → take (length (accepted_from p rs)) rs ≡ accepted_from p rs
@@ -57,7 +57,7 @@ pub record IsRunOf (run : Run) (start : Start) (rs : List Record) : Type 0 where
   pub reached : run.reached ≡ start.reached
   pub accepted : run.walk.accepted ≡ length (if start.reached then accepted_from start.order rs else [])
   pub order : run.walk.order ≡ fold after start.order (if start.reached then accepted_from start.order rs else [])
-  pub halt : numbered (run.walk.accepted + 1) run.walk.halt ≡ (if start.reached then halt_from start.order 1 rs else None)
+  pub halt : option_map halt_at run.walk.halt ≡ (if start.reached then halt_from start.order 1 rs else None)
 
 take_zero : (rs : List Record) → take 0 rs ≡ []
 take_zero [] = refl

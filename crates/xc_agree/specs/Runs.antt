@@ -1,20 +1,20 @@
 -- Words on how far the records of the tablets are accepted.
---     numbered n o      the break with the number of its record
+--     halt_at h      the number of the record and its break
 --     start_from runs parent      where a tablet of this parent begins, after the runs of the tablets before it
 --     IsRun run b t      the run says what the accepted tablet b of the tablet t says
 --     IsRuns runs bs ts      the same, one for each tablet
-use Rattle.std.specs.Prelude.{◌≡◌, ℕ, ◌+◌, Bool, true, false, List, [], ◌∷◌, Option, Some, None, ◌&&◌, if◌then◌else◌, slice_get, length, take}
+use Rattle.std.specs.Prelude.{◌≡◌, ℕ, ◌+◌, Bool, true, false, List, [], ◌∷◌, Option, Some, None, ◌&&◌, if◌then◌else◌, slice_get, length, take, option_map}
 use Rattle.std.specs.Option.{option_map_or}
 use Rattle.xc_record.specs.declared.record.Break.{Break}
 use Rattle.xc_record.specs.declared.record.Tablet.{Tablet}
 use Rattle.xc_record.specs.Order.{Progress}
 use Rattle.xc_record.specs.Accepted.{AcceptedTablet, root_start, halt_from}
+use Rattle.xc_agree.specs.declared.run.Halt.{Halt}
 use Rattle.xc_agree.specs.declared.run.Start.{Start}
 use Rattle.xc_agree.specs.declared.run.Run.{Run}
 
-abbrev pub numbered : ℕ → Option Break → Option (ℕ × Break)
-numbered n None = None
-numbered n (Some kind) = Some (n, kind)
+abbrev pub halt_at : Halt → ℕ × Break
+halt_at h = (h.number, h.kind)
 
 abbrev pub child_from : Run → Start
 child_from run = record {
@@ -32,7 +32,7 @@ pub record IsRun (run : Run) (b : AcceptedTablet) (t : Tablet) : Type 0 where
   pub order : run.walk.order ≡ b.end
   pub accepted : run.walk.accepted ≡ length b.records
   pub records : b.records ≡ take run.walk.accepted t.records
-  pub halt : numbered (run.walk.accepted + 1) run.walk.halt ≡ (if b.reached then halt_from b.start 1 t.records else None)
+  pub halt : option_map halt_at run.walk.halt ≡ (if b.reached then halt_from b.start 1 t.records else None)
 
 abbrev pub IsRuns : List Run → List AcceptedTablet → List Tablet → Type 0
 IsRuns [] [] [] = Unit {0}

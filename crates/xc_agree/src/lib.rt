@@ -2,6 +2,7 @@
 #![tactic(auto)]
 
 mod audit;
+mod look;
 mod run;
 
 pub use audit::{AgreeFail, Audit, End, EndState, Ends};

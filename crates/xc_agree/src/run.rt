@@ -5,7 +5,7 @@ ghost use Rattle.xc_record.specs.Accepted.{halt_from};
 ghost use Rattle.xc_record.specs.declared.record.Tablet.{Tablet};
 ghost use Rattle.xc_record.specs.Accepted.{accepted_tablets_after, AcceptedTablet};
 ghost use Rattle.std.specs.Prelude.{IfOk, List, [], if◌then◌else◌, take};
-ghost use Rattle.xc_agree.specs.Runs.{numbered, start_from, IsRuns};
+ghost use Rattle.xc_agree.specs.Runs.{halt_at, start_from, IsRuns};
 
 use std::alloc::{AllocError, Global};
 use xc_order::Order;
@@ -18,15 +18,23 @@ pub struct Walk {
     pub order: Order,
     /// The number of accepted records.
     pub accepted: usize,
-    /// How the next record breaks the order, where there is one.
-    pub halt: Option<Break>,
+    /// The next record, where it breaks the order.
+    pub halt: Option<Halt>,
+}
+
+/// A record that breaks the order of its tablet.
+#[derive(Clone, Copy, PartialEq, Eq, Debug)]
+pub struct Halt {
+    /// From 1.
+    pub number: usize,
+    pub kind: Break,
 }
 
 // The records up to the first that breaks the order.
 pub fn walk_records(start: Order, records: &[Record]) -> Walk
     ensures accepted { result.accepted ≡ length (accepted_from start records.now) }
     ensures order { result.order ≡ fold after start (accepted_from start records.now) }
-    ensures halt { numbered (result.accepted + 1) result.halt ≡ halt_from start 1 records.now }
+    ensures halt { option_map halt_at result.halt ≡ halt_from start 1 records.now }
 {
     let mut order = start;
     for (i, r) in records.iter().enumerate() {
@@ -34,7 +42,10 @@ pub fn walk_records(start: Order, records: &[Record]) -> Walk
             return Walk {
                 order,
                 accepted: i,
-                halt: Some(violated),
+                halt: Some(Halt {
+                    number: i + 1,
+                    kind: violated,
+                }),
             };
         }
     }
@@ -93,7 +104,7 @@ fn run_of(start: Start, records: &[Record]) -> Run
     ensures reached { result.reached ≡ start.reached }
     ensures accepted { result.walk.accepted ≡ length (if start.reached then accepted_from start.order records.now else []) }
     ensures order { result.walk.order ≡ fold after start.order (if start.reached then accepted_from start.order records.now else []) }
-    ensures halt { numbered (result.walk.accepted + 1) result.walk.halt ≡ (if start.reached then halt_from start.order 1 records.now else None) }
+    ensures halt { option_map halt_at result.walk.halt ≡ (if start.reached then halt_from start.order 1 records.now else None) }
 {
     let walk = if start.reached {
         walk_records(start.order, records)

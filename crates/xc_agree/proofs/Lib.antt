@@ -1,1 +1,4 @@
+pub mod Steps
 pub mod RunLaws
+pub mod TallyLaws
+pub mod LookLaws

@@ -4,7 +4,7 @@
 --     see n commit s r      the same after the record r, for the transaction n, which commits at `commit`
 --     kind_seen s      the first kind of the cases that stand
 --     IsLeast found kinds      found has the least transaction with a kind, and that kind
-use Rattle.std.specs.Prelude.{◌≡◌, ℕ, ◌+◌, ◌<◌, Bool, true, false, List, [], ◌∷◌, Option, Some, None, ◌&&◌, ◌||◌, ◌==◌, not, nat_le, nat_lt, if◌then◌else◌, MatchOption}
+use Rattle.std.specs.Prelude.{◌≡◌, ℕ, ◌+◌, ◌<◌, Bool, true, false, List, [], ◌∷◌, Option, Some, None, ◌&&◌, ◌||◌, ◌==◌, not, nat_le, nat_lt, if◌then◌else◌, MatchOption, option_and_then}
 use Rattle.std.specs.Option.{option_map_or}
 use Rattle.xc_record.specs.declared.record.AgreeKind.{AgreeKind}
 use Rattle.xc_record.specs.declared.record.AgreeKind.TheVariants.{CommitDiffers, LateIntent, Aborted, Straggler}
@@ -13,7 +13,12 @@ use Rattle.xc_record.specs.declared.record.Kind.TheVariants.{Write, Intent, Appl
 use Rattle.xc_record.specs.declared.record.Record.{Record}
 use Rattle.xc_record.specs.Agreement.{first_kind}
 use Rattle.xc_record.specs.Lists.{or_else}
+use Rattle.std.specs.Ordering.{nat_cmp}
+use Rattle.std.specs.BTreeMap.{get}
 use Rattle.xc_agree.specs.declared.look.Found.{Found}
+use Rattle.xc_agree.specs.declared.look.Look.{Look}
+use Rattle.xc_agree.specs.declared.commits.Commits.{Commits}
+use Rattle.xc_agree.specs.Tally.{time_of}
 
 pub record Seen : Type 0 where
   pub place : ℕ
@@ -80,3 +85,31 @@ IsLeast found kinds =
 -- with this kind of the transaction too
 abbrev pub with_kind : ℕ → AgreeKind → (ℕ → Option AgreeKind) → ℕ → Option AgreeKind
 with_kind txn kind kinds n = if n == txn then Some (earlier kind (kinds n)) else kinds n
+
+-- found, with this case too where it stands
+abbrev pub IsLeastWith : Option Found → Bool → ℕ → AgreeKind → Option Found → Type 0
+IsLeastWith found stands txn kind more = (kinds : ℕ → Option AgreeKind) → IsLeast found kinds → IsLeast more (if stands then with_kind txn kind kinds else kinds)
+
+-- where the transaction began to wait
+abbrev pub since_in : Look → ℕ → Option ℕ
+since_in look n = get nat_cmp look.waiting n
+
+abbrev pub pends_in : ℕ → Look → ℕ → Bool
+pends_in commit look n = option_map_or (λ since. nat_lt since look.safe && nat_le commit look.floor) (since_in look n) false
+
+pub record KeepsPlace (old new : Look) : Type 0 where
+  pub place : new.place ≡ old.place
+  pub safe : new.safe ≡ old.safe
+  pub floor : new.floor ≡ old.floor
+
+-- the look has, of each transaction that commits, what is seen of it
+pub record IsLook (look : Look) (commits : Commits) (seen : ℕ → ℕ → Seen) : Type 0 where
+  pub place : (n c : ℕ) → (seen n c).place ≡ look.place
+  pub safe : (n c : ℕ) → (seen n c).safe ≡ look.safe
+  pub floor : (n c : ℕ) → (seen n c).floor ≡ look.floor
+  pub since : (n : ℕ) → since_in look n ≡ option_and_then (λ c. (seen n c).since) (time_of commits n)
+  pub found : IsLeast look.found (λ n. option_and_then (λ c. kind_seen (seen n c)) (time_of commits n))
+
+-- the look after a record of this time and kind
+abbrev pub Takes : Look → Look → Commits → ℕ → Kind → Type 0
+Takes old new commits time kind = (seen : ℕ → ℕ → Seen) → IsLook old commits seen → IsLook new commits (λ n c. see_kind n c (seen n c) time kind)

@@ -2,6 +2,7 @@
 #![tactic(auto)]
 
 mod audit;
+mod commits;
 mod look;
 mod run;
 

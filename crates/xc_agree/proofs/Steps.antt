@@ -1,0 +1,7 @@
+-- One step of a loop over a list.
+use Rattle.std.proofs.Common.{◌≡◌, ℕ, ◌+◌, ◌<◌, List, [], ◌∷◌, ◌++◌, length, take, get_or, ap, sym, ◌∙◌, append_assoc}
+use Rattle.std.proofs.lemmas.List.{take_more}
+
+-- the items up to i after xs, with the item at i
+pub add_item : {X : Type 0} (xs ys : List X) (i : ℕ) (y : X) → i < length ys → y ≡ get_or ys i y → (xs ++ take i ys) ++ y ∷ [] ≡ xs ++ take (i + 1) ys
+add_item xs ys i y below is = append_assoc xs (take i ys) (y ∷ []) ∙ ap (λ zs. xs ++ zs) (ap (λ z. take i ys ++ z ∷ []) is ∙ sym (take_more ys i y below))

@@ -2,3 +2,4 @@ pub mod Audit
 pub mod Runs
 pub mod Tally
 pub mod Seen
+pub mod Held

@@ -4,14 +4,18 @@
 --     see n commit s r      the same after the record r, for the transaction n, which commits at `commit`
 --     kind_seen s      the first kind of the cases that stand
 --     IsLeast found kinds      found has the least transaction with a kind, and that kind
-use Rattle.std.specs.Prelude.{◌≡◌, ℕ, ◌+◌, ◌<◌, Bool, true, false, List, [], ◌∷◌, Option, Some, None, ◌&&◌, ◌||◌, ◌==◌, not, nat_le, nat_lt, if◌then◌else◌, MatchOption, option_and_then}
+use Rattle.std.specs.Prelude.{◌≡◌, ℕ, ◌+◌, ◌<◌, Bool, true, false, List, [], ◌∷◌, Option, Some, None, ◌&&◌, ◌||◌, ◌==◌, not, nat_le, nat_lt, if◌then◌else◌, MatchOption, option_and_then, is_some}
+use Rattle.std.specs.List.{list_any}
 use Rattle.std.specs.Option.{option_map_or}
 use Rattle.xc_record.specs.declared.record.AgreeKind.{AgreeKind}
 use Rattle.xc_record.specs.declared.record.AgreeKind.TheVariants.{CommitDiffers, LateIntent, Aborted, Straggler}
 use Rattle.xc_record.specs.declared.record.Kind.{Kind}
 use Rattle.xc_record.specs.declared.record.Kind.TheVariants.{Write, Intent, Apply, Abort, Safe, Split}
 use Rattle.xc_record.specs.declared.record.Record.{Record}
+use Rattle.xc_record.specs.declared.record.Header.{Header}
+use Rattle.xc_record.specs.Hash.{holds}
 use Rattle.xc_record.specs.Agreement.{first_kind}
+use Rattle.xc_agree.specs.declared.held.Held.{Held}
 use Rattle.xc_record.specs.Lists.{or_else}
 use Rattle.std.specs.Ordering.{nat_cmp}
 use Rattle.std.specs.BTreeMap.{get}
@@ -88,7 +92,7 @@ with_kind txn kind kinds n = if n == txn then Some (earlier kind (kinds n)) else
 
 -- found, with this case too where it stands
 abbrev pub IsLeastWith : Option Found → Bool → ℕ → AgreeKind → Option Found → Type 0
-IsLeastWith found stands txn kind more = (kinds : ℕ → Option AgreeKind) → IsLeast found kinds → IsLeast more (if stands then with_kind txn kind kinds else kinds)
+IsLeastWith found stands txn kind more = (kinds : ℕ → Option AgreeKind) → IsLeast found kinds → IsLeast more (λ n. if stands then with_kind txn kind kinds n else kinds n)
 
 -- where the transaction began to wait
 abbrev pub since_in : Look → ℕ → Option ℕ
@@ -102,6 +106,10 @@ pub record KeepsPlace (old new : Look) : Type 0 where
   pub safe : new.safe ≡ old.safe
   pub floor : new.floor ≡ old.floor
 
+-- each waiting transaction is among those that began to
+abbrev pub Began : Look → Type 0
+Began look = (n : ℕ) → is_some (since_in look n) ≡ true → list_any (λ m. m == n) look.began.items ≡ true
+
 -- the look has, of each transaction that commits, what is seen of it
 pub record IsLook (look : Look) (commits : Commits) (seen : ℕ → ℕ → Seen) : Type 0 where
   pub place : (n c : ℕ) → (seen n c).place ≡ look.place
@@ -109,7 +117,23 @@ pub record IsLook (look : Look) (commits : Commits) (seen : ℕ → ℕ → Seen
   pub floor : (n c : ℕ) → (seen n c).floor ≡ look.floor
   pub since : (n : ℕ) → since_in look n ≡ option_and_then (λ c. (seen n c).since) (time_of commits n)
   pub found : IsLeast look.found (λ n. option_and_then (λ c. kind_seen (seen n c)) (time_of commits n))
+  pub began : Began look
 
 -- the look after a record of this time and kind
 abbrev pub Takes : Look → Look → Commits → ℕ → Kind → Type 0
 Takes old new commits time kind = (seen : ℕ → ℕ → Seen) → IsLook old commits seen → IsLook new commits (λ n c. see_kind n c (seen n c) time kind)
+
+-- the transaction waits by what was held, at a hash of the range
+abbrev pub waits_from : Header → List Held → ℕ → Bool
+waits_from header held n = list_any (λ x. x.txn == n && holds header x.hash) held
+
+-- at a tablet's end
+abbrev pub IsEnd : Option Found → Commits → (ℕ → ℕ → Seen) → Type 0
+IsEnd found commits seen = IsLeast found (λ n. option_and_then (λ c. kind_at_end c (seen n c)) (time_of commits n))
+
+-- as at a tablet's end, where the transaction was tried there
+abbrev pub kind_tried : Bool → ℕ → Seen → Option AgreeKind
+kind_tried tried commit s = kind_of s.differs s.late s.aborted (s.straggles || (tried && pends commit s))
+
+abbrev pub is_among : ℕ → List ℕ → Bool
+is_among n ns = list_any (λ m. m == n) ns

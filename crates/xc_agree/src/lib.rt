@@ -3,6 +3,7 @@
 
 mod audit;
 mod commits;
+mod held;
 mod look;
 mod run;
 

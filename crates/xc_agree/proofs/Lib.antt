@@ -2,3 +2,4 @@ pub mod Steps
 pub mod RunLaws
 pub mod TallyLaws
 pub mod LookLaws
+pub mod HeldLaws

@@ -15,15 +15,28 @@ pub struct Held {
     pub hash: u16,
 }
 
+fn keep(held: &mut Vec<Held>, stays: bool, x: Held) -> Result<(), AllocError>
+    ensures { OnOk result ((n h : ℕ) → is_held held.new.items n h ≡ (is_held held.old.items n h || (stays && (x.txn == n && x.hash == h)))) }
+{
+    if stays {
+        held.push(x)?;
+    }
+    Ok(())
+}
+
+fn stays(look: &Look, header: &Header, x: Held) -> bool
+    ensures { result ≡ (holds header.now x.hash && is_start (since_in look.now x.txn)) }
+{
+    header.holds(x.hash) && look.starts(x.txn)
+}
+
 // What was held at a hash of the range and waits still.
 fn hold_still(alloc: Global, look: &Look, header: &Header, held: &[Held]) -> Result<Vec<Held>, AllocError>
     ensures { IfOk result (λ still. (n h : ℕ) → is_held still.items n h ≡ (is_held held.now n h && (holds header.now h && is_start (since_in look.now n)))) }
 {
     let mut still = Vec::new(alloc);
     for x in held {
-        if header.holds(x.hash) && look.since(x.txn) == Some(0) {
-            still.push(*x)?;
-        }
+        keep(&mut still, stays(look, header, *x), *x)?;
     }
     Ok(still)
 }

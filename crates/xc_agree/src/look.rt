@@ -7,6 +7,7 @@ ghost use Rattle.xc_agree.specs.declared.commits.Commits.{Commits};
 ghost use Rattle.xc_record.specs.declared.record.Op.{Op};
 ghost use Rattle.xc_record.specs.Lists.{or_else};
 ghost use Rattle.xc_agree.specs.Tally.{time_of};
+ghost use Rattle.xc_agree.specs.Held.{is_start};
 ghost use Rattle.xc_agree.specs.Seen.{Takes, Began, IsEnd, waits_from, unseen, Seen, rank, earlier, IsLeast, with_kind, see_kind, see, since_in, pends_in, IsLook, IsLeastWith, KeepsPlace};
 
 use crate::commits::Commits;
@@ -102,6 +103,16 @@ impl Look {
             found = self.straggler(commits, found, *txn);
         }
         found
+    }
+
+    /// Whether the transaction waits from before the first record.
+    pub fn starts(&self, txn: u32) -> bool
+        ensures { result ≡ is_start (since_in self.now txn) }
+    {
+        match self.since(txn) {
+            Some(place) => place == 0,
+            None => false,
+        }
     }
 
     // With the transaction where it pends.

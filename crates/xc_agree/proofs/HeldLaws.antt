@@ -39,7 +39,7 @@ drop-more zero (x ∷ rs) r h = refl
 drop-more (suc k) [] r h = absurd (omega arith)
 drop-more (suc k) (x ∷ rs) r h = drop-more k rs r (omega arith)
 
-drop-past : (k : ℕ) (rs : List Record) → length rs ≤ k → drop k rs ≡ []
+pub drop-past : (k : ℕ) (rs : List Record) → length rs ≤ k → drop k rs ≡ []
 drop-past zero [] h = refl
 drop-past zero (x ∷ rs) h = absurd (omega arith)
 drop-past (suc k) [] h = refl

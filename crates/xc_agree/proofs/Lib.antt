@@ -3,3 +3,4 @@ pub mod RunLaws
 pub mod TallyLaws
 pub mod LookLaws
 pub mod HeldLaws
+pub mod WaitLaws

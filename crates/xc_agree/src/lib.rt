@@ -4,6 +4,7 @@
 mod audit;
 mod commits;
 mod held;
+mod judge;
 mod look;
 mod run;
 

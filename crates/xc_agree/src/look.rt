@@ -75,7 +75,8 @@ pub struct Look {
 impl Look {
     /// Before the first record of a tablet, where these operations are held from its parent's records.
     pub fn begin(alloc: Global, header: &Header, held: &[Held]) -> Result<Look, AllocError>
-        ensures { IfOk result (λ look. (commits : Commits) → ((n : ℕ) → time_of commits n ≡ None → waits_from header.now held.now n ≡ false)
+        ensures place { IfOk result (λ look. look.place ≡ 0) }
+        ensures begun { IfOk result (λ look. (commits : Commits) → ((n : ℕ) → time_of commits n ≡ None → waits_from header.now held.now n ≡ false)
             → IsLook look commits (λ n c. unseen (waits_from header.now held.now n))) }
     {
         let mut look = Look {

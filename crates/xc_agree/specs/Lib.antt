@@ -3,3 +3,4 @@ pub mod Runs
 pub mod Tally
 pub mod Seen
 pub mod Held
+pub mod Cases

@@ -2,6 +2,7 @@
 #![tactic(auto)]
 
 mod audit;
+mod cases;
 mod commits;
 mod held;
 mod judge;

@@ -4,3 +4,4 @@ pub mod TallyLaws
 pub mod LookLaws
 pub mod HeldLaws
 pub mod WaitLaws
+pub mod TreeLaws

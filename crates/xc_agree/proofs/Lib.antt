@@ -5,3 +5,4 @@ pub mod LookLaws
 pub mod HeldLaws
 pub mod WaitLaws
 pub mod TreeLaws
+pub mod EndLaws

@@ -60,7 +60,7 @@ step-waits n c h held s done r time (Intent txn ops) e k = go (txn == n) refl s.
     go true f None g = grind (arith, k.waits, k.place, since-snoc n h (Some (s.place + 1)) done r, empty-since n h done)
     go true f (Some place) g = grind (arith, nat_tests, k.waits, k.place, k.below, since-snoc n h (Some place) done r)
 
-abbrev Below : ℕ → Option ℕ → Type 0
+abbrev pub Below : ℕ → Option ℕ → Type 0
 Below k o = option_map_or (λ place. nat_le place k) o true ≡ true
 
 below-later : (k : ℕ) (o : Option ℕ) → Below k o → Below (k + 1) o
@@ -71,7 +71,7 @@ below-or : (k : ℕ) (o : Option ℕ) → Below k o → Below (k + 1) (or_else o
 below-or k None h = grind (arith, nat_tests)
 below-or k (Some x) h = grind (arith, nat_tests)
 
-below-see : (n c : ℕ) (s : Seen) (time : ℕ) (kind : Kind) → Below s.place s.since → Below (see_kind n c s time kind).place (see_kind n c s time kind).since
+pub below-see : (n c : ℕ) (s : Seen) (time : ℕ) (kind : Kind) → Below s.place s.since → Below (see_kind n c s time kind).place (see_kind n c s time kind).since
 below-see n c s time (Write ops) h = below-later s.place s.since h
 below-see n c s time (Safe value) h = below-later s.place s.since h
 below-see n c s time (Split at left right) h = below-later s.place s.since h
@@ -86,7 +86,7 @@ below-see n c s time (Intent txn ops) h =
             (if b then record s { place = s.place + 1; since = or_else s.since (Some (s.place + 1)); late = s.late || nat_le c time } else passes s).since)
         [ true ↦ below-or s.place s.since h | false ↦ below-later s.place s.since h ]
 
-place-see : (n c : ℕ) (s : Seen) (time : ℕ) (kind : Kind) → (see_kind n c s time kind).place ≡ s.place + 1
+pub place-see : (n c : ℕ) (s : Seen) (time : ℕ) (kind : Kind) → (see_kind n c s time kind).place ≡ s.place + 1
 place-see n c s time (Write ops) = refl
 place-see n c s time (Safe value) = refl
 place-see n c s time (Split at left right) = refl

@@ -6,3 +6,4 @@ pub mod HeldLaws
 pub mod WaitLaws
 pub mod TreeLaws
 pub mod EndLaws
+pub mod KeyLaws

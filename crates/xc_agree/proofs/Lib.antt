@@ -7,3 +7,5 @@ pub mod WaitLaws
 pub mod TreeLaws
 pub mod EndLaws
 pub mod KeyLaws
+pub mod OpLaws
+pub mod StragglerLaws

@@ -107,7 +107,7 @@ still-all n c h held s done [] k = rw append-nil k
 still-all n c h held s done (r ∷ rs) k = subst (λ xs. Still n h held (fold (see n c) (see n c s r) rs) xs) (append_assoc done (r ∷ []) rs) (still-all n c h held (see n c s r) (done ++ r ∷ []) rs (still-step n c h held s done r k))
 
 -- what is held waits
-held-waits : (n h : ℕ) (header : Header) (held : List Held) → (is_held held n h && holds header h) ≡ true → waits_from header held n ≡ true
+pub held-waits : (n h : ℕ) (header : Header) (held : List Held) → (is_held held n h && holds header h) ≡ true → waits_from header held n ≡ true
 held-waits n h header [] e = cc
 held-waits n h header (x ∷ held) e = go (held-waits n h header held) (x.txn == n) (x.hash == h) refl e
   where

@@ -9,3 +9,5 @@ pub mod EndLaws
 pub mod KeyLaws
 pub mod OpLaws
 pub mod StragglerLaws
+pub mod SplitLaws
+pub mod TabletLaws

@@ -1,10 +1,10 @@
 -- Laws of stragglers: the keys of a transaction's own operations are enough, and what waits at a tablet's start is what its parent held.
 use Rattle.std.proofs.Common.{◌≡◌, ℕ, zero, suc, ◌+◌, Bool, true, false, ◌||◌, List, [], ◌∷◌, ◌++◌, refl, ap, sym, ◌∙◌, subst, arith, append_assoc}
 use Rattle.std.proofs.lemmas.Bool.Decides.{nat_tests}
-use Rattle.std.proofs.lemmas.Bool.{eqb-true, eq-eqb, and_parts}
+use Rattle.std.proofs.lemmas.Bool.{eqb-true, eq-eqb, and_parts, both_ways}
 use Rattle.std.proofs.lemmas.List.{append-nil}
 use Rattle.std.specs.Prelude.{Option, Some, None, ◌&&◌, ◌==◌, nat_le, if◌then◌else◌, flat_map, filter, bytes_eq, is_some, nat_lt}
-use Rattle.std.specs.List.{list_any}
+use Rattle.std.specs.List.{list_any, list_all}
 use Rattle.std.specs.Option.{option_map_or}
 use Rattle.xc_record.specs.declared.record.Kind.{Kind}
 use Rattle.xc_record.specs.declared.record.Kind.TheVariants.{Write, Intent, Apply, Abort, Safe, Split}
@@ -243,9 +243,10 @@ straggles-somewhere logs n c p test line before (r ∷ rs) w k h e =
 
 -- ---- at a tablet
 
--- the operations of an intent are of the range, and there is one
+-- all operations of an intent are of the range, and there is one
 pub record OwnIn (header : Header) (r : Record) : Type 0 where
   pub holds_one : (n : ℕ) (ops : List Op) → r.kind ≡ Intent n ops → list_any (λ op. holds header (hash_of op.key)) ops ≡ true
+  pub holds_all : (n : ℕ) (ops : List Op) → r.kind ≡ Intent n ops → list_all (λ op. holds header (hash_of op.key)) ops ≡ true
 
 key-passes : (k : List ℕ) (q : List ℕ → Bool) (ops : List Op) → at_key k ops ≡ true → q k ≡ true → list_any (λ op. q op.key) ops ≡ true
 key-passes k q [] e f = cc
@@ -372,3 +373,25 @@ straggler-held logs before b rest all tree n c held start own = both _ _ forth b
             straggles-somewhere logs n c any_op (λ k. holds b.header (hash_of k)) (λ k. line_above before (hash_of k)) [] b.records (waits_from b.header held n) begins
                 (intends-range logs n b.header b.records (each-here logs n before b rest ops) own) e in
         x.own (λ k. holds b.header (hash_of k) && straggles_at n c k (path_above (accepted_tablets logs) b k) b.records) (rw (x.passes, key x.key, x.straggles) refl)
+
+-- nothing waits at a hash outside the range
+nothing-at : (header : Header) (h : ℕ) (ops : List Op) → holds header h ≡ false → list_all (λ op. holds header (hash_of op.key)) ops ≡ true → writes_at h ops ≡ false
+nothing-at header h [] e f = refl
+nothing-at header h (op ∷ ops) e f = go (hash_of op.key == h) refl (nothing-at header h ops e) (and_parts (holds header (hash_of op.key)) (list_all (λ op. holds header (hash_of op.key)) ops) f)
+  where
+    go : (b : Bool) → hash_of op.key == h ≡ b → (list_all (λ op. holds header (hash_of op.key)) ops ≡ true → writes_at h ops ≡ false)
+        → (holds header (hash_of op.key) ≡ true) × (list_all (λ op. holds header (hash_of op.key)) ops ≡ true) → (b || writes_at h ops) ≡ false
+    go true same ih f = absurd (both_ways _ e (ap (holds header) (sym (eqb-true (hash_of op.key) h same)) ∙ f.0))
+    go false same ih f = ih f.1
+
+nothing-kind : (n h : ℕ) (header : Header) (r : Record) (kind : Kind) → r.kind ≡ kind → holds header h ≡ false → OwnIn header r → wait_kind n (writes_at h) false kind ≡ false
+nothing-kind n h header r (Write ops) is e o = refl
+nothing-kind n h header r (Safe value) is e o = refl
+nothing-kind n h header r (Split at left right) is e o = refl
+nothing-kind n h header r (Apply txn commit) is e o = elim (txn == n) as (λ b. (if b then false else false) ≡ false) [ true ↦ refl | false ↦ refl ]
+nothing-kind n h header r (Abort txn) is e o = elim (txn == n) as (λ b. (if b then false else false) ≡ false) [ true ↦ refl | false ↦ refl ]
+nothing-kind n h header r (Intent txn ops) is e o = rw (nothing-at header h ops e (o.holds_all txn ops is)) (elim (txn == n) as (λ b. (if b && false then true else false) ≡ false) [ true ↦ refl | false ↦ refl ])
+
+pub nothing-waits : (n h : ℕ) (header : Header) (rs : List Record) → holds header h ≡ false → Each (OwnIn header) rs → waits_by n (writes_at h) false rs ≡ false
+nothing-waits n h header [] e o = refl
+nothing-waits n h header (r ∷ rs) e o = ap (λ w. waits_by n (writes_at h) w rs) (nothing-kind n h header r r.kind refl e o.0) ∙ nothing-waits n h header rs e o.1

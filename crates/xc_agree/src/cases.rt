@@ -24,7 +24,7 @@ pub struct Case {
 
 // The lesser of the first case so far and what was found at the next tablet: where both are of one transaction, the
 // tablet before has it.
-fn first_of(first: Option<Case>, found: Option<Found>, tablet: u32) -> Option<Case>
+pub fn first_of(first: Option<Case>, found: Option<Found>, tablet: u32) -> Option<Case>
     ensures { (cases : ℕ → Option Disagreement) (kinds : ℕ → Option AgreeKind) → IsFirst first cases → IsLeast found kinds → IsFirst result (with_cases tablet kinds cases) }
 {
     let Some(f) = found else { return first };
@@ -58,7 +58,16 @@ fn held_of(lefts: &[Vec<Held>], parent: Option<u32>) -> &[Held]
     }
 }
 
-fn judge_tablet(
+/// The accepted records of the tablet.
+pub fn accepted_part<'a>(t: &'a Tablet, run: &Run) -> &'a [Record]
+    requires { run.now.walk.accepted ≤ length t.now.records }
+    ensures { result.now ≡ take run.now.walk.accepted t.now.records }
+{
+    &t.records.as_slice()[..run.walk.accepted]
+}
+
+/// Judges the tablet after those before it, which left this waiting.
+pub fn judge_tablet(
     alloc: Global,
     commits: &Commits,
     t: &Tablet,
@@ -72,6 +81,6 @@ fn judge_tablet(
     ensures left { IfOk result (λ j. HoldsCommits (held_from lefts.now t.now.header.parent) commits.now
         → IsLeft j.left.items commits.now t.now.header (held_from lefts.now t.now.header.parent) (take run.now.walk.accepted t.now.records)) }
 {
-    let records: &[Record] = &t.records.as_slice()[..run.walk.accepted];
-    judge(alloc, commits, &t.header, held_of(lefts, t.header.parent), records)
+    let held = held_of(lefts, t.header.parent);
+    judge(alloc, commits, &t.header, held, accepted_part(t, run))
 }

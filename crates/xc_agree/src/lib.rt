@@ -8,5 +8,6 @@ mod held;
 mod judge;
 mod look;
 mod run;
+mod tablets;
 
 pub use audit::{AgreeFail, Audit, End, EndState, Ends};

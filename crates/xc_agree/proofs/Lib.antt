@@ -11,3 +11,4 @@ pub mod OpLaws
 pub mod StragglerLaws
 pub mod SplitLaws
 pub mod TabletLaws
+pub mod AuditLaws

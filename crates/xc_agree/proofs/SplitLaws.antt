@@ -3,6 +3,7 @@ use Rattle.std.proofs.Common.{◌≡◌, ℕ, zero, suc, ◌+◌, ◌<◌, ◌�
 use Rattle.std.proofs.lemmas.Bool.Decides.{nat_tests}
 use Rattle.std.proofs.lemmas.Bool.{and_parts, leb-true, eq-eqb}
 use Rattle.std.proofs.lemmas.List.{append-nil, take_more}
+use Rattle.std.proofs.lemmas.List.Sums.{sum_by-cons}
 use Rattle.std.specs.Prelude.{Option, Some, None, ◌&&◌, slice_get, flat_map, nat_le, if◌then◌else◌, map, is_some}
 use Rattle.std.specs.List.{list_all, list_any}
 use Rattle.std.specs.Option.{option_map_or}
@@ -111,7 +112,7 @@ run-within run b t h = take-within run.walk.accepted t.records (sym (ap length h
 -- ---- the limits and the rules on records
 
 pub sum-cons : (u : Tablet) (ts : List Tablet) → sum_by (λ t. length t.records) (u ∷ ts) ≡ length u.records + sum_by (λ t. length t.records) ts
-sum-cons u ts = refl
+sum-cons u ts = sum_by-cons (λ t. length t.records) u ts
 
 pub sum-at : (ts : List Tablet) (i : ℕ) (t : Tablet) → i < length ts → t ≡ get_or ts i t → sum_by (λ t. length t.records) (take i ts) + length t.records ≤ sum_by (λ t. length t.records) ts
 sum-at [] i t h e = absurd (omega arith)

@@ -281,3 +281,17 @@ tablet-more ts i t run commits lefts after left found first next s below is r a 
         first-same next _ (cases_of (of_tablets ts) commits (bs ++ b ∷ [])) (cases-next ts commits bs b rest lefts all tree a own order)
             (step (cases_of (of_tablets ts) commits bs) (λ n. option_and_then (λ c. kind_at_end c (seen_at_end b.header (held_from lefts b.header.parent) b.records n c)) (time_of commits n)) f ends) in
     (subst (λ xs. AreLeft after commits xs) (sym one) (subst (λ xs. AreLeft xs commits (bs ++ b ∷ [])) (sym more_left) lefts_now), subst (λ xs. IsFirst next (cases_of (of_tablets ts) commits xs)) (sym one) first_now)
+
+-- the same, where what the tablets before left is seen as a slice
+pub tablet-next : (ts : List Tablet) (i : ℕ) (t : Tablet) (run : Run) (commits : Commits) (lefts now after : List (Vec Held Global)) (left : Vec Held Global) (found : Option Found) (first next : Option Case)
+    → now ≡ lefts → IsSound ts → i < length ts → t ≡ get_or ts i t → IsRun run (accepted_tablet_after (accepted_tablets_after [] (take i ts)) t) t → AreLeft lefts commits (accepted_tablets_after [] (take i ts))
+    → IsFirst first (cases_of (of_tablets ts) commits (accepted_tablets_after [] (take i ts)))
+    → (HoldsCommits (held_from now t.header.parent) commits → IsEnd found commits (seen_at_end t.header (held_from now t.header.parent) (take run.walk.accepted t.records)))
+    → (HoldsCommits (held_from now t.header.parent) commits → IsLeft left.items commits t.header (held_from now t.header.parent) (take run.walk.accepted t.records))
+    → ((cases : ℕ → Option Disagreement) (kinds : ℕ → Option AgreeKind) → IsFirst first cases → IsLeast found kinds → IsFirst next (with_cases t.header.id kinds cases)) → after ≡ lefts ++ left ∷ []
+    → AreLeft after commits (accepted_tablets_after [] (take (i + 1) ts)) × IsFirst next (cases_of (of_tablets ts) commits (accepted_tablets_after [] (take (i + 1) ts)))
+tablet-next ts i t run commits lefts now after left found first next same s below is r a f is_end is_left step more_left =
+    tablet-more ts i t run commits lefts after left found first next s below is r a f
+        (subst (λ xs. HoldsCommits (held_from xs t.header.parent) commits → IsEnd found commits (seen_at_end t.header (held_from xs t.header.parent) (take run.walk.accepted t.records))) same is_end)
+        (subst (λ xs. HoldsCommits (held_from xs t.header.parent) commits → IsLeft left.items commits t.header (held_from xs t.header.parent) (take run.walk.accepted t.records)) same is_left)
+        step more_left

@@ -63,7 +63,7 @@ pub first-append : {X Y : Type 0} (f : X → Option Y) (xs ys : List X) → firs
 first-append f [] ys = refl
 first-append f (x ∷ xs) ys = grind (arith, first-append f xs ys)
 
-filter_map-append : {X Y : Type 0} (f : X → Option Y) (xs ys : List X) → filter_map f (xs ++ ys) ≡ filter_map f xs ++ filter_map f ys
+pub filter_map-append : {X Y : Type 0} (f : X → Option Y) (xs ys : List X) → filter_map f (xs ++ ys) ≡ filter_map f xs ++ filter_map f ys
 filter_map-append f [] ys = refl
 filter_map-append f (x ∷ xs) ys = grind (arith, filter_map-append f xs ys)
 

@@ -3,12 +3,16 @@
 --     start_from runs parent      where a tablet of this parent begins, after the runs of the tablets before it
 --     IsRun run b t      the run says what the accepted tablet b of the tablet t says
 --     IsRuns runs bs ts      the same, one for each tablet
+--     end_from run      the end that the run says
 use Rattle.std.specs.Prelude.{◌≡◌, ℕ, ◌+◌, Bool, true, false, List, [], ◌∷◌, Option, Some, None, ◌&&◌, if◌then◌else◌, slice_get, length, take, option_map}
 use Rattle.std.specs.Option.{option_map_or}
 use Rattle.xc_record.specs.declared.record.Break.{Break}
 use Rattle.xc_record.specs.declared.record.Tablet.{Tablet}
 use Rattle.xc_record.specs.Order.{Progress}
 use Rattle.xc_record.specs.Accepted.{AcceptedTablet, root_start, halt_from}
+use Rattle.xc_agree.specs.declared.audit.End.{End}
+use Rattle.xc_agree.specs.declared.audit.EndState.{EndState}
+use Rattle.xc_agree.specs.declared.audit.EndState.TheVariants.{Open, Split, Halt as Halted, Unreached}
 use Rattle.xc_agree.specs.declared.run.Halt.{Halt}
 use Rattle.xc_agree.specs.declared.run.Start.{Start}
 use Rattle.xc_agree.specs.declared.run.Run.{Run}
@@ -38,3 +42,14 @@ abbrev pub IsRuns : List Run → List AcceptedTablet → List Tablet → Type 0
 IsRuns [] [] [] = Unit {0}
 IsRuns (run ∷ runs) (b ∷ bs) (t ∷ ts) = IsRun run b t × IsRuns runs bs ts
 IsRuns _ _ _ = ⊥
+
+abbrev pub halt_state : Progress → Option Halt → EndState
+halt_state end (Some h) = Halted h.number h.kind
+halt_state end None = if end.split then Split else Open
+
+abbrev pub end_from : Run → End
+end_from run = record {
+  accepted = run.walk.accepted;
+  floor = run.walk.order.floor;
+  state = if run.reached then halt_state run.walk.order run.walk.halt else Unreached;
+}

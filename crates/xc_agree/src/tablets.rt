@@ -44,9 +44,10 @@ pub fn first_case(
     let mut lefts = Vec::with_capacity(alloc, tablets.len())?;
     let mut first = None;
     for i in 0..tablets.len() {
-        let judged = judge_tablet(alloc, commits, &tablets[i], &runs[i], lefts.as_slice())?;
+        let t = &tablets[i];
+        let judged = judge_tablet(alloc, commits, t, &runs[i], lefts.as_slice())?;
         let Judged { found, left } = judged;
-        first = first_of(first, found, tablets[i].header.id);
+        first = first_of(first, found, t.header.id);
         lefts.push(left)?;
     }
     Ok(first)

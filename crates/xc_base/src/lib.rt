@@ -2,6 +2,7 @@
 #![tactic(auto)]
 
 mod bytes;
+mod calls;
 mod memory;
 mod name;
 mod number;

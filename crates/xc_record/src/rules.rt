@@ -11,12 +11,14 @@ use crate::key_hash::hash;
 use crate::record::{Header, Kind, Logs, Op, Record, Tablet};
 use xc_base::{Key, Value};
 
-/// What header may stand next.
+/// What header may stand next after those before.
 #[derive(Clone, Copy, PartialEq, Eq, Debug)]
 pub enum Next {
     /// A root that begins at this hash, or at 65536 a left child.
     RootAt(u32),
+    /// The left child of a tablet that has none.
     LeftChild,
+    /// The right child of this tablet, with this range.
     RightChild { parent: u32, lo: u32, hi: u32 },
 }
 
@@ -300,9 +302,10 @@ pub fn valid(logs: &Logs) -> bool
     ensures { result ≡ is_valid logs.now }
 {
     let tablets = logs.tablets.as_slice();
-    headers_fit(tablets)
+    // The rules on headers look at each pair of tablets, so their number is looked at first.
+    tablets.len() <= 64
+        && headers_fit(tablets)
         && all_tablets_fit(tablets)
-        && tablets.len() <= 64
         && records_fit(tablets)
         && operations_fit(tablets)
 }

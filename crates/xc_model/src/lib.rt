@@ -1,0 +1,2 @@
+//! The theorem that replication rests on, over the definitions alone: each function's contract is one law.
+#![tactic(auto)]

@@ -19,3 +19,5 @@ pub mod SafeTime
 pub mod KeptSafe
 pub mod DeliverRecord
 pub mod KeepStanding
+pub mod FromRules
+pub mod FromValid

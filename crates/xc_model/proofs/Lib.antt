@@ -21,3 +21,4 @@ pub mod DeliverRecord
 pub mod KeepStanding
 pub mod FromRules
 pub mod FromValid
+pub mod Sorted

@@ -22,3 +22,4 @@ pub mod KeepStanding
 pub mod FromRules
 pub mod FromValid
 pub mod Sorted
+pub mod RealRows

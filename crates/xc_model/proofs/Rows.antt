@@ -5,7 +5,7 @@ use Rattle.xc_record.specs.declared.record.Kind.TheVariants as log
 use Rattle.xc_record.specs.declared.record.Op.{Op}
 use Rattle.xc_record.specs.declared.record.Record.{Record}
 use Rattle.xc_record.specs.Accepted.{AcceptedTablet}
-use Rattle.xc_record.specs.Commits.{Commit}
+use Rattle.xc_record.specs.Commits.{distinct}
 use Rattle.xc_record.specs.Path.{Written, puts}
 use Rattle.xc_model.specs.Kept.{last_of}
 use Rattle.xc_model.proofs.StableSort.{stable_sort}
@@ -54,10 +54,6 @@ first_commit n (a ∷ rest) = cond (a.txn == n) (Some a.commit) (first_commit n 
 -- commit(n): of the first accepted apply on the least tablet that has one
 abbrev pub commit_of : List AcceptedTablet → ℕ → Option ℕ
 commit_of es n = first_commit n (over_records record_apply es)
-
-abbrev pub distinct : List ℕ → List ℕ
-distinct [] = []
-distinct (n ∷ ns) = n ∷ filter (λ m. cond (n == m) false true) (distinct ns)
 
 -- each number with an accepted apply, once
 abbrev pub numbers : List AcceptedTablet → List ℕ

@@ -1,6 +1,9 @@
 -- The row at a key is the newest committed operation of its path.
 use Rattle.std.proofs.Common.{◌≡◌, ◌≢◌, ◌==◌, ℕ, ◌<◌, Bool, true, false, cond, List, [], ◌∷◌, ◌++◌, map, Option, Some, None, refl, ap, sym, ◌∙◌, arith, append_assoc, append-nil, inl, inr, ⊎_elim}
-use Rattle.std.specs.Prelude.{nat_le, bytes_eq}
+use Rattle.std.specs.Prelude.{nat_le, nat_lt, bytes_eq}
+use Rattle.std.proofs.Common.{subst}
+use Rattle.std.proofs.lemmas.Bool.{cases_Bool}
+use Rattle.xc_record.specs.Commits.{distinct, insert_number}
 use Rattle.std.proofs.lemmas.List.{map-append}
 use Rattle.std.specs.List.{filter, flat_map}
 use Rattle.std.proofs.lemmas.Bool.Decides.{nat_tests}
@@ -18,7 +21,7 @@ use Rattle.xc_record.specs.declared.record.Record.{Record}
 use Rattle.xc_record.specs.Accepted.{AcceptedTablet}
 use Rattle.xc_model.proofs.Placed.{floor_by, owns}
 use Rattle.xc_record.specs.Hash.{hash_of}
-use Rattle.xc_model.proofs.Rows.{Entry, over_records, kind_write, record_write, Applied, kind_apply, record_apply, first_commit, commit_of, distinct, numbers, Part, kind_part, record_part, txn_ops, entry_by, txn_entry, by_pair, commits, entry_upto, row_at, path_of}
+use Rattle.xc_model.proofs.Rows.{Entry, over_records, kind_write, record_write, Applied, kind_apply, record_apply, first_commit, commit_of, numbers, Part, kind_part, record_part, txn_ops, entry_by, txn_entry, by_pair, commits, entry_upto, row_at, path_of}
 use Rattle.xc_model.proofs.ValidLogs.{KindAway, KindNumbered}
 use Rattle.xc_model.proofs.Sorts.{each-append, each-weaker, each-filter, sort-in_order}
 use Rattle.xc_model.proofs.Groups.{flat-sort, sort-grouped, Distinct, IsIn}
@@ -225,7 +228,7 @@ puts-append : (k : List ℕ) (xs ys : List Op) → puts k (xs ++ ys) ≡ puts k 
 puts-append k [] ys = refl
 puts-append k (x ∷ xs) ys = elim (bytes_eq k x.key) as (λ b. cond b (x.value ∷ puts k (xs ++ ys)) (puts k (xs ++ ys)) ≡ cond b (x.value ∷ puts k xs) (puts k xs) ++ puts k ys) [ true ↦ ap (λ w. x.value ∷ w) (puts-append k xs ys) | false ↦ puts-append k xs ys ]
 
-puts-flat : {A : Type 0} (k : List ℕ) (f : A → List Op) (xs : List A) → puts k (flat_map f xs) ≡ flat_map (λ x. puts k (f x)) xs
+pub puts-flat : {A : Type 0} (k : List ℕ) (f : A → List Op) (xs : List A) → puts k (flat_map f xs) ≡ flat_map (λ x. puts k (f x)) xs
 puts-flat k f [] = refl
 puts-flat k f (x ∷ xs) = puts-append k (f x) (flat_map f xs) ∙ ap (λ w. puts k (f x) ++ w) (puts-flat k f xs)
 
@@ -261,41 +264,68 @@ txn-lefts es k n s =
     ∙ flat-same (λ r. map (λ (y : Timed). y.value) (g r)) (λ r. kind_lefts k n r.kind) (λ r. Unit {0}) (λ r _. timed-lefts k r.time (kind_lefts k n r.kind)) p (each-true p)
 
 -- numbers with an apply, once each
-is-in-filter : (m n : ℕ) (ns : List ℕ) → n ≢ m → IsIn m ns → IsIn m (filter (λ x. cond (n == x) false true) ns)
-is-in-filter m n [] h i = i
-is-in-filter m n (x ∷ xs) h i =
-    let at : (b : Bool) → (n == x) ≡ b → IsIn m (cond (cond b false true) (x ∷ filter (λ x. cond (n == x) false true) xs) (filter (λ x. cond (n == x) false true) xs)) =
-    λ b. elim b as (λ b. (n == x) ≡ b → IsIn m (cond (cond b false true) (x ∷ filter (λ x. cond (n == x) false true) xs) (filter (λ x. cond (n == x) false true) xs))) [
-      | true ↦ λ e. ⊎_elim (λ q. absurd (h (eqb-true n x e ∙ q))) (λ r. is-in-filter m n xs h r) i
-      | false ↦ λ e. ⊎_elim (λ q. inl q) (λ r. inr (is-in-filter m n xs h r)) i
+is-in-here : (n : ℕ) (ns : List ℕ) → IsIn n (insert_number n ns)
+is-in-here n [] = inl refl
+is-in-here n (m ∷ ms) =
+    ⊎_elim (λ t. subst (λ b. IsIn n (cond b (n ∷ m ∷ ms) (cond (n == m) (m ∷ ms) (m ∷ insert_number n ms)))) (sym t) (inl refl))
+    (λ f. subst (λ b. IsIn n (cond b (n ∷ m ∷ ms) (cond (n == m) (m ∷ ms) (m ∷ insert_number n ms)))) (sym f)
+    (⊎_elim (λ e. subst (λ b. IsIn n (cond b (m ∷ ms) (m ∷ insert_number n ms))) (sym (eq-eqb n m e)) (inl (sym e)))
+    (λ d. subst (λ b. IsIn n (cond b (m ∷ ms) (m ∷ insert_number n ms))) (sym (ne_eqb n m d)) (inr (is-in-here n ms))) (cases_eq n m)))
+    (cases_Bool (nat_lt n m))
+
+is-in-more : (m n : ℕ) (ns : List ℕ) → IsIn m ns → IsIn m (insert_number n ns)
+is-in-more m n [] i = absurd i
+is-in-more m n (x ∷ xs) i =
+    let deep : IsIn m (x ∷ insert_number n xs) = ⊎_elim (λ a. inl a) (λ r. inr (is-in-more m n xs r)) i in
+    elim (nat_lt n x) as (λ b. IsIn m (cond b (n ∷ x ∷ xs) (cond (n == x) (x ∷ xs) (x ∷ insert_number n xs)))) [
+      | true ↦ inr i
+      | false ↦ elim (n == x) as (λ b. IsIn m (cond b (x ∷ xs) (x ∷ insert_number n xs))) [ true ↦ i | false ↦ deep ]
     ]
-    in at (n == x) refl
 
 pub is-in-distinct : (m : ℕ) (ns : List ℕ) → IsIn m ns → IsIn m (distinct ns)
 is-in-distinct m [] i = i
-is-in-distinct m (n ∷ ns) i = ⊎_elim (λ e. inl e) (λ d. inr (is-in-filter m n (distinct ns) d (⊎_elim (λ e. absurd (d e)) (λ r. is-in-distinct m ns r) i))) (cases_eq n m)
+is-in-distinct m (n ∷ ns) i = ⊎_elim (λ e. subst (λ w. IsIn w (insert_number n (distinct ns))) e (is-in-here n (distinct ns))) (λ r. is-in-more m n (distinct ns) (is-in-distinct m ns r)) i
+
+each-insert : (P : ℕ → Type 0) (n : ℕ) (ns : List ℕ) → P n → Each P ns → Each P (insert_number n ns)
+each-insert P n [] p h = (p, tt)
+each-insert P n (m ∷ ms) p h =
+    elim (nat_lt n m) as (λ b. Each P (cond b (n ∷ m ∷ ms) (cond (n == m) (m ∷ ms) (m ∷ insert_number n ms)))) [
+      | true ↦ (p, h)
+      | false ↦ elim (n == m) as (λ b. Each P (cond b (m ∷ ms) (m ∷ insert_number n ms))) [ true ↦ h | false ↦ (h.0, each-insert P n ms p h.1) ]
+    ]
 
 each-distinct : (P : ℕ → Type 0) (ns : List ℕ) → Each P ns → Each P (distinct ns)
 each-distinct P [] h = tt
-each-distinct P (n ∷ ns) h = (h.0, each-filter P (λ x. cond (n == x) false true) (distinct ns) (each-distinct P ns h.1))
+each-distinct P (n ∷ ns) h = each-insert P n (distinct ns) h.0 (each-distinct P ns h.1)
 
-filter-others : (n : ℕ) (ns : List ℕ) → Each (λ m. m ≢ n) (filter (λ x. cond (n == x) false true) ns)
-filter-others n [] = tt
-filter-others n (x ∷ xs) =
-    let at : (b : Bool) → (n == x) ≡ b → Each (λ m. m ≢ n) (cond (cond b false true) (x ∷ filter (λ x. cond (n == x) false true) xs) (filter (λ x. cond (n == x) false true) xs)) =
-    λ b. elim b as (λ b. (n == x) ≡ b → Each (λ m. m ≢ n) (cond (cond b false true) (x ∷ filter (λ x. cond (n == x) false true) xs) (filter (λ x. cond (n == x) false true) xs))) [
-      | true ↦ λ e. filter-others n xs
-      | false ↦ λ e. ((λ q. grind (arith, nat_tests)), filter-others n xs)
+-- each number is below the later ones
+abbrev Rising : List ℕ → Type 0
+Rising [] = Unit {0}
+Rising (n ∷ ns) = Each (λ m. n < m) ns × Rising ns
+
+insert-rising : (n : ℕ) (ns : List ℕ) → Rising ns → Rising (insert_number n ns)
+insert-rising n [] r = (tt, tt)
+insert-rising n (m ∷ ms) r =
+    let go : (b c : Bool) → nat_lt n m ≡ b → (n == m) ≡ c → Rising (cond b (n ∷ m ∷ ms) (cond c (m ∷ ms) (m ∷ insert_number n ms))) =
+    λ b. elim b as (λ b. (c : Bool) → nat_lt n m ≡ b → (n == m) ≡ c → Rising (cond b (n ∷ m ∷ ms) (cond c (m ∷ ms) (m ∷ insert_number n ms)))) [
+      | true ↦ λ c e f. let less : n < m = grind (arith, nat_tests) in ((less, each-weaker (λ k. m < k) (λ k. n < k) (λ k q. omega arith) ms r.0), r)
+      | false ↦ λ c. elim c as (λ c. nat_lt n m ≡ false → (n == m) ≡ c → Rising (cond c (m ∷ ms) (m ∷ insert_number n ms))) [
+        | true ↦ λ e f. r
+        | false ↦ λ e f. let more : m < n = grind (arith, nat_tests) in (each-insert (λ k. m < k) n ms more r.0, insert-rising n ms r.1)
+      ]
     ]
-    in at (n == x) refl
+    in go (nat_lt n m) (n == m) refl refl
 
-distinct-filter : (p : ℕ → Bool) (ns : List ℕ) → Distinct ns → Distinct (filter p ns)
-distinct-filter p [] d = tt
-distinct-filter p (n ∷ ns) d = elim (p n) as (λ b. Distinct (cond b (n ∷ filter p ns) (filter p ns))) [ true ↦ (each-filter (λ m. m ≢ n) p ns d.0, distinct-filter p ns d.1) | false ↦ distinct-filter p ns d.1 ]
+distinct-rising : (ns : List ℕ) → Rising (distinct ns)
+distinct-rising [] = tt
+distinct-rising (n ∷ ns) = insert-rising n (distinct ns) (distinct-rising ns)
+
+rising-distinct : (ns : List ℕ) → Rising ns → Distinct ns
+rising-distinct [] r = tt
+rising-distinct (n ∷ ns) r = (each-weaker (λ m. n < m) (λ m. m ≢ n) (λ m k q. let z : ⊥ = omega arith in z) ns r.0, rising-distinct ns r.1)
 
 pub distinct-distinct : (ns : List ℕ) → Distinct (distinct ns)
-distinct-distinct [] = tt
-distinct-distinct (n ∷ ns) = (filter-others n (distinct ns), distinct-filter (λ x. cond (n == x) false true) (distinct ns) (distinct-distinct ns))
+distinct-distinct ns = rising-distinct (distinct ns) (distinct-rising ns)
 
 abbrev pub Known : List Applied → ℕ → Type 0
 Known applies n = (0 < n) × ((c : ℕ) × (first_commit n applies ≡ Some c))

@@ -162,7 +162,7 @@ rules-suffice logs v =
     record {
       grows = grows;
       covers = λ k2. record {
-        root = exists-heads (RootOf (hash_of k2)) (ends ts) (subst (Exists (RootOf (hash_of k2))) (sym same) (roots-cover (hash_of k2) [] (RootAt 0) hs (hash-below k2) (λ z. absurd (omega arith)) fit));
+        root = exists-heads (RootOf (hash_of k2)) (ends ts) (subst (Exists (RootOf (hash_of k2))) (sym same) (roots-cover (hash_of k2) [] (RootAt 0) hs (hash-below k2) (λ (z : hash_of k2 < 0). absurd (omega arith)) fit));
         child = each-weaker (FromTablet ts) (λ e. e.end.split ≡ true → owns (hash_of k2) e.header ≡ true → Exists (λ d. (d.header.parent ≡ Some e.header.id) × (owns (hash_of k2) d.header ≡ true)) (ends ts))
             (λ e f s o.
             let found = kids-of ts (hash_of k2) e fit m k f s (ap (owns (hash_of k2)) (sym (head-of ts e f)) ∙ o) in

@@ -23,3 +23,4 @@ pub mod FromRules
 pub mod FromValid
 pub mod Sorted
 pub mod RealRows
+pub mod FromCases

@@ -34,7 +34,7 @@ all-each : {A : Type 0} (p : A → Bool) (xs : List A) → list_all p xs ≡ tru
 all-each p [] e = tt
 all-each p (x ∷ xs) e = ((and_parts _ _ e).0, all-each p xs (and_parts _ _ e).1)
 
-same-key : (k q : List ℕ) → bytes_eq k q ≡ true → k ≡ q
+pub same-key : (k q : List ℕ) → bytes_eq k q ≡ true → k ≡ q
 same-key k q e = (bytes_eq-Decides k q).0 e
 
 op-held : (t : Header) (op : Op) → op_fits t op ≡ true → holds t (hash_of op.key) ≡ true

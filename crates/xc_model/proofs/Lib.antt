@@ -24,3 +24,4 @@ pub mod FromValid
 pub mod Sorted
 pub mod RealRows
 pub mod FromCases
+pub mod NoDisagreement

@@ -25,3 +25,5 @@ pub mod Sorted
 pub mod RealRows
 pub mod FromCases
 pub mod NoDisagreement
+pub mod Bridge
+pub mod ReadLaw

@@ -27,3 +27,5 @@ pub mod FromCases
 pub mod NoDisagreement
 pub mod Bridge
 pub mod ReadLaw
+pub mod KeepLaws
+pub mod FloorLaw

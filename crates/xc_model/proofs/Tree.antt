@@ -232,7 +232,7 @@ empty-split o [] h = refl
 empty-split o (r ∷ rs) h = absurd (omega arith)
 
 -- what isn't closed has children at 0, and these aren't closed
-empty-open : (x : Placed) (o : Progress) (t : Tablet) → x.tablet ≡ end_under o t → x.place ≡ 0 → is_closed x ≡ false
+pub empty-open : (x : Placed) (o : Progress) (t : Tablet) → x.tablet ≡ end_under o t → x.place ≡ 0 → is_closed x ≡ false
 empty-open x o t is z =
     let a = accepted_under o t.records in
     let acc : x.tablet.records ≡ a = ap (λ (w : AcceptedTablet). w.records) is in

@@ -2,10 +2,13 @@
 --     TargetTablet      what a tablet of the target keeps of all source tablets, for the keys of its range
 --     kept_at x k      what it keeps at the key k
 --     StandsFor logs u x      x keeps exactly what the logs give up to its places, with no history before the cutoff u
+--     new_tablet lo hi headers      a tablet that took nothing in yet
+--     least_kept x      the least of the last safe values that x keeps for open tablets
+--     KeepsFrom w x y      y is x without the history before w
 --     covers logs x      up to this time x can be read: the safe time at its places
 --     RestoredTo logs u t y x      x is y restored to t, where y stood for the logs with cutoff u
 --     TakesIn s r x y      y is x after one more record r of the source tablet s
-use Rattle.std.specs.Prelude.{◌≡◌, ℕ, ◌+◌, ◌≤◌, Bool, true, false, List, [], ◌∷◌, Option, Some, None, filter, map, nat_le, ◌&&◌, slice_index, slice_get, slice_set, if◌then◌else◌, bytes_eq}
+use Rattle.std.specs.Prelude.{◌≡◌, ℕ, ◌+◌, ◌≤◌, Bool, true, false, List, [], ◌∷◌, Option, Some, None, filter, map, nat_le, ◌&&◌, length, replicate, not, slice_index, slice_index_or, slice_get, slice_set, if◌then◌else◌, bytes_eq}
 use Rattle.std.specs.List.{AllByRecursion}
 use Rattle.std.specs.Option.{option_map_or}
 use Rattle.xc_record.specs.declared.record.Header.{Header}
@@ -18,6 +21,7 @@ use Rattle.xc_record.specs.Accepted.{AcceptedTablet, accepted_tablets}
 use Rattle.xc_record.specs.Path.{Written, Version, Waiting, path_to, events, record_events, versions, waiting}
 use Rattle.xc_record.specs.SafeTime.{safe_time, last_safe_in, is_closed_in, is_closed, IsPlaces}
 use Rattle.xc_record.specs.Valid.{is_valid, headers_of}
+use Rattle.xc_record.specs.Lists.{least}
 use Rattle.xc_model.specs.Kept.{Kept, steps, kept_from}
 
 -- ---- a target tablet
@@ -79,20 +83,53 @@ is_started logs places (Some parent) = is_closed logs places parent
 
 -- what x keeps of the source tablet b
 pub record KeepsTablet (logs : Logs) (x : TargetTablet) (b : AcceptedTablet) : Type 0 where
-  pub closed : slice_get x.closed b.header.id ≡ Some (is_closed_in x.places b)
-  pub safe : is_started logs x.places b.header.parent ≡ true → slice_get x.safe b.header.id ≡ Some (last_safe_in x.places b)
+  pub closed : slice_index_or x.closed b.header.id false ≡ is_closed_in x.places b
+  pub safe : is_started logs x.places b.header.parent ≡ true → slice_index x.safe b.header.id ≡ last_safe_in x.places b
 
 pub record StandsFor (logs : Logs) (u : ℕ) (x : TargetTablet) : Type 0 where
   pub valid : is_valid logs ≡ true
   pub headers : x.headers ≡ headers_of logs.tablets
   pub places : IsPlaces logs x.places
   pub covered : u ≤ safe_time logs x.places
+  pub counts : (length x.closed ≡ length x.headers) × (length x.safe ≡ length x.headers)
   pub tablets : AllByRecursion (KeepsTablet logs x) (accepted_tablets logs)
   pub keys : (k : List ℕ) → in_range x k ≡ true → kept_at x k ≡ given_at logs u x.places k
   pub within : KeepsWithin x
 
 abbrev pub covers : Logs → TargetTablet → ℕ
 covers logs x = safe_time logs x.places
+
+-- ---- a new tablet
+
+abbrev pub new_tablet : ℕ → ℕ → List Header → TargetTablet
+new_tablet lo hi headers = record {
+  lo = lo;
+  hi = hi;
+  headers = headers;
+  places = replicate (length headers) 0;
+  closed = replicate (length headers) false;
+  safe = replicate (length headers) 0;
+  versions = [];
+  held = [];
+}
+
+-- ---- the least over the values kept
+
+-- x has the source tablet as open and started: a root, or a child of one that x has as closed
+abbrev pub counts_in : TargetTablet → Header → Bool
+counts_in x h = not (slice_index_or x.closed h.id false) && option_map_or (λ parent. slice_index_or x.closed parent false) h.parent true
+
+-- the least of the last safe values that x keeps for such tablets
+abbrev pub least_kept : TargetTablet → ℕ
+least_kept x = least (map (λ h. slice_index x.safe h.id) (filter (counts_in x) x.headers))
+
+-- ---- cutoffs
+
+-- y is x without the history before w: of each key's versions with commit at most w only the newest
+pub record KeepsFrom (w : ℕ) (x y : TargetTablet) : Type 0 where
+  pub rest : y ≡ record x { versions = y.versions }
+  pub keys : (k : List ℕ) → in_range x k ≡ true → versions_at k y.versions ≡ kept_from w (versions_at k x.versions)
+  pub within : AllByRecursion (λ v. in_range x v.key ≡ true) y.versions
 
 -- ---- restores
 

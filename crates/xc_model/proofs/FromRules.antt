@@ -284,19 +284,19 @@ NotAwaited id (RootAt lo) = Unit {0}
 NotAwaited id LeftChild = Unit {0}
 NotAwaited id (RightChild parent lo hi) = parent ≢ id
 
-named : (id : ℕ) (h : Header) → is_child_of id h ≡ true → h.parent ≡ Some id
+pub named : (id : ℕ) (h : Header) → is_child_of id h ≡ true → h.parent ≡ Some id
 named id h e = go h.parent refl e
   where
     go : (q : Option ℕ) → h.parent ≡ q → option_map_or (λ parent. parent == id) q false ≡ true → h.parent ≡ Some id
     go None p s = cc
     go (Some parent) p s = p ∙ ap Some (eqb-true _ _ s)
 
-split-from : (before : List Header) (next : Next) (id : ℕ) (t : Header) → NotAwaited id next → child_fits before id next t ≡ true → (splits_off before id t ≡ true) × (after_child before id next t ≡ RightChild id (t.hi + 1) (hi_of before id))
+pub split-from : (before : List Header) (next : Next) (id : ℕ) (t : Header) → NotAwaited id next → child_fits before id next t ≡ true → (splits_off before id t ≡ true) × (after_child before id next t ≡ RightChild id (t.hi + 1) (hi_of before id))
 split-from before (RootAt lo) id t n e = ((and_parts _ _ e).1, refl)
 split-from before LeftChild id t n e = (e, refl)
 split-from before (RightChild parent lo hi) id t n e = absurd (n (sym (eqb-true _ _ (and_parts _ _ e).0)))
 
-right-from : (before : List Header) (id lo hi : ℕ) (t : Header) → fits_next before (RightChild id lo hi) t ≡ true → (t.parent ≡ Some id) × ((t.lo ≡ lo) × (t.hi ≡ hi))
+pub right-from : (before : List Header) (id lo hi : ℕ) (t : Header) → fits_next before (RightChild id lo hi) t ≡ true → (t.parent ≡ Some id) × ((t.lo ≡ lo) × (t.hi ≡ hi))
 right-from before id lo hi t e = go t.parent refl (and_parts _ _ (and_parts _ _ e).1).1
   where
     go : (q : Option ℕ) → t.parent ≡ q → parent_fits before (RightChild id lo hi) t q ≡ true → (t.parent ≡ Some id) × ((t.lo ≡ lo) × (t.hi ≡ hi))
@@ -306,7 +306,7 @@ right-from before id lo hi t e = go t.parent refl (and_parts _ _ (and_parts _ _ 
 hi-there : (before : List Header) (id : ℕ) (p : Header) → slice_get before id ≡ Some p → hi_of before id ≡ p.hi
 hi-there before id p e = ap (λ o. option_map_or (λ (parent : Header). parent.hi) o 0) e
 
-some-is : (x y : Header × Header) → Some x ≡ Some y → x ≡ y
+pub some-is : (x y : Header × Header) → Some x ≡ Some y → x ≡ y
 some-is x y e = cc
 
 pair-found : (before : List Header) (next : Next) (id : ℕ) (t : Header) (ts : List Header) (l r : Header) → NotAwaited id next → fits_next before next t ≡ true → fit_from (before ++ t ∷ []) (next_after before next t t.parent) ts ≡ true
@@ -329,7 +329,7 @@ pair-found before next id t (u ∷ ts) l r n e f is w =
       right_there = exists-right (λ d. d ≡ r) before (t ∷ u ∷ ts) (inr (inl is-r));
     }
 
-not-awaited : (before : List Header) (next : Next) (id : ℕ) (t : Header) (q : Option ℕ) → t.parent ≡ q → is_child_of id t ≡ false → NotAwaited id (next_after before next t q)
+pub not-awaited : (before : List Header) (next : Next) (id : ℕ) (t : Header) (q : Option ℕ) → t.parent ≡ q → is_child_of id t ≡ false → NotAwaited id (next_after before next t q)
 not-awaited before next id t None p e = tt
 not-awaited before (RootAt lo) id t (Some i) p e = λ same. absurd (grind (arith, nat_tests))
 not-awaited before LeftChild id t (Some i) p e = λ same. absurd (grind (arith, nat_tests))

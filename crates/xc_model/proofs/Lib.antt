@@ -29,3 +29,4 @@ pub mod Bridge
 pub mod ReadLaw
 pub mod KeepLaws
 pub mod FloorLaw
+pub mod Children

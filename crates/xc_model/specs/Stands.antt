@@ -8,7 +8,7 @@
 --     covers logs x      up to this time x can be read: the safe time at its places
 --     RestoredTo logs u t y x      x is y restored to t, where y stood for the logs with cutoff u
 --     TakesIn s r x y      y is x after one more record r of the source tablet s
-use Rattle.std.specs.Prelude.{◌≡◌, ℕ, ◌+◌, ◌≤◌, Bool, true, false, List, [], ◌∷◌, Option, Some, None, filter, map, nat_le, ◌&&◌, length, replicate, not, slice_index, slice_index_or, slice_get, slice_set, if◌then◌else◌, bytes_eq}
+use Rattle.std.specs.Prelude.{◌≡◌, ℕ, ◌+◌, ◌≤◌, max, Bool, true, false, List, [], ◌∷◌, Option, Some, None, filter, map, nat_le, ◌&&◌, length, replicate, not, slice_index, slice_index_or, slice_get, slice_set, if◌then◌else◌, bytes_eq}
 use Rattle.std.specs.List.{AllByRecursion}
 use Rattle.std.specs.Option.{option_map_or}
 use Rattle.xc_record.specs.declared.record.Header.{Header}
@@ -153,9 +153,9 @@ closed_after s (kind.Apply n commit) closed = closed
 closed_after s (kind.Abort n) closed = closed
 closed_after s (kind.Safe value) closed = closed
 
--- a safe record raises its tablet's value, and a split hands its own on to the children
+-- a safe record raises its tablet's value, and a split hands the tablet's value on to the children
 abbrev pub safe_after : ℕ → Kind → List ℕ → List ℕ
-safe_after s (kind.Safe value) safe = slice_set safe s value
+safe_after s (kind.Safe value) safe = slice_set safe s (max (slice_index safe s) value)
 safe_after s (kind.Split at left right) safe = slice_set (slice_set safe left (slice_index safe s)) right (slice_index safe s)
 safe_after s (kind.Write ops) safe = safe
 safe_after s (kind.Intent n ops) safe = safe
@@ -174,3 +174,12 @@ pub record TakesIn (s : ℕ) (r : Record) (x y : TargetTablet) : Type 0 where
   pub safe : y.safe ≡ safe_after s r.kind x.safe
   pub keys : (k : List ℕ) → in_range x k ≡ true → kept_at y k ≡ if owned_by x s k then steps (record_events k r) (kept_at x k) else kept_at x k
   pub within : KeepsWithin y
+
+-- x has the source tablet s as started: a root, or a child of one that x has as closed
+abbrev pub has_started : TargetTablet → ℕ → Bool
+has_started x s = option_map_or (λ h. option_map_or (λ parent. slice_index_or x.closed parent false) h.parent true) (slice_get x.headers s) false
+
+-- y is x after the records rs of s, one after another
+abbrev pub TakesAll : ℕ → List Record → TargetTablet → TargetTablet → Type 0
+TakesAll s [] x y = y ≡ x
+TakesAll s (r ∷ rs) x y = (z : TargetTablet) × (TakesIn s r x z × TakesAll s rs z y)

@@ -1,0 +1,45 @@
+// Reading a log text.
+ghost use Rattle.std.specs.Prelude.{◌≡◌, Ok, Err};
+ghost use Rattle.xc_text.specs.LogText.{logs_of, rest_of_text, Reads};
+
+use crate::cut::cut;
+use crate::kind::{Fail, LogKind, LogsFail};
+use crate::reading::{Reading, Stage};
+use std::alloc::Global;
+use xc_record::Logs;
+
+/// The logs that a text spells.
+pub fn read_logs(alloc: Global, text: &[u8]) -> Result<Logs, LogsFail>
+    ensures { Reads result (logs_of text.now) }
+{
+    let mut reading = Reading::begun(alloc);
+    let mut ops = Vec::new(alloc);
+    let mut rest = text;
+    let mut number = 1u64;
+    'lines: while let (line, Some(after)) = cut(rest, b'\n') {
+        match reading.take_line(alloc, line, &mut ops) {
+            Ok(()) => {}
+            Err(Fail::Bad(kind)) => return Err(LogsFail::Bad { line: number, kind }),
+            Err(Fail::NoMemory) => return Err(LogsFail::NoMemory),
+        }
+        rest = after;
+        number += 1;
+    }
+    ending(reading, rest, number)
+}
+
+// What a text gives that goes no further than this rest.
+fn ending(reading: Reading, rest: &[u8], number: u64) -> Result<Logs, LogsFail>
+    ensures { Reads result (rest_of_text reading number rest.now) }
+{
+    let kind = if !rest.is_empty() {
+        LogKind::Form
+    } else if reading.stage != Stage::Ended {
+        LogKind::NoEnd
+    } else {
+        return Ok(Logs {
+            tablets: reading.tablets,
+        });
+    };
+    Err(LogsFail::Bad { line: number, kind })
+}

@@ -1,0 +1,3 @@
+pub mod OpsLaws
+pub mod LineLaws
+pub mod StepLaws

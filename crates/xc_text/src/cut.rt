@@ -40,6 +40,7 @@ pub(crate) fn cut(bytes: &[u8], separator: u8) -> (&[u8], Option<&[u8]>)
 }
 
 // The words of a line that are left.
+#[derive(Drop)]
 pub(crate) struct Words<'a> {
     rest: Option<&'a [u8]>,
 }

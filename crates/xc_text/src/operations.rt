@@ -1,8 +1,9 @@
 // The operations of a record's line.
-ghost use Rattle.std.specs.Prelude.{◌≡◌, true, false, is_some, MatchOption, Some, None};
+ghost use Rattle.std.specs.Prelude.{◌≡◌, ◌++◌, ◌∷◌, [], true, false, is_some, MatchOption, MatchResult, Some, None};
 ghost use Rattle.std.specs.Option.{option_copied};
 ghost use Rattle.xc_base.specs.Names.{is_key, is_value};
 ghost use Rattle.xc_text.specs.Kinds.{Answers};
+ghost use Rattle.xc_text.specs.declared.kind.Fail.TheVariants.{NoMemory};
 ghost use Rattle.xc_text.specs.Lines.{set_of, op_of, all_ops, op_is_named, ops_in};
 
 use crate::cut::{Words, cut};
@@ -72,6 +73,15 @@ fn all_have_form(mut words: Words<'_>) -> bool
     true
 }
 
+fn push(ops: &mut Vec<Op>, op: Op) -> Result<(), Fail>
+    ensures { MatchResult result (λ _. ops.new.items ≡ ops.old.items ++ op ∷ []) (λ e. e ≡ NoMemory) }
+{
+    match ops.push(op) {
+        Ok(()) => Ok(()),
+        Err(_) => Err(Fail::NoMemory),
+    }
+}
+
 // Reads the operations into the list, which is emptied first. After an error the list has some of them.
 pub(crate) fn read_ops(mut words: Words<'_>, ops: &mut Vec<Op>) -> Result<(), Fail>
     ensures { Answers (λ _. ops.new.items) result (ops_in words.entry) }
@@ -82,7 +92,7 @@ pub(crate) fn read_ops(mut words: Words<'_>, ops: &mut Vec<Op>) -> Result<(), Fa
             return Err(Fail::Bad(LogKind::Form));
         };
         match named(key, value) {
-            Some(op) => ops.push(op)?,
+            Some(op) => push(ops, op)?,
             None => {
                 return if all_have_form(words) {
                     Err(Fail::Bad(LogKind::Key))

@@ -38,6 +38,9 @@ seen_more seen w ws all op h is named = record {
   named = all_named op_is_named seen (op ∷ []) h.named ∙ rw named refl;
 }
 
+pub at_left : (seen : List Op) (left now all : List (List ℕ)) → Seen seen left all → left ≡ now → Seen seen now all
+at_left seen left now all h e = record { whole = h.whole ∙ ap (λ words. with_seen seen (all_ops words)) e; named = h.named }
+
 ops_of_none : (all : List (List ℕ)) → all_ops all ≡ None → ops_of all ≡ None
 ops_of_none [] h = refl
 ops_of_none (w ∷ ws) h = h

@@ -1,6 +1,7 @@
 // Why a log text is refused.
 ghost use Rattle.std.specs.Prelude.{◌≡◌};
 ghost use Rattle.xc_text.specs.Kinds.{kind_name};
+ghost use Rattle.xc_text.specs.declared.kind.Fail.TheVariants.{NoMemory};
 
 use std::alloc::AllocError;
 

@@ -1,9 +1,8 @@
 // The operations of a record's line.
-ghost use Rattle.std.specs.Prelude.{◌≡◌, ◌++◌, ◌∷◌, [], true, false, is_some, MatchOption, MatchResult, Some, None};
+ghost use Rattle.std.specs.Prelude.{◌≡◌, true, false, is_some, MatchOption, Some, None};
 ghost use Rattle.std.specs.Option.{option_copied};
 ghost use Rattle.xc_base.specs.Names.{is_key, is_value};
 ghost use Rattle.xc_text.specs.Kinds.{Answers};
-ghost use Rattle.xc_text.specs.declared.kind.Fail.TheVariants.{NoMemory};
 ghost use Rattle.xc_text.specs.Lines.{set_of, op_of, all_ops, op_is_named, ops_in};
 
 use crate::cut::{Words, cut};
@@ -36,13 +35,19 @@ fn parts(word: &[u8]) -> Option<(&[u8], Option<&[u8]>)>
 fn key(bytes: &[u8]) -> Option<Key>
     ensures { MatchOption result (is_key bytes.now ≡ false) (λ key. (key ≡ bytes.now) × (is_key bytes.now ≡ true)) }
 {
-    Key::new(bytes).ok()
+    match Key::new(bytes) {
+        Ok(key) => Some(key),
+        Err(_) => None,
+    }
 }
 
 fn value(bytes: &[u8]) -> Option<Value>
     ensures { MatchOption result (is_value bytes.now ≡ false) (λ value. (value ≡ bytes.now) × (is_value bytes.now ≡ true)) }
 {
-    Value::new(bytes).ok()
+    match Value::new(bytes) {
+        Ok(value) => Some(value),
+        Err(_) => None,
+    }
 }
 
 // The operation of a key and a value, where both are well formed.
@@ -73,15 +78,6 @@ fn all_have_form(mut words: Words<'_>) -> bool
     true
 }
 
-fn push(ops: &mut Vec<Op>, op: Op) -> Result<(), Fail>
-    ensures { MatchResult result (λ _. ops.new.items ≡ ops.old.items ++ op ∷ []) (λ e. e ≡ NoMemory) }
-{
-    match ops.push(op) {
-        Ok(()) => Ok(()),
-        Err(_) => Err(Fail::NoMemory),
-    }
-}
-
 // Reads the operations into the list, which is emptied first. After an error the list has some of them.
 pub(crate) fn read_ops(mut words: Words<'_>, ops: &mut Vec<Op>) -> Result<(), Fail>
     ensures { Answers (λ _. ops.new.items) result (ops_in words.entry) }
@@ -92,7 +88,7 @@ pub(crate) fn read_ops(mut words: Words<'_>, ops: &mut Vec<Op>) -> Result<(), Fa
             return Err(Fail::Bad(LogKind::Form));
         };
         match named(key, value) {
-            Some(op) => push(ops, op)?,
+            Some(op) => ops.extend_from_slice(&[op])?,
             None => {
                 return if all_have_form(words) {
                     Err(Fail::Bad(LogKind::Key))

@@ -1,10 +1,11 @@
 -- A list of bytes that is cut at the first separator.
-use Rattle.std.proofs.Common.{◌≡◌, ℕ, ◌+◌, ◌-◌, ◌<◌, ◌≤◌, ◌==◌, Bool, true, false, List, [], ◌∷◌, length, take, drop, refl, sym, ap, ◌∙◌, arith}
+use Rattle.std.proofs.Common.{◌≡◌, ℕ, ◌+◌, ◌-◌, ◌<◌, ◌≤◌, ◌==◌, Bool, true, false, List, [], ◌∷◌, length, take, drop, refl, sym, ap, ◌∙◌, cond, arith}
 use Rattle.std.proofs.lemmas.List.{take_rest}
 use Rattle.std.proofs.lemmas.List.Splits.{slice_split_first, slice_split_none}
 use Rattle.std.proofs.lemmas.List.Sums.{fails_before_first}
-use Rattle.std.specs.List.{list_any, position_or_len}
+use Rattle.std.specs.List.{list_any, position_or_len, onto_first}
 use Rattle.xc_base.specs.Words.{split_on}
+use Rattle.xc_text.specs.Lines.{is_over}
 
 pub cut_pieces : (c : ℕ) (bytes : List ℕ) (n : ℕ) → n ≡ position_or_len (λ b. b == c) bytes → n < length bytes → split_on c bytes ≡ take n bytes ∷ split_on c (take (length bytes - (n + 1)) (drop (n + 1) bytes))
 cut_pieces c bytes n e h =
@@ -20,3 +21,25 @@ any_found p (x ∷ xs) h = grind (arith, any_found p xs)
 pub none_found : (p : ℕ → Bool) (xs : List ℕ) → length xs ≤ position_or_len p xs → list_any p xs ≡ false
 none_found p [] h = refl
 none_found p (x ∷ xs) h = grind (arith, none_found p xs)
+
+-- there is at least one piece
+pub record IsCut (pieces : List (List ℕ)) : Type 0 where
+  pub first : List ℕ
+  pub others : List (List ℕ)
+  pub cut : pieces ≡ first ∷ others
+
+onto_cut : (x : ℕ) (pieces : List (List ℕ)) → IsCut (onto_first x pieces)
+onto_cut x [] = record { first = x ∷ []; others = []; cut = refl }
+onto_cut x (piece ∷ pieces) = record { first = x ∷ piece; others = pieces; cut = refl }
+
+pub split_is_cut : (c : ℕ) (bytes : List ℕ) → IsCut (split_on c bytes)
+split_is_cut c [] = record { first = []; others = []; cut = refl }
+split_is_cut c (x ∷ xs) = by (x == c)
+  where
+  by : (b : Bool) → IsCut (cond b ([] ∷ split_on c xs) (onto_first x (split_on c xs)))
+  by true = record { first = []; others = split_on c xs; cut = refl }
+  by false = onto_cut x (split_on c xs)
+
+
+pub not_over : (bytes : List ℕ) → is_over (split_on 32 bytes) ≡ false
+not_over bytes = let parts = split_is_cut 32 bytes in rw parts.cut refl

@@ -3,7 +3,7 @@
 --     first_kind rows      the kind of the first row whose test is true; None where none is
 --     judge numbers names line      a line that has a form, if its numbers and its names fit
 --     Answers view result reading      a call answered what the reading gives, seen by view, or that memory ran out
-use Rattle.std.specs.Prelude.{◌≡◌, ℕ, Bool, List, [], ◌∷◌, Option, Some, None, Result, Ok, Err, if◌then◌else◌, codes}
+use Rattle.std.specs.Prelude.{◌≡◌, ℕ, Bool, true, false, List, [], ◌∷◌, Option, Some, None, Result, Ok, Err, if◌then◌else◌, codes}
 use Rattle.xc_text.specs.declared.kind.LogKind.{LogKind}
 use Rattle.xc_text.specs.declared.kind.LogKind.TheVariants.{Form, Number, Key, Header, UnknownTablet, Range, AfterSplit, Limit, Orphan, NoEnd}
 use Rattle.xc_text.specs.declared.kind.Fail.{Fail}
@@ -29,6 +29,16 @@ first_kind (row ∷ rows) = if row.0 then Some row.1 else first_kind rows
 abbrev pub judge : {A : Type 0} → (A → Bool) → (A → Bool) → Option A → Result A LogKind
 judge numbers names None = Err Form
 judge numbers names (Some x) = if numbers x then (if names x then Ok x else Err Key) else Err Number
+
+-- where a number is bad too, that comes first
+abbrev pub before_key : LogKind → LogKind
+before_key Key = Number
+before_key k = k
+
+abbrev pub after_numbers : Bool → Fail → Fail
+after_numbers true e = e
+after_numbers false fail.NoMemory = fail.NoMemory
+after_numbers false (fail.Bad k) = fail.Bad (before_key k)
 
 abbrev pub Refuses : {B : Type 0} → Fail → Result B LogKind → Type 0
 Refuses (fail.Bad kind) reading = reading ≡ Err kind

@@ -148,6 +148,13 @@ unless_bad (Some k) x = Err k
 abbrev pub placed : Reading → LogLine → Result Reading LogKind
 placed s l = unless_bad (first_kind (later_kinds s l)) (moved s l)
 
+-- with a line that stands by itself, behind the first line
+abbrev pub between : Reading → LogLine → Result Reading LogKind
+between s line.First = Err kind.Form
+between s (line.Tablet h) = placed s (line.Tablet h)
+between s (line.Entry id r) = placed s (line.Entry id r)
+between s line.End = placed s line.End
+
 abbrev pub step_by : Reading → Option LogLine → Result Reading LogKind
 step_by s None = Err kind.Form
 step_by s (Some l) = unless_bad (first_kind (kinds s l)) (moved s l)

@@ -1,5 +1,5 @@
 // Bytes that are cut at a separator.
-ghost use Rattle.std.specs.Prelude.{◌≡◌, ◌<◌, ◌==◌, [], ◌∷◌, length, is_some, IfSome, MatchOption, MatchResult, Some, None};
+ghost use Rattle.std.specs.Prelude.{◌≡◌, ◌<◌, ◌==◌, [], ◌∷◌, length, is_some, IfSome, MatchOption, MatchResult, Some, None, true, false};
 ghost use Rattle.std.specs.List.{position_or_len, before_first, after_first, list_any};
 ghost use Rattle.std.specs.Option.{option_map_or};
 ghost use Rattle.xc_base.specs.Words.{split_on};

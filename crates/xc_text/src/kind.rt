@@ -1,6 +1,6 @@
 // Why a log text is refused.
 ghost use Rattle.std.specs.Prelude.{◌≡◌};
-ghost use Rattle.xc_text.specs.Kinds.{kind_name};
+ghost use Rattle.xc_text.specs.Kinds.{kind_name, after_numbers};
 ghost use Rattle.xc_text.specs.declared.kind.Fail.TheVariants.{NoMemory};
 
 use std::alloc::AllocError;
@@ -64,6 +64,16 @@ pub enum LogsFail {
 pub(crate) enum Fail {
     Bad(LogKind),
     NoMemory,
+}
+
+// A bad key counts only where the numbers before it fit.
+pub(crate) fn after_numbers(fail: Fail, numbers_fit: bool) -> Fail
+    ensures { result ≡ after_numbers numbers_fit fail }
+{
+    if !numbers_fit && fail == Fail::Bad(LogKind::Key) {
+        return Fail::Bad(LogKind::Number);
+    }
+    fail
 }
 
 impl From<AllocError> for Fail {

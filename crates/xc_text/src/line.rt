@@ -1,15 +1,16 @@
 // The lines of a log text.
-ghost use Rattle.std.specs.Prelude.{◌≡◌, true, false, MatchResult, option_map, nat_lt};
+ghost use Rattle.std.specs.Prelude.{◌≡◌, true, false, MatchResult, option_map, nat_lt, ◌&&◌};
+ghost use Rattle.xc_record.specs.Valid.{is_time};
 ghost use Rattle.std.specs.Option.{option_map_or};
 ghost use Rattle.xc_base.specs.Words.{split_on};
 ghost use Rattle.xc_text.specs.Kinds.{Answers, judge};
-ghost use Rattle.xc_text.specs.Lines.{line_in, header_of, header_numbers_fit, parent_of, version_of, entry_of, number, numbers_fit, names_fit, ◌>>=◌};
-ghost use Rattle.xc_text.specs.declared.kind.LogKind.TheVariants.{Form};
+ghost use Rattle.xc_text.specs.Lines.{line_in, header_of, header_numbers_fit, parent_of, version_of, entry_of, number, numbers_fit, names_fit};
+ghost use Rattle.xc_text.specs.declared.kind.LogKind.TheVariants.{Form, Number};
 ghost use Rattle.xc_text.specs.declared.kind.Fail.TheVariants.{Bad};
 
 use crate::cut::{Words, number};
-use crate::kind::{Fail, LogKind};
-use crate::record_line::{hash_in, read_kind, tablet_in, time_in};
+use crate::kind::{Fail, LogKind, after_numbers};
+use crate::record_line::{hash_in, is_tablet, is_time, read_kind, tablet_in, time_in};
 use std::alloc::Global;
 use xc_record::{Header, Op, Record};
 
@@ -78,17 +79,18 @@ fn read_header(mut words: Words<'_>) -> Result<Header, Fail>
     })
 }
 
+fn numbers_fit(id: u64, time: u64) -> bool
+    ensures { result ≡ (nat_lt id 64 && is_time time) }
+{
+    is_tablet(id) && is_time(time)
+}
+
 fn read_entry(alloc: Global, id: u64, mut words: Words<'_>, ops: &mut Vec<Op>) -> Result<LogLine, Fail>
     ensures { Answers (λ line. line) result (judge numbers_fit names_fit (entry_of id words.entry)) }
 {
     let time = words.number()?;
     match read_kind(alloc, words, ops) {
-        Err(Fail::Bad(LogKind::Key)) => {
-            tablet_in(id)?;
-            time_in(time)?;
-            Err(Fail::Bad(LogKind::Key))
-        }
-        Err(fail) => Err(fail),
+        Err(fail) => Err(after_numbers(fail, numbers_fit(id, time))),
         Ok(kind) => Ok(LogLine::Entry(
             tablet_in(id)?,
             Record {

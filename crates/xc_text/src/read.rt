@@ -9,6 +9,7 @@ use std::alloc::Global;
 use xc_record::Logs;
 
 /// The logs that a text spells.
+#[tactic(auto, unfolding(crate::specs::LogText::logs_of))]
 pub fn read_logs(alloc: Global, text: &[u8]) -> Result<Logs, LogsFail>
     ensures { Reads result (logs_of text.now) }
 {
@@ -16,7 +17,11 @@ pub fn read_logs(alloc: Global, text: &[u8]) -> Result<Logs, LogsFail>
     let mut ops = Vec::new(alloc);
     let mut rest = text;
     let mut number = 1u64;
-    'lines: while let (line, Some(after)) = cut(rest, b'\n') {
+    'lines: loop {
+        let (line, after) = cut(rest, b'\n');
+        let Some(after) = after else {
+            return ending(reading, rest, number);
+        };
         match reading.take_line(alloc, line, &mut ops) {
             Ok(()) => {}
             Err(Fail::Bad(kind)) => return Err(LogsFail::Bad { line: number, kind }),
@@ -25,7 +30,6 @@ pub fn read_logs(alloc: Global, text: &[u8]) -> Result<Logs, LogsFail>
         rest = after;
         number += 1;
     }
-    ending(reading, rest, number)
 }
 
 // What a text gives that goes no further than this rest.

@@ -4,7 +4,7 @@ ghost use Rattle.std.specs.List.{list_all, list_any};
 ghost use Rattle.xc_record.specs.Hash.{hash_of, holds};
 ghost use Rattle.xc_record.specs.Valid.{headers_of, ops_in};
 ghost use Rattle.xc_text.specs.Kinds.{Answers};
-ghost use Rattle.xc_text.specs.LogText.{begun, in_range, is_split_off, is_orphaned, is_inner, placed, step};
+ghost use Rattle.xc_text.specs.LogText.{begun, between, in_range, is_split_off, is_orphaned, is_inner, placed, step};
 
 use crate::kind::{Fail, LogKind};
 use crate::line::{LogLine, read_line};
@@ -179,7 +179,14 @@ impl Reading {
         requires { is_inner self.old.stage ≡ true }
         ensures { Answers (λ _. self.new) result (step self.old line.now) }
     {
-        match read_line(alloc, line, ops)? {
+        let line = read_line(alloc, line, ops)?;
+        self.take(alloc, line)
+    }
+
+    fn take(&mut self, alloc: Global, line: LogLine) -> Result<(), Fail>
+        ensures { Answers (λ _. self.new) result (between self.old line) }
+    {
+        match line {
             LogLine::First => Err(Fail::Bad(LogKind::Form)),
             LogLine::Tablet(header) => self.take_header(alloc, header),
             LogLine::Entry(id, entry) => self.take_record(id, entry),

@@ -8,7 +8,7 @@ ghost use Rattle.xc_text.specs.declared.kind.LogKind.TheVariants.{Number};
 ghost use Rattle.xc_text.specs.declared.kind.Fail.TheVariants.{Bad};
 
 use crate::cut::Words;
-use crate::kind::{Fail, LogKind};
+use crate::kind::{Fail, LogKind, after_numbers};
 use crate::operations::read_ops;
 use std::alloc::Global;
 use xc_record::{Kind, Op, Ops};
@@ -23,10 +23,28 @@ pub(crate) fn time_in(value: u64) -> Result<HybridTime, Fail>
     }
 }
 
+pub(crate) fn is_time(value: u64) -> bool
+    ensures { result ≡ is_time value }
+{
+    1 <= value && value < 4_611_686_018_427_387_904
+}
+
+fn is_transaction(value: u64) -> bool
+    ensures { result ≡ is_txn value }
+{
+    1 <= value && value < 4_294_967_296
+}
+
+pub(crate) fn is_tablet(value: u64) -> bool
+    ensures { result ≡ nat_lt value 64 }
+{
+    value < 64
+}
+
 fn transaction_in(value: u64) -> Result<u32, Fail>
     ensures { MatchResult result (λ txn. (txn ≡ value) × (is_txn value ≡ true)) (λ e. (e ≡ Bad Number) × (is_txn value ≡ false)) }
 {
-    if value < 1 || value > 4_294_967_295 {
+    if !is_transaction(value) {
         return Err(Fail::Bad(LogKind::Number));
     }
     Ok(value as u32)
@@ -35,7 +53,7 @@ fn transaction_in(value: u64) -> Result<u32, Fail>
 pub(crate) fn tablet_in(value: u64) -> Result<u32, Fail>
     ensures { MatchResult result (λ id. (id ≡ value) × (nat_lt value 64 ≡ true)) (λ e. (e ≡ Bad Number) × (nat_lt value 64 ≡ false)) }
 {
-    if value > 63 {
+    if !is_tablet(value) {
         return Err(Fail::Bad(LogKind::Number));
     }
     Ok(value as u32)
@@ -69,17 +87,13 @@ fn read_intent(alloc: Global, mut words: Words<'_>, ops: &mut Vec<Op>) -> Result
     ensures { Answers (λ kind. kind) result (judge kind_numbers_fit kind_names_fit (intent_of words.entry)) }
 {
     let txn = words.number()?;
-    match read_ops(words, ops) {
-        Err(Fail::Bad(LogKind::Key)) => {
-            transaction_in(txn)?;
-            Err(Fail::Bad(LogKind::Key))
-        }
-        Err(fail) => Err(fail),
-        Ok(()) => Ok(Kind::Intent {
-            txn: transaction_in(txn)?,
-            ops: copied(alloc, ops.as_slice())?,
-        }),
+    if let Err(fail) = read_ops(words, ops) {
+        return Err(after_numbers(fail, is_transaction(txn)));
     }
+    Ok(Kind::Intent {
+        txn: transaction_in(txn)?,
+        ops: copied(alloc, ops.as_slice())?,
+    })
 }
 
 fn read_apply(mut words: Words<'_>) -> Result<Kind, Fail>

@@ -3,3 +3,4 @@ pub mod NameLaws
 pub mod OpsLaws
 pub mod LineLaws
 pub mod StepLaws
+mod WorkedTexts

@@ -16,15 +16,13 @@ use Rattle.xc_text.specs.Kinds.{judge, first_kind, Refuses}
 use Rattle.xc_text.specs.declared.kind.Fail.{Fail}
 use Rattle.xc_text.specs.declared.kind.Fail.TheVariants as fail
 use Rattle.xc_text.specs.Lines.{line_of, line_in, numbers_fit, names_fit}
-use Rattle.xc_text.specs.LogText.{BadLine, step, step_by, placed, between, moved, later_kinds, unless_bad, is_inner, misplaced, lines_from, go_on, rest_of_text}
+use Rattle.xc_text.specs.LogText as text
+use Rattle.xc_text.specs.LogText.{BadLine, at_line, starting, step, step_by, placed, between, moved, later_kinds, unless_bad, is_inner, misplaced, lines_from, go_on, rest_of_text}
 
 -- ---- the first line
 
 abbrev pub first_step : Reading → Result LogLine LogKind → Result Reading LogKind
-first_step s (Ok line.First) = Ok (record s { stage = Headers })
-first_step s (Ok (line.Tablet h)) = Err kind.Form
-first_step s (Ok (line.Entry id r)) = Err kind.Form
-first_step s (Ok line.End) = Err kind.Form
+first_step s (Ok l) = starting s l
 first_step s (Err k) = Err kind.Form
 
 start_cases : (s : Reading) (o : Option LogLine) → s.stage ≡ Start → step_by s o ≡ first_step s (judge numbers_fit names_fit o)
@@ -47,11 +45,8 @@ at_start : (s : Reading) (bytes : List ℕ) → s.stage ≡ Start → step s byt
 unfolding step line_in
 at_start s bytes start = start_cases s (line_of (split_on 32 bytes)) start
 
-pub start_first : (s : Reading) (bytes : List ℕ) → s.stage ≡ Start → line_in (split_on 32 bytes) ≡ Ok line.First → step s bytes ≡ Ok (record s { stage = Headers })
-start_first s bytes start is = at_start s bytes start ∙ ap (first_step s) is
-
-pub start_other : (s : Reading) (bytes : List ℕ) (l : LogLine) → s.stage ≡ Start → line_in (split_on 32 bytes) ≡ Ok l → first_step s (Ok l) ≡ Err kind.Form → step s bytes ≡ Err kind.Form
-start_other s bytes l start is other = at_start s bytes start ∙ ap (first_step s) is ∙ other
+pub start_read : (s : Reading) (bytes : List ℕ) (l : LogLine) → s.stage ≡ Start → line_in (split_on 32 bytes) ≡ Ok l → step s bytes ≡ starting s l
+start_read s bytes l start is = at_start s bytes start ∙ ap (first_step s) is
 
 pub start_refused : (s : Reading) (bytes : List ℕ) (k : LogKind) → s.stage ≡ Start → line_in (split_on 32 bytes) ≡ Err k → step s bytes ≡ Err kind.Form
 start_refused s bytes k start is = at_start s bytes start ∙ ap (first_step s) is
@@ -138,5 +133,6 @@ lines_more s number line rest = let parts = split_is_cut 10 rest in lines_cons s
 pub goes_on : (s next : Reading) (number : ℕ) (line rest after : List ℕ) (all : Result Logs BadLine) → lines_from s number (split_on 10 rest) ≡ all → split_on 10 rest ≡ line ∷ split_on 10 after → step s line ≡ Ok next → lines_from next (number + 1) (split_on 10 after) ≡ all
 goes_on s next number line rest after all whole pieces is = sym (lines_more s number line after ∙ rw is refl) ∙ sym (ap (lines_from s number) pieces) ∙ whole
 
-pub stops : (s : Reading) (k : LogKind) (number : ℕ) (line rest after : List ℕ) (all : Result Logs BadLine) → lines_from s number (split_on 10 rest) ≡ all → split_on 10 rest ≡ line ∷ split_on 10 after → step s line ≡ Err k → all ≡ Err (record { line = number; kind = k })
-stops s k number line rest after all whole pieces is = sym whole ∙ ap (lines_from s number) pieces ∙ lines_more s number line after ∙ rw is refl
+pub stops : (s : Reading) (e : Fail) (number : ℕ) (line rest after : List ℕ) (all : Result Logs BadLine) → lines_from s number (split_on 10 rest) ≡ all → split_on 10 rest ≡ line ∷ split_on 10 after → Refuses e (step s line) → text.Refuses (at_line number e) all
+stops s (fail.Bad k) number line rest after all whole pieces is = sym whole ∙ ap (lines_from s number) pieces ∙ lines_more s number line after ∙ rw is refl
+stops s fail.NoMemory number line rest after all whole pieces is = tt

@@ -26,6 +26,8 @@ use Rattle.xc_text.specs.declared.line.LogLine.TheVariants as line
 use Rattle.xc_text.specs.declared.reading.Reading.{Reading}
 use Rattle.xc_text.specs.declared.reading.Stage.{Stage}
 use Rattle.xc_text.specs.declared.reading.Stage.TheVariants.{Start, Headers, Records, Ended}
+use Rattle.xc_text.specs.declared.kind.Fail.{Fail}
+use Rattle.xc_text.specs.declared.kind.Fail.TheVariants as fail
 use Rattle.xc_text.specs.declared.kind.LogsFail.{LogsFail}
 use Rattle.xc_text.specs.declared.kind.LogsFail.TheVariants as logs_fail
 use Rattle.xc_text.specs.Kinds.{first_kind}
@@ -148,6 +150,13 @@ unless_bad (Some k) x = Err k
 abbrev pub placed : Reading → LogLine → Result Reading LogKind
 placed s l = unless_bad (first_kind (later_kinds s l)) (moved s l)
 
+-- with a line that stands by itself, where the first line is wanted
+abbrev pub starting : Reading → LogLine → Result Reading LogKind
+starting s line.First = Ok (record s { stage = Headers })
+starting s (line.Tablet h) = Err kind.Form
+starting s (line.Entry id r) = Err kind.Form
+starting s line.End = Err kind.Form
+
 -- with a line that stands by itself, behind the first line
 abbrev pub between : Reading → LogLine → Result Reading LogKind
 between s line.First = Err kind.Form
@@ -186,6 +195,11 @@ abbrev pub lines_from : Reading → ℕ → List (List ℕ) → Result Logs BadL
 lines_from s number [] = ending s.stage s number
 lines_from s number (piece ∷ []) = rest_of_text s number piece
 lines_from s number (piece ∷ (next ∷ pieces)) = go_on (step s piece) number (λ after. lines_from after (number + 1) (next ∷ pieces))
+
+-- a line was not taken
+abbrev pub at_line : ℕ → Fail → LogsFail
+at_line number (fail.Bad k) = logs_fail.Bad number k
+at_line number fail.NoMemory = logs_fail.NoMemory
 
 abbrev pub Refuses : LogsFail → Result Logs BadLine → Type 0
 Refuses (logs_fail.Bad number k) reading = reading ≡ Err (record { line = number; kind = k })

@@ -1,6 +1,6 @@
 // Reading a log text.
 ghost use Rattle.std.specs.Prelude.{◌≡◌, Ok, Err};
-ghost use Rattle.xc_text.specs.LogText.{logs_of, rest_of_text, Reads};
+ghost use Rattle.xc_text.specs.LogText.{at_line, logs_of, rest_of_text, Reads};
 
 use crate::cut::cut;
 use crate::kind::{Fail, LogKind, LogsFail};
@@ -22,10 +22,8 @@ pub fn read_logs(alloc: Global, text: &[u8]) -> Result<Logs, LogsFail>
         let Some(after) = after else {
             return ending(reading, rest, number);
         };
-        match reading.take_line(alloc, line, &mut ops) {
-            Ok(()) => {}
-            Err(Fail::Bad(kind)) => return Err(LogsFail::Bad { line: number, kind }),
-            Err(Fail::NoMemory) => return Err(LogsFail::NoMemory),
+        if let Err(fail) = reading.take_line(alloc, line, &mut ops) {
+            return Err(at_line(number, fail));
         }
         rest = after;
         number += 1;
@@ -46,4 +44,13 @@ fn ending(reading: Reading, rest: &[u8], number: u64) -> Result<Logs, LogsFail>
         });
     };
     Err(LogsFail::Bad { line: number, kind })
+}
+
+fn at_line(number: u64, fail: Fail) -> LogsFail
+    ensures { result ≡ at_line number fail }
+{
+    match fail {
+        Fail::Bad(kind) => LogsFail::Bad { line: number, kind },
+        Fail::NoMemory => LogsFail::NoMemory,
+    }
 }

@@ -4,7 +4,7 @@ ghost use Rattle.std.specs.List.{list_all, list_any};
 ghost use Rattle.xc_record.specs.Hash.{hash_of, holds};
 ghost use Rattle.xc_record.specs.Valid.{headers_of, ops_in};
 ghost use Rattle.xc_text.specs.Kinds.{Answers};
-ghost use Rattle.xc_text.specs.LogText.{begun, between, in_range, is_split_off, is_orphaned, is_inner, placed, step};
+ghost use Rattle.xc_text.specs.LogText.{begun, between, in_range, is_split_off, is_orphaned, is_inner, placed, starting, step};
 
 use crate::kind::{Fail, LogKind};
 use crate::line::{LogLine, read_line};
@@ -163,14 +163,21 @@ impl Reading {
         ensures { Answers (λ _. self.new) result (step self.old line.now) }
     {
         match read_line(alloc, line, ops) {
-            Ok(LogLine::First) => {
+            Ok(line) => self.start(line),
+            Err(Fail::NoMemory) => Err(Fail::NoMemory),
+            Err(Fail::Bad(_)) => Err(Fail::Bad(LogKind::Form)),
+        }
+    }
+
+    fn start(&mut self, line: LogLine) -> Result<(), Fail>
+        ensures { Answers (λ _. self.new) result (starting self.old line) }
+    {
+        match line {
+            LogLine::First => {
                 self.stage = Stage::Headers;
                 Ok(())
             }
-            Err(Fail::NoMemory) => Err(Fail::NoMemory),
-            Ok(LogLine::Tablet(_) | LogLine::Entry(..) | LogLine::End) | Err(Fail::Bad(_)) => Err(
-                Fail::Bad(LogKind::Form),
-            ),
+            LogLine::Tablet(_) | LogLine::Entry(..) | LogLine::End => Err(Fail::Bad(LogKind::Form)),
         }
     }
 

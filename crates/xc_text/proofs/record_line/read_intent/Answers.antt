@@ -10,4 +10,4 @@ pub returns-in_err-transaction_in : goal.returns-in_err-transaction_in
 returns-in_err-transaction_in c = let p = err_from_is_err_and c.from_residual-in_err-transaction_in.result c.from_residual-in_err-transaction_in.ensures.1 in rw (p.1, p.2, c.in_err-transaction_in.ensures.0) (intent_number c.args.words c.number.new.self c.in_ok-txn.txn _ c.in_ok-txn.ensures c.in_default.ensures c.in_err-transaction_in.ensures.1)
 
 pub returns : goal.returns
-returns c = ?
+returns c = rw c.in_ok-transaction_in.ensures.0 (intent_read c.args.words c.number.new.self c.in_ok-txn.txn _ c.in_ok-txn.ensures (c.in_default.ensures ∙ ap Ok (sym (c.in_ok-copied.ensures ∙ c.as_slice.ensures.value))) c.in_ok-transaction_in.ensures.1)

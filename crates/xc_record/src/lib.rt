@@ -8,7 +8,7 @@ mod session;
 
 pub use key_hash::hash;
 pub use record::{AgreeKind, Break, Header, Kind, Logs, Op, Ops, Record, Records, Tablet, Tablets};
-pub use rules::{Next, valid};
+pub use rules::{Next, children, fits, may_end, next_after, valid};
 pub use session::{Command, Line, Numbers, PollAnswer};
 pub use xc_time::HybridTime;
 

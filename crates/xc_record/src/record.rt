@@ -1,7 +1,9 @@
 // What the source's logs are made of: tablets, each with a header and its write-ahead records.
-ghost use Rattle.std.specs.Prelude.{◌≡◌};
+ghost use Rattle.std.specs.Prelude.{◌≡◌, ◌<◌, ◌++◌, ◌∷◌, [], length, OnOk, is_ok, if◌then◌else◌};
 ghost use Rattle.xc_record.specs.Hash.{holds};
+ghost use Rattle.xc_record.specs.Grown.{with_record};
 
+use std::alloc::AllocError;
 use std::marker::Model;
 use xc_base::{Key, Value};
 use xc_time::HybridTime;
@@ -106,6 +108,14 @@ impl Records {
     {
         self.items.as_slice()
     }
+
+    /// Puts the record behind the others. After an error they are as before.
+    pub fn push(&mut self, item: Record) -> Result<(), AllocError>
+        ensures { self.new ≡ (if is_ok result then self.old ++ item ∷ [] else self.old) }
+    {
+        self.items.push(item)?;
+        Ok(())
+    }
 }
 
 impl Model for Records {
@@ -174,6 +184,22 @@ impl Tablets {
         ensures { result.now ≡ self.now }
     {
         self.items.as_slice()
+    }
+
+    /// Puts the tablet behind the others. After an error they are as before.
+    pub fn push(&mut self, item: Tablet) -> Result<(), AllocError>
+        ensures { self.new ≡ (if is_ok result then self.old ++ item ∷ [] else self.old) }
+    {
+        self.items.push(item)?;
+        Ok(())
+    }
+
+    /// Puts the record behind those of the tablet of this number. After an error all is as before.
+    pub fn push_record(&mut self, id: u32, item: Record) -> Result<(), AllocError>
+        requires { id < length self.old }
+        ensures { OnOk result (self.new ≡ with_record id item self.old) }
+    {
+        self.items[id as usize].records.push(item)
     }
 }
 

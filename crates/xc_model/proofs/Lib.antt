@@ -30,3 +30,5 @@ pub mod ReadLaw
 pub mod KeepLaws
 pub mod FloorLaw
 pub mod Children
+pub mod SplitEnd
+pub mod DeliverLaw

@@ -4,7 +4,7 @@
 //! at that time: the transactions committed by then, each in full, and none that commits later.
 #![tactic(auto)]
 
-ghost use Rattle.xc_model.specs.Laws.{ReadsShowRows, KeysSuffice, NewStands, CutoffsKeepStanding, RestoresKeepReads, SafeTimeRises, KeptValuesSuffice};
+ghost use Rattle.xc_model.specs.Laws.{ReadsShowRows, KeysSuffice, NewStands, CutoffsKeepStanding, RestoresKeepReads, SafeTimeRises, KeptValuesSuffice, DeliveriesKeepStanding, BatchesKeepStanding};
 
 /// For logs that agree, a read at a time from the cutoff to what the tablet covers is the row of the logs at that time.
 pub fn reads_show_rows()
@@ -14,6 +14,16 @@ pub fn reads_show_rows()
 /// Well-formed logs in which no disagreement is found have no case of disagreement at any key.
 pub fn keys_suffice()
     ensures { KeysSuffice }
+{}
+
+/// One more accepted record of a source tablet that is started keeps a target tablet standing.
+pub fn deliveries_keep_standing()
+    ensures { DeliveriesKeepStanding }
+{}
+
+/// So do its next accepted records, one after another; its place rises by their number, and no other place changes.
+pub fn batches_keep_standing()
+    ensures { BatchesKeepStanding }
 {}
 
 /// A new tablet of any range stands for all well-formed logs with its headers, from the cutoff 0.

@@ -68,16 +68,16 @@ apart-ids n (d ∷ before) b after m =
     let high : b.header.id ≡ n + 1 + length before = numbered-mid (n + 1) before b after m.1 in
     (((λ e. let q = m.0 in let z : ⊥ = omega arith in z), rest.0), rest.1)
 
-get-is : (bs : List AcceptedTablet) (i : ℕ) (b : AcceptedTablet) → Numbered 0 (heads bs) → slice_get bs i ≡ Some b → b.header.id ≡ i
+pub get-is : (bs : List AcceptedTablet) (i : ℕ) (b : AcceptedTablet) → Numbered 0 (heads bs) → slice_get bs i ≡ Some b → b.header.id ≡ i
 get-is bs i b m e = get-id 0 bs i b m e ∙ zero-add i
 
 some-tablet : (d b : AcceptedTablet) → Some d ≡ Some b → d ≡ b
 some-tablet d b e = cc
 
-none-some : (n : ℕ) → None ≡ Some n → ⊥
+pub none-some : (n : ℕ) → None ≡ Some n → ⊥
 none-some n e = cc
 
-some-number : (n m : ℕ) → Some n ≡ Some m → n ≡ m
+pub some-number : (n m : ℕ) → Some n ≡ Some m → n ≡ m
 some-number n m e = cc
 
 nil-of : (rs : List Record) → length rs ≡ 0 → rs ≡ []
@@ -90,12 +90,12 @@ some-header h l e = cc
 same-header : (hs : List Header) (h l : Header) → Numbered 0 hs → Exists (λ d. d ≡ h) hs → Exists (λ d. d ≡ l) hs → h.id ≡ l.id → h ≡ l
 same-header hs h l m i j e = some-header h l (sym (there-get hs h m i) ∙ ap (slice_get hs) e ∙ there-get hs l m j)
 
-some-below : {A : Type 0} (xs : List A) (i : ℕ) (a : A) → slice_get xs i ≡ Some a → i < length xs
+pub some-below : {A : Type 0} (xs : List A) (i : ℕ) (a : A) → slice_get xs i ≡ Some a → i < length xs
 some-below [] i a e = cc
 some-below (b ∷ bs) zero a e = omega arith
 some-below (b ∷ bs) (suc i) a e = let q : i < length bs = some-below bs i a e in omega arith
 
-pick : {A : Type 0} (P : A → Type 0) (xs : List A) → Exists P xs → (a : A) × (Exists (λ b. b ≡ a) xs × P a)
+pub pick : {A : Type 0} (P : A → Type 0) (xs : List A) → Exists P xs → (a : A) × (Exists (λ b. b ≡ a) xs × P a)
 pick P [] i = absurd i
 pick P (b ∷ bs) i = ⊎_elim (λ h. (b, (inl refl, h))) (λ r. let deep = pick P bs r in (deep.0, (inr deep.1.0, deep.1.1))) i
 

@@ -32,3 +32,5 @@ pub mod FloorLaw
 pub mod Children
 pub mod SplitEnd
 pub mod DeliverLaw
+pub mod SessionLaws
+pub mod TimeLaws

@@ -6,8 +6,12 @@ use Rattle.xc_record.specs.Accepted.{accepted}
 use Rattle.xc_record.specs.Agreement.{disagreement, Agrees}
 use Rattle.xc_record.specs.Rows.{row}
 use Rattle.xc_record.specs.Valid.{is_valid, headers_of}
+use Rattle.xc_record.specs.declared.session.Command.{Command}
+use Rattle.xc_record.specs.Session.{Session, IsSession, start}
+use Rattle.xc_record.specs.Step.{step, safe_now, lines_from}
 use Rattle.xc_record.specs.SafeTime.{safe_time, IsPlaces}
 use Rattle.xc_model.specs.Kept.{read}
+use Rattle.xc_model.specs.Sessions.{named_times, IsRising}
 use Rattle.xc_model.specs.Stands.{TargetTablet, in_range, kept_at, StandsFor, covers, new_tablet, least_kept, KeepsFrom, RestoredTo, has_started, TakesIn, TakesAll}
 
 -- For logs that agree, a read at a time from the cutoff to what the tablet covers is the row of the logs at that time.
@@ -46,3 +50,23 @@ SafeTimeRises = (logs : Logs) (a b : List ℕ) → IsPlaces logs b → ((s : ℕ
 -- The least over the values that a tablet keeps for roots and for children of closed tablets is the safe time.
 abbrev pub KeptValuesSuffice : Type 0
 KeptValuesSuffice = (logs : Logs) (x : TargetTablet) (u : ℕ) → StandsFor logs u x → least_kept x ≡ covers logs x
+
+-- Each command keeps the session: legal places, the cursor between the acknowledged place and the place, the cutoff at most the safe time.
+abbrev pub StepsKeepSessions : Type 0
+StepsKeepSessions = (logs : Logs) (m : Session) (command : Command) → is_valid logs ≡ true → IsSession logs m → IsSession logs (step logs m command).0
+
+-- The session that nothing was asked of yet is one.
+abbrev pub SessionsStart : Type 0
+SessionsStart = (logs : Logs) → is_valid logs ≡ true → IsSession logs (start logs)
+
+-- No command makes the safe time fall.
+abbrev pub StepsKeepTimes : Type 0
+StepsKeepTimes = (logs : Logs) (m : Session) (command : Command) → is_valid logs ≡ true → IsSession logs m → safe_now logs m ≤ safe_now logs (step logs m command).0
+
+-- Along any list of commands no named time falls.
+abbrev pub NamedTimesRise : Type 0
+NamedTimesRise = (logs : Logs) (m : Session) (commands : List Command) → is_valid logs ≡ true → IsSession logs m → IsRising (safe_now logs m) (named_times (lines_from logs m commands))
+
+-- A closed session stays as it is, whatever is asked of it.
+abbrev pub ClosedStays : Type 0
+ClosedStays = (logs : Logs) (m : Session) (command : Command) (t : ℕ) → m.closed ≡ Some t → (step logs m command).0 ≡ m

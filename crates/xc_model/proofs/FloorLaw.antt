@@ -59,7 +59,7 @@ pub each-of-header : (P : Header → Type 0) (bs : List AcceptedTablet) → Each
 each-of-header P [] h = tt
 each-of-header P (b ∷ bs) h = (h.0, each-of-header P bs h.1)
 
-none-index : {A B : Type 0} (xs : List A) (ys : List B) (i : ℕ) (d : B) → length ys ≡ length xs → slice_get xs i ≡ None → get_or ys i d ≡ d
+pub none-index : {A B : Type 0} (xs : List A) (ys : List B) (i : ℕ) (d : B) → length ys ≡ length xs → slice_get xs i ≡ None → get_or ys i d ≡ d
 none-index [] [] i d l e = refl
 none-index [] (y ∷ ys) i d l e = absurd (omega arith)
 none-index (x ∷ xs) [] i d l e = absurd (omega arith)

@@ -271,12 +271,12 @@ hash-below k = hash-from-below 0 k (omega arith)
 
 -- what the two headers that name id as their parent are
 pub record AreChildren (hs : List Header) (id : ℕ) (l r : Header) : Type 0 where
-  parent : Header
-  at : slice_get hs id ≡ Some parent
-  left : (l.parent ≡ Some id) × (l.lo ≡ parent.lo)
-  right : (r.parent ≡ Some id) × ((r.lo ≡ l.hi + 1) × (r.hi ≡ parent.hi))
-  left_there : Exists (λ d. d ≡ l) hs
-  right_there : Exists (λ d. d ≡ r) hs
+  pub parent : Header
+  pub at : slice_get hs id ≡ Some parent
+  pub left : (l.parent ≡ Some id) × (l.lo ≡ parent.lo)
+  pub right : (r.parent ≡ Some id) × ((r.lo ≡ l.hi + 1) × (r.hi ≡ parent.hi))
+  pub left_there : Exists (λ d. d ≡ l) hs
+  pub right_there : Exists (λ d. d ≡ r) hs
 
 -- no right child of id is awaited
 abbrev pub NotAwaited : ℕ → Next → Type 0

@@ -243,3 +243,20 @@ pub accepted-numbered : (logs : Logs) → is_valid logs ≡ true → Numbered 0 
 accepted-numbered logs v =
     let g = (rules-suffice logs v).grows in
     subst (λ w. Numbered 0 (heads w)) (sym (accepted-ends logs v)) (subst (Numbered 0) (sym (heads-from [] logs.tablets)) (follows-numbered [] logs.tablets g tt))
+
+-- each accepted record fits its tablet
+pub kinds-fit : (logs : Logs) → is_valid logs ≡ true → Each (λ e. Each (λ r. kind_fits e.header (children (headers_of logs.tablets) e.header.id) r.kind ≡ true) e.records) (accepted_tablets logs)
+unfolding is_valid
+kinds-fit logs v =
+    let ts = logs.tablets in
+    let hs = headers_of ts in
+    let k : Each (TabletFits hs) ts = all-each (tablet_fits hs) ts (and_parts _ _ (and_parts _ _ v).1).0 in
+    subst (Each (λ (e : AcceptedTablet). Each (λ r. kind_fits e.header (children hs e.header.id) r.kind ≡ true) e.records)) (sym (accepted-ends logs v))
+    (each-weaker (FromTablet ts) (λ e. Each (λ r. kind_fits e.header (children hs e.header.id) r.kind ≡ true) e.records)
+    (λ e f. each-weaker (Fitting hs f.tablet) (λ r. kind_fits e.header (children hs e.header.id) r.kind ≡ true)
+    (λ r w. subst (λ (h : Header). kind_fits h (children hs h.id) r.kind ≡ true) (sym (head-of ts e f)) (and_parts _ _ w).1) e.records (accepted-fit ts hs e k f)) (ends ts) (ends-tablets ts))
+
+-- the headers as the rules have them
+pub headers-fit : (logs : Logs) → is_valid logs ≡ true → fit_from [] (RootAt 0) (headers_of logs.tablets) ≡ true
+unfolding is_valid headers_fit
+headers-fit logs v = (and_parts _ _ v).0

@@ -2,6 +2,7 @@
 use Rattle.std.proofs.Common.{◌≡◌, ℕ, suc, zero, ◌+◌, ◌<◌, ◌^◌, ◌≤◌, true, false, cond, List, [], ◌∷◌, ◌++◌, take, length, Option, Some, None, refl, ap, sym, ◌∙◌, arith, subst, ◌⊎◌, inl, inr, ⊎_elim}
 use Rattle.std.proofs.lemmas.Bool.{cases_Bool, cases_eq, eq-eqb, ne_eqb}
 use Rattle.std.proofs.lemmas.List.{take_all}
+use Rattle.xc_record.specs.Order.{Progress}
 use Rattle.xc_model.proofs.StableSort.{Each, Exists}
 use Rattle.xc_record.specs.declared.record.Tablet.{Tablet}
 use Rattle.xc_record.specs.Accepted.{AcceptedTablet}
@@ -17,18 +18,18 @@ use Rattle.xc_model.proofs.SafeTime.{Begins, begins-placed, begins-goes, floor-r
 abbrev pub StartsFrom : List AcceptedTablet → AcceptedTablet → Type 0
 StartsFrom es e = (e.header.parent ≡ None) ⊎ Exists (λ d. (Some d.header.id ≡ e.header.parent) × ((d.header.id < e.header.id) × (d.end.floor ≡ e.start.floor))) es
 
-order-there : (p : ℕ) (done : List AcceptedTablet) → Exists (λ d. d.header.id ≡ p) done → Exists (λ d. (d.header.id ≡ p) × (d.end.floor ≡ (order_at p done).floor)) done
+pub order-there : (p : ℕ) (done : List AcceptedTablet) → Exists (λ d. d.header.id ≡ p) done → Exists (λ d. (d.header.id ≡ p) × (d.end ≡ order_at p done)) done
 order-there p [] i = i
 order-there p (d ∷ ds) i =
-    ⊎_elim (λ e. inl (e, ap (λ b. (cond b d.end (order_at p ds)).floor) (sym (eq-eqb d.header.id p e))))
-    (λ n. inr (exists-weaker (λ w. (w.header.id ≡ p) × (w.end.floor ≡ (order_at p ds).floor)) (λ w. (w.header.id ≡ p) × (w.end.floor ≡ (order_at p (d ∷ ds)).floor)) (λ w h. (h.0, h.1 ∙ ap (λ b. (cond b d.end (order_at p ds)).floor) (sym (ne_eqb d.header.id p n)))) ds (order-there p ds (⊎_elim (λ e. absurd (n e)) (λ r. r) i))))
+    ⊎_elim (λ e. inl (e, ap (λ b. cond b d.end (order_at p ds)) (sym (eq-eqb d.header.id p e))))
+    (λ n. inr (exists-weaker (λ w. (w.header.id ≡ p) × (w.end ≡ order_at p ds)) (λ w. (w.header.id ≡ p) × (w.end ≡ order_at p (d ∷ ds))) (λ w h. (h.0, h.1 ∙ ap (λ b. cond b d.end (order_at p ds)) (sym (ne_eqb d.header.id p n)))) ds (order-there p ds (⊎_elim (λ e. absurd (n e)) (λ r. r) i))))
     (cases_eq d.header.id p)
 
 starts-one : (done : List AcceptedTablet) (t : Tablet) (p : Option ℕ) → t.header.parent ≡ p → IsBelow p t.header.id → ParentThere done p → StartsFrom done (end_under (parent_order done p) t)
 starts-one done t None e b i = inl e
-starts-one done t (Some p) e b i = inr (exists-weaker (λ d. (d.header.id ≡ p) × (d.end.floor ≡ (order_at p done).floor)) (λ d. (Some d.header.id ≡ t.header.parent) × ((d.header.id < t.header.id) × (d.end.floor ≡ (order_at p done).floor))) (λ d h. (ap Some h.0 ∙ sym e, ((let q = h.0 in omega arith), h.1))) done (order-there p done i))
+starts-one done t (Some p) e b i = inr (exists-weaker (λ d. (d.header.id ≡ p) × (d.end ≡ order_at p done)) (λ d. (Some d.header.id ≡ t.header.parent) × ((d.header.id < t.header.id) × (d.end.floor ≡ (order_at p done).floor))) (λ d h. (ap Some h.0 ∙ sym e, ((let q = h.0 in omega arith), ap (λ (w : Progress). w.floor) h.1))) done (order-there p done i))
 
-exists-front : {A : Type 0} (P : A → Type 0) (xs ys : List A) → Exists P xs → Exists P (xs ++ ys)
+pub exists-front : {A : Type 0} (P : A → Type 0) (xs ys : List A) → Exists P xs → Exists P (xs ++ ys)
 exists-front P [] ys i = absurd i
 exists-front P (x ∷ xs) ys i = ⊎_elim (λ a. inl a) (λ r. inr (exists-front P xs ys r)) i
 

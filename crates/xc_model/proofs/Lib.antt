@@ -30,3 +30,7 @@ pub mod ReadLaw
 pub mod KeepLaws
 pub mod FloorLaw
 pub mod Children
+pub mod SplitEnd
+pub mod DeliverLaw
+pub mod SessionLaws
+pub mod TimeLaws

@@ -63,7 +63,7 @@ each-map (x ∷ xs) h = (h.0, each-map xs h.1)
 pub begins-placed : (ts : List Tablet) (xs : List Placed) → TabletsOf ts xs → Each (λ x. Begins x.tablet) xs
 begins-placed ts xs h = each-map xs (subst (Each Begins) (sym h) (begins-from [] ts tt))
 
-floor-step : (f time : ℕ) (kind : Kind) → KindGoes f time kind → f ≤ floor_by f kind
+pub floor-step : (f time : ℕ) (kind : Kind) → KindGoes f time kind → f ≤ floor_by f kind
 floor-step f time (log.Write ops) g = omega arith
 floor-step f time (log.Intent n ops) g = omega arith
 floor-step f time (log.Apply n c) g = omega arith

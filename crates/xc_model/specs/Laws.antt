@@ -1,12 +1,18 @@
 -- The laws of the model, each the contract of one function of the crate.
-use Rattle.std.specs.Prelude.{◌≡◌, ℕ, ◌≤◌, max, true, List, None, slice_index}
+use Rattle.std.specs.Prelude.{◌≡◌, ◌≢◌, ℕ, ◌+◌, ◌≤◌, max, true, List, Some, None, length, take, drop, slice_get, slice_index}
 use Rattle.xc_record.specs.declared.record.Logs.{Logs}
+use Rattle.xc_record.specs.declared.record.Record.{Record}
+use Rattle.xc_record.specs.Accepted.{accepted}
 use Rattle.xc_record.specs.Agreement.{disagreement, Agrees}
 use Rattle.xc_record.specs.Rows.{row}
 use Rattle.xc_record.specs.Valid.{is_valid, headers_of}
+use Rattle.xc_record.specs.declared.session.Command.{Command}
+use Rattle.xc_record.specs.Session.{Session, IsSession, start}
+use Rattle.xc_record.specs.Step.{step, safe_now, lines_from}
 use Rattle.xc_record.specs.SafeTime.{safe_time, IsPlaces}
 use Rattle.xc_model.specs.Kept.{read}
-use Rattle.xc_model.specs.Stands.{TargetTablet, in_range, kept_at, StandsFor, covers, new_tablet, least_kept, KeepsFrom, RestoredTo}
+use Rattle.xc_model.specs.Sessions.{named_times, IsRising}
+use Rattle.xc_model.specs.Stands.{TargetTablet, in_range, kept_at, StandsFor, covers, new_tablet, least_kept, KeepsFrom, RestoredTo, has_started, TakesIn, TakesAll}
 
 -- For logs that agree, a read at a time from the cutoff to what the tablet covers is the row of the logs at that time.
 abbrev pub ReadsShowRows : Type 0
@@ -15,6 +21,15 @@ ReadsShowRows = (logs : Logs) (x : TargetTablet) (u t : ℕ) (k : List ℕ) → 
 -- Well-formed logs in which no disagreement is found have no case of disagreement at any key.
 abbrev pub KeysSuffice : Type 0
 KeysSuffice = (logs : Logs) → is_valid logs ≡ true → disagreement logs ≡ None → Agrees logs
+
+-- One more accepted record r of the source tablet s, which is started, keeps a tablet standing. What is taken in sees what the tablet keeps, and no path.
+abbrev pub DeliveriesKeepStanding : Type 0
+DeliveriesKeepStanding = (logs : Logs) (x y : TargetTablet) (u s : ℕ) (r : Record) → StandsFor logs u x → has_started x s ≡ true → slice_get (accepted logs s) (slice_index x.places s) ≡ Some r → TakesIn s r x y → StandsFor logs u y
+
+-- So do the next accepted records of it, one after another; its place rises by their number, and no other place changes.
+abbrev pub BatchesKeepStanding : Type 0
+BatchesKeepStanding = (logs : Logs) (x y : TargetTablet) (u s : ℕ) (rs : List Record) → StandsFor logs u x → has_started x s ≡ true → rs ≡ take (length rs) (drop (slice_index x.places s) (accepted logs s)) → TakesAll s rs x y
+    → StandsFor logs u y × ((slice_index y.places s ≡ slice_index x.places s + length rs) × ((i : ℕ) → i ≢ s → slice_index y.places i ≡ slice_index x.places i))
 
 -- A new tablet of any range stands for all well-formed logs with its headers, from the cutoff 0.
 abbrev pub NewStands : Type 0
@@ -35,3 +50,23 @@ SafeTimeRises = (logs : Logs) (a b : List ℕ) → IsPlaces logs b → ((s : ℕ
 -- The least over the values that a tablet keeps for roots and for children of closed tablets is the safe time.
 abbrev pub KeptValuesSuffice : Type 0
 KeptValuesSuffice = (logs : Logs) (x : TargetTablet) (u : ℕ) → StandsFor logs u x → least_kept x ≡ covers logs x
+
+-- Each command keeps the session: legal places, the cursor between the acknowledged place and the place, the cutoff at most the safe time.
+abbrev pub StepsKeepSessions : Type 0
+StepsKeepSessions = (logs : Logs) (m : Session) (command : Command) → is_valid logs ≡ true → IsSession logs m → IsSession logs (step logs m command).0
+
+-- The session that nothing was asked of yet is one.
+abbrev pub SessionsStart : Type 0
+SessionsStart = (logs : Logs) → is_valid logs ≡ true → IsSession logs (start logs)
+
+-- No command makes the safe time fall.
+abbrev pub StepsKeepTimes : Type 0
+StepsKeepTimes = (logs : Logs) (m : Session) (command : Command) → is_valid logs ≡ true → IsSession logs m → safe_now logs m ≤ safe_now logs (step logs m command).0
+
+-- Along any list of commands no named time falls.
+abbrev pub NamedTimesRise : Type 0
+NamedTimesRise = (logs : Logs) (m : Session) (commands : List Command) → is_valid logs ≡ true → IsSession logs m → IsRising (safe_now logs m) (named_times (lines_from logs m commands))
+
+-- A closed session stays as it is, whatever is asked of it.
+abbrev pub ClosedStays : Type 0
+ClosedStays = (logs : Logs) (m : Session) (command : Command) (t : ℕ) → m.closed ≡ Some t → (step logs m command).0 ≡ m

@@ -4,7 +4,7 @@
 //! at that time: the transactions committed by then, each in full, and none that commits later.
 #![tactic(auto)]
 
-ghost use Rattle.xc_model.specs.Laws.{ReadsShowRows, KeysSuffice, NewStands, CutoffsKeepStanding, RestoresKeepReads, SafeTimeRises, KeptValuesSuffice};
+ghost use Rattle.xc_model.specs.Laws.{ReadsShowRows, KeysSuffice, NewStands, CutoffsKeepStanding, RestoresKeepReads, SafeTimeRises, KeptValuesSuffice, DeliveriesKeepStanding, BatchesKeepStanding, SessionsStart, StepsKeepSessions, StepsKeepTimes, NamedTimesRise, ClosedStays};
 
 /// For logs that agree, a read at a time from the cutoff to what the tablet covers is the row of the logs at that time.
 pub fn reads_show_rows()
@@ -14,6 +14,16 @@ pub fn reads_show_rows()
 /// Well-formed logs in which no disagreement is found have no case of disagreement at any key.
 pub fn keys_suffice()
     ensures { KeysSuffice }
+{}
+
+/// One more accepted record of a source tablet that is started keeps a target tablet standing.
+pub fn deliveries_keep_standing()
+    ensures { DeliveriesKeepStanding }
+{}
+
+/// So do its next accepted records, one after another; its place rises by their number, and no other place changes.
+pub fn batches_keep_standing()
+    ensures { BatchesKeepStanding }
 {}
 
 /// A new tablet of any range stands for all well-formed logs with its headers, from the cutoff 0.
@@ -39,4 +49,29 @@ pub fn safe_time_rises()
 /// The least over the values that a tablet keeps for roots and for children of closed tablets is the safe time.
 pub fn kept_values_suffice()
     ensures { KeptValuesSuffice }
+{}
+
+/// The session that nothing was asked of yet is one.
+pub fn sessions_start()
+    ensures { SessionsStart }
+{}
+
+/// Each command keeps the session: legal places, the cursor between the acknowledged place and the place, the cutoff at most the safe time.
+pub fn steps_keep_sessions()
+    ensures { StepsKeepSessions }
+{}
+
+/// No command makes the safe time fall.
+pub fn steps_keep_times()
+    ensures { StepsKeepTimes }
+{}
+
+/// Along any list of commands no named time falls.
+pub fn named_times_rise()
+    ensures { NamedTimesRise }
+{}
+
+/// A closed session stays as it is, whatever is asked of it.
+pub fn closed_sessions_stay()
+    ensures { ClosedStays }
 {}

@@ -17,7 +17,9 @@ use Rattle.xc_record.specs.declared.record.Record.{Record}
 use Rattle.xc_record.specs.declared.record.Header.{Header}
 use Rattle.xc_record.specs.declared.record.Tablet.{Tablet}
 use Rattle.xc_record.specs.declared.record.Logs.{Logs}
+use Rattle.std.specs.Result.{IfOk}
 use Rattle.xc_text.specs.declared.kind.LogKind.{LogKind}
+use Rattle.xc_text.specs.declared.kind.LogsFail.{LogsFail}
 use Rattle.xc_text.specs.declared.line.LogLine.{LogLine}
 use Rattle.xc_text.specs.declared.line.LogLine.TheVariants as line
 use Rattle.xc_text.specs.declared.reading.Reading.{Reading}
@@ -25,7 +27,7 @@ use Rattle.xc_text.specs.declared.reading.Stage.{Stage}
 use Rattle.xc_text.specs.declared.reading.Stage.TheVariants.{Start, Headers, Records, Ended}
 use Rattle.xc_text.specs.Kinds.{first_kind}
 use Rattle.xc_text.specs.Lines.{line_of, numbers_fit, names_fit, header_numbers_fit, kind_numbers_fit, kind_names_fit}
-use Rattle.xc_text.specs.LogText.{BadLine, begun, in_range, is_split_off, is_orphaned, misplaced, records_began, breaks_headers, is_unknown, is_out_of_range, is_after_split, is_past_limits, leaves_orphan, kinds, moved, step, step_by, unless_bad, ending, rest_of_text, is_empty, go_on, lines_from, logs_of}
+use Rattle.xc_text.specs.LogText.{BadLine, begun, in_range, is_split_off, is_orphaned, misplaced, records_began, breaks_headers, is_unknown, is_out_of_range, is_after_split, is_past_limits, leaves_orphan, kinds, moved, step, step_by, unless_bad, ending, rest_of_text, is_empty, go_on, lines_from, logs_of, Reads}
 use Rattle.xc_text.proofs.ValidParts.{has_ops, kind_ok, open_fit, ends_split, split_off_is, open_push, grows, all_tablets_ok, is_bare, all_bare_grow, Place, place}
 use Rattle.xc_text.proofs.OpsHeld.{holds_of, line_has_ops, line_some}
 
@@ -284,3 +286,7 @@ valid_from s number (piece ∷ (next ∷ pieces)) logs g h = by (λ after good e
 pub read_is_valid : (text : List ℕ) (logs : Logs) → logs_of text ≡ Ok logs → is_valid logs ≡ true
 unfolding logs_of
 read_is_valid text logs h = valid_from begun 1 (split_on 10 text) logs good_begun h
+
+pub reads_valid : (r : Result Logs LogsFail) (text : List ℕ) → Reads r (logs_of text) → IfOk r (λ logs. is_valid logs ≡ true)
+reads_valid (Ok logs) text h = read_is_valid text logs h
+reads_valid (Err e) text h = tt

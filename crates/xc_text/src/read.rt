@@ -1,5 +1,6 @@
 // Reading a log text.
-ghost use Rattle.std.specs.Prelude.{◌≡◌, Ok, Err};
+ghost use Rattle.std.specs.Prelude.{◌≡◌, IfOk, true};
+ghost use Rattle.xc_record.specs.Valid.{is_valid};
 ghost use Rattle.xc_text.specs.LogText.{at_line, logs_of, rest_of_text, Reads};
 
 use crate::cut::cut;
@@ -8,9 +9,21 @@ use crate::reading::{Reading, Stage};
 use std::alloc::Global;
 use xc_record::Logs;
 
-/// The logs that a text spells.
-#[tactic(auto, unfolding(crate::specs::LogText::logs_of))]
+/// The logs that a log text of version 1 spells. Nothing is looked at but the text itself: the order of the records isn't.
+///
+/// `Bad` comes exactly where the text spells no logs, with its first bad line, counted from 1, and the first kind of
+/// [`LogKind`] for which that line is bad. It takes time and memory in proportion to the text.
 pub fn read_logs(alloc: Global, text: &[u8]) -> Result<Logs, LogsFail>
+    // The logs that the text spells, or its first bad line and the first kind for which it is bad.
+    ensures exact { Reads result (logs_of text.now) }
+    ensures valid { IfOk result (λ logs. is_valid logs ≡ true) }
+{
+    read_lines(alloc, text)
+}
+
+// `read_logs`, line by line.
+#[tactic(auto, unfolding(crate::specs::LogText::logs_of))]
+fn read_lines(alloc: Global, text: &[u8]) -> Result<Logs, LogsFail>
     ensures { Reads result (logs_of text.now) }
 {
     let mut reading = Reading::begun(alloc);

@@ -1,12 +1,5 @@
-use Rattle.std.proofs.Common.{arith}
-use Rattle.xc_text.proofs.StepLaws.{goes_on, stops}
+use Rattle.xc_text.proofs.ValidLaws.{reads_valid}
 use Rattle.xc_text.proofs.read.read_logs.Goals as goal
 
-pub returns-in-Err : goal.returns-in-Err
-returns-in-Err c = rw c.at_line.ensures (stops c.lines.reading _ c.lines.number c.cut.result.0.now c.lines.rest.now c.in-Some.after.now _ c.lines.invariant.whole (rw c.in-Some.is at c.cut.ensures.pieces) c.in-Err.ensures)
-
-pub lines-preserved : goal.lines-preserved
-lines-preserved c = record {
-  whole = goes_on c.lines.reading c.take_line.new.self c.lines.number c.cut.result.0.now c.lines.rest.now c.in-Some.after.now _ c.lines.invariant.whole (rw c.in-Some.is at c.cut.ensures.pieces) c.in_default-take_line.ensures;
-  counted = let shorter = rw c.in-Some.is at c.cut.ensures.shorter in omega (arith, shorter);
-}
+pub returns-clause-valid : goal.returns-clause-valid
+returns-clause-valid c = reads_valid c.read_lines.result c.args.text.now c.read_lines.ensures

@@ -1,0 +1,5 @@
+pub mod Words
+pub mod Later
+pub mod Lines
+pub mod Script
+pub mod Outcome

@@ -5,3 +5,4 @@ pub mod Told
 pub mod Status
 pub mod Streams
 pub mod Ran
+pub mod Words

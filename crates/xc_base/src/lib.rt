@@ -4,6 +4,7 @@
 mod bytes;
 mod memory;
 mod name;
+mod number;
 mod quiet;
 mod status;
 mod streams;
@@ -12,6 +13,7 @@ mod whole;
 pub use bytes::Bytes;
 pub use memory::{MemorySink, MemorySource};
 pub use name::{BadName, Key, Value};
+pub use number::{NumberFail, read_number};
 pub use quiet::{QuietSink, QuietSource};
 pub use status::{Status, Stop};
 pub use streams::{Failed, NoMemory, Sink, SinkFail, Source};

@@ -1,6 +1,7 @@
 -- The scripts that a replay takes now: the first line `xcscript 1`, the second `target 0`, then `poll 0 N` and `read KEY`, then `end`.
 --     script_of text      the commands, or None where the text is no such script
 --     command_of words      the command that the words of a line form
+--     asked request      a request as a command
 use Rattle.std.specs.Prelude.{ℕ, ◌^◌, ◌==◌, ◌&&◌, true, false, nat_le, List, [], ◌∷◌, codes, length, Option, Some, None, option_and_then, if◌then◌else◌}
 use Rattle.std.specs.Option.{option_map}
 use Rattle.std.specs.Str.{bytes_eq}
@@ -8,6 +9,12 @@ use Rattle.xc_base.specs.Names.{is_key}
 use Rattle.xc_base.specs.Words.{split_on, number_of}
 use Rattle.xc_record.specs.declared.session.Command.{Command}
 use Rattle.xc_record.specs.declared.session.Command.TheVariants as command
+use Rattle.xc_tool.specs.declared.script.Request.{Request}
+use Rattle.xc_tool.specs.declared.script.Request.TheVariants.{Poll, Read}
+
+abbrev pub asked : Request → Command
+asked (Poll n) = command.Poll 0 n
+asked (Read key) = command.Read key
 
 -- a poll of 1 to 2^20 records of the one source tablet
 abbrev pub poll_of : ℕ → Option Command
@@ -24,6 +31,11 @@ command_of words = None
 abbrev pub and_before : Option Command → Option (List Command) → Option (List Command)
 and_before None commands = None
 and_before (Some c) commands = option_map (λ cs. c ∷ cs) commands
+
+-- the commands of all lines
+abbrev pub all_commands : List (List ℕ) → Option (List Command)
+all_commands [] = Some []
+all_commands (line ∷ lines) = and_before (command_of (split_on 32 line)) (all_commands lines)
 
 -- the lines after the head: those of commands, `end`, and nothing behind the last line end
 abbrev pub commands_of : List (List ℕ) → Option (List Command)

@@ -2,7 +2,12 @@
 #![tactic(auto)]
 
 mod later;
+mod lines;
+mod refusal;
+mod script;
+mod steps;
 mod words;
 
+pub use refusal::Refusal;
 pub use words::Form;
 pub use xc_base::Status;

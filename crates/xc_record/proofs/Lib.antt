@@ -5,12 +5,5 @@ pub mod AcceptedLaws
 pub mod SafeLaws
 pub mod HeaderLists
 pub mod HeaderLaws
-pub mod PathLaws
 pub mod RowLaws
-pub mod SortLaws
-pub mod WaitingLaws
-pub mod SettledLaws
-pub mod PlaceLaws
 pub mod AgreementLaws
-pub mod StragglerLaws
-pub mod QuietLaws

@@ -4,7 +4,7 @@ use Rattle.std.specs.Prelude.{codes, Bool}
 use Rattle.xc_record.specs.declared.record.AgreeKind.TheVariants.{CommitDiffers, Straggler}
 use Rattle.xc_record.specs.Hash.{hash_of}
 use Rattle.xc_record.specs.Accepted.{accepted_tablets, accepted}
-use Rattle.xc_record.specs.Path.{path_to, waiting, versions}
+use Rattle.xc_record.specs.Path.{path_to, events, waiting, versions}
 use Rattle.xc_record.specs.Rows.{rows, row}
 use Rattle.xc_record.specs.SafeTime.{safe_time}
 use Rattle.xc_record.specs.Agreement.{disagreement}
@@ -62,11 +62,11 @@ split-row : row (with_split 14) 17 z ≡ Some (codes "9")
 unfolding computed
 split-row = refl
 
-split-waits : waiting z (path_to (with_split 14) (4 ∷ 0 ∷ 0 ∷ []) z) ≡ record { txn = 5; value = Some (codes "9") } ∷ []
+split-waits : waiting (events z (path_to (with_split 14) (4 ∷ 0 ∷ 0 ∷ []) z)) ≡ record { txn = 5; value = Some (codes "9") } ∷ []
 unfolding computed
 split-waits = refl
 
-split-versions : versions z (path_to (with_split 14) (4 ∷ 0 ∷ 2 ∷ []) z) ≡ record { commit = 16; txn = 5; value = Some (codes "9") } ∷ []
+split-versions : versions (events z (path_to (with_split 14) (4 ∷ 0 ∷ 2 ∷ []) z)) ≡ record { commit = 16; txn = 5; value = Some (codes "9") } ∷ []
 unfolding computed
 split-versions = refl
 

@@ -1,8 +1,9 @@
--- The agreement of tablets on transactions.
---     kind_at logs n s      how the logs disagree on the transaction n at tablet s, by the first rule
+-- The agreement of tablets on the transactions with an accepted apply.
+--     kind_at logs n commit b      how the logs disagree on the transaction n, which commits at `commit`, at the tablet b: the first of the four cases
 --     disagreement logs      the case of the least transaction, then of the least tablet
-use Rattle.std.specs.Prelude.{ℕ, Bool, true, false, List, [], ◌∷◌, ◌++◌, Option, Some, None, if◌then◌else◌, ◌&&◌, ◌==◌, not, filter, flat_map, nat_le, nat_lt, is_some}
-use Rattle.std.specs.List.{list_any}
+--     Agrees logs      no case stands anywhere: the same four cases as a relation, the stragglers over every key
+use Rattle.std.specs.Prelude.{◌≡◌, ℕ, Bool, true, false, List, [], ◌∷◌, ◌++◌, Option, Some, None, if◌then◌else◌, ◌&&◌, ◌==◌, not, filter, flat_map, nat_le, nat_lt, is_some}
+use Rattle.std.specs.List.{AllByRecursion, list_any}
 use Rattle.std.specs.Option.{option_map_or, option_map}
 use Rattle.xc_record.specs.declared.record.AgreeKind.{AgreeKind}
 use Rattle.xc_record.specs.declared.record.AgreeKind.TheVariants.{CommitDiffers, LateIntent, Aborted, Straggler}
@@ -13,7 +14,7 @@ use Rattle.xc_record.specs.declared.record.Logs.{Logs}
 use Rattle.xc_record.specs.Hash.{hash_of, holds}
 use Rattle.xc_record.specs.Order.{safe_value}
 use Rattle.xc_record.specs.Accepted.{AcceptedTablet, accepted_tablets}
-use Rattle.xc_record.specs.Path.{waiting}
+use Rattle.xc_record.specs.Path.{events, waiting}
 use Rattle.xc_record.specs.Commits.{applies, commit_of, applied, intent_ops, txn_ops}
 use Rattle.xc_record.specs.Lists.{first_some}
 
@@ -37,7 +38,7 @@ aborts n _ = false
 abbrev pub aborted : ℕ → AcceptedTablet → Bool
 aborted n b = list_any (λ r. aborts n r.kind) b.records
 
--- the records of the key's path above the tablet of accepted_tablet b
+-- the records of the key's path above the tablet b
 abbrev pub path_above : List AcceptedTablet → AcceptedTablet → List ℕ → List Record
 path_above all b k = flat_map (λ a. a.records) (filter (λ a. holds a.header (hash_of k) && nat_lt a.header.id b.header.id) all)
 
@@ -45,10 +46,11 @@ path_above all b k = flat_map (λ a. a.records) (filter (λ a. holds a.header (h
 abbrev pub straggles_at : ℕ → ℕ → List ℕ → List Record → List Record → Bool
 straggles_at n commit k before [] = false
 straggles_at n commit k before (r ∷ rs) =
-    if option_map_or (λ value. nat_le commit value) (safe_value r.kind) false && list_any (λ w. w.txn == n) (waiting k before)
+    if option_map_or (λ value. nat_le commit value) (safe_value r.kind) false && list_any (λ w. w.txn == n) (waiting (events k before))
     then true
     else straggles_at n commit k (before ++ r ∷ []) rs
 
+-- The keys of the transaction's own operations are enough: at no other key does one of them wait.
 unfoldable pub straggler : Logs → ℕ → ℕ → AcceptedTablet → Bool
 straggler logs n commit b =
     list_any (λ op. holds b.header (hash_of op.key) && straggles_at n commit op.key (path_above (accepted_tablets logs) b op.key) b.records) (txn_ops logs n)
@@ -68,3 +70,13 @@ disagreement_on logs n commit =
 
 unfoldable pub disagreement : Logs → Option Disagreement
 disagreement logs = first_some (λ n. option_map_or (disagreement_on logs n) (commit_of logs n) None) (applied logs)
+
+-- none of the four cases stands, of the transaction n, which commits at `commit`, at the tablet b
+pub record HasNoCase (logs : Logs) (n commit : ℕ) (b : AcceptedTablet) : Type 0 where
+  pub same_commit : commit_differs n commit b ≡ false
+  pub early_intents : late_intent n commit b ≡ false
+  pub no_abort : aborted n b ≡ false
+  pub no_straggler : (k : List ℕ) → holds b.header (hash_of k) ≡ true → straggles_at n commit k (path_above (accepted_tablets logs) b k) b.records ≡ false
+
+pub record Agrees (logs : Logs) : Type 0 where
+  pub no_case : (n commit : ℕ) → commit_of logs n ≡ Some commit → AllByRecursion (HasNoCase logs n commit) (accepted_tablets logs)

@@ -1,22 +1,23 @@
--- The records on a key's path, what waits there, and the key's versions.
+-- What the accepted records say of one key: its path, its events, its versions, and what waits there.
 --     path logs k      the accepted records of the tablets that hold the key's hash, parents first
 --     path_to logs places k      the same, of each tablet those up to its place
---     waiting k rs      what waits of the key after the records rs: for each operation of an intent that no later apply or abort of its
---                       transaction settled, the transaction and the value (None: it removes the key)
---     versions k rs      the key's versions after rs, in the order of commits
-use Rattle.std.specs.Prelude.{ℕ, Bool, false, List, [], ◌∷◌, ◌++◌, Option, Some, None, if◌then◌else◌, ◌==◌, filter, map, flat_map, take, bytes_eq, slice_index}
-use Rattle.std.specs.List.{list_any}
-use Rattle.std.specs.Option.{option_map_or}
+--     events k rs      what the records rs say of the key, in their order
+--     fate n es      what the events es make of an operation of transaction n that stands before them
+--     waiting es      the operations that wait after es, in the order of the path
+--     versions es      the versions that es give, by commit and transaction number; those that tie stay in the order of the path
+use Rattle.std.specs.Prelude.{ℕ, List, [], ◌∷◌, ◌++◌, Option, if◌then◌else◌, ◌==◌, filter, map, flat_map, take, bytes_eq, slice_index}
 use Rattle.std.specs.declared.cmp.Ordering.{Ordering}
 use Rattle.std.specs.Ordering.{nat_cmp, ordering_then}
 use Rattle.xc_record.specs.declared.record.Kind.{Kind}
-use Rattle.xc_record.specs.declared.record.Kind.TheVariants.{Write, Intent, Apply, Abort, Safe, Split}
+use Rattle.xc_record.specs.declared.record.Kind.TheVariants as kind
 use Rattle.xc_record.specs.declared.record.Op.{Op}
 use Rattle.xc_record.specs.declared.record.Record.{Record}
 use Rattle.xc_record.specs.declared.record.Logs.{Logs}
 use Rattle.xc_record.specs.Hash.{hash_of, holds}
 use Rattle.xc_record.specs.Accepted.{AcceptedTablet, accepted_tablets}
 use Rattle.xc_record.specs.Lists.{sort_by}
+
+-- ---- the path
 
 unfoldable pub holders : Logs → List ℕ → List AcceptedTablet
 holders logs k = filter (λ b. holds b.header (hash_of k)) (accepted_tablets logs)
@@ -27,65 +28,102 @@ path logs k = flat_map (λ b. b.records) (holders logs k)
 unfoldable pub path_to : Logs → List ℕ → List ℕ → List Record
 path_to logs places k = flat_map (λ b. take (slice_index places b.header.id) b.records) (holders logs k)
 
--- what the operations put at the key, in their order
-abbrev pub puts : List ℕ → List Op → List (Option (List ℕ))
+-- ---- the events of a key
+
+-- what an operation writes at its key: a value, or None where it removes the key
+abbrev pub Written : Type 0
+Written = Option (List ℕ)
+
+pub data Event : Type 0 where
+  -- an operation of a write, at its log time
+  Put : ℕ → Written → Event
+  -- an operation of an intent: the transaction, and the intent's log time
+  Hold : ℕ → ℕ → Written → Event
+  -- an apply: the transaction and its commit
+  Apply : ℕ → ℕ → Event
+  -- an abort of the transaction
+  Abort : ℕ → Event
+  -- a safe record of this value
+  Safe : ℕ → Event
+
+-- what the operations write at the key, in their order
+abbrev pub puts : List ℕ → List Op → List Written
 puts k [] = []
 puts k (op ∷ ops) = if bytes_eq k op.key then (op.value ∷ puts k ops) else puts k ops
 
--- an apply or an abort of the transaction
-abbrev pub settles : ℕ → Kind → Bool
-settles n (Apply txn commit) = txn == n
-settles n (Abort txn) = txn == n
-settles n _ = false
+abbrev pub kind_events : List ℕ → ℕ → Kind → List Event
+kind_events k time (kind.Write ops) = map (λ v. Put time v) (puts k ops)
+kind_events k time (kind.Intent n ops) = map (λ v. Hold n time v) (puts k ops)
+kind_events k time (kind.Apply n commit) = Apply n commit ∷ []
+kind_events k time (kind.Abort n) = Abort n ∷ []
+kind_events k time (kind.Safe value) = Safe value ∷ []
+kind_events k time (kind.Split at left right) = []
 
+abbrev pub record_events : List ℕ → Record → List Event
+record_events k r = kind_events k r.time r.kind
+
+abbrev pub events : List ℕ → List Record → List Event
+events k rs = flat_map (record_events k) rs
+
+-- ---- what becomes of an operation
+
+-- The next apply or abort of its transaction on the path decides.
+pub data Fate : Type 0 where
+  -- there is none yet
+  Waits : Fate
+  -- an apply took it, at this commit
+  Taken : ℕ → Fate
+  -- an abort dropped it
+  Dropped : Fate
+
+abbrev pub fate : ℕ → List Event → Fate
+fate n [] = Waits
+fate n (Put time v ∷ es) = fate n es
+fate n (Hold m time v ∷ es) = fate n es
+fate n (Apply m commit ∷ es) = if m == n then Taken commit else fate n es
+fate n (Abort m ∷ es) = if m == n then Dropped else fate n es
+fate n (Safe value ∷ es) = fate n es
+
+-- an operation that waits
 pub record Waiting : Type 0 where
   pub txn : ℕ
-  pub value : Option (List ℕ)
+  pub value : Written
 
--- what the record leaves waiting after the later records
-abbrev pub waits_of : List ℕ → Kind → List Record → List Waiting
-waits_of k (Intent n ops) later =
-    if list_any (λ r. settles n r.kind) later then [] else map (λ v. record { txn = n; value = v }) (puts k ops)
-waits_of k _ later = []
+abbrev pub waiting_by : Fate → ℕ → Written → List Waiting
+waiting_by Waits n v = record { txn = n; value = v } ∷ []
+waiting_by (Taken commit) n v = []
+waiting_by Dropped n v = []
 
-abbrev pub waiting : List ℕ → List Record → List Waiting
-waiting k [] = []
-waiting k (r ∷ rs) = waits_of k r.kind rs ++ waiting k rs
+abbrev pub waiting : List Event → List Waiting
+waiting [] = []
+waiting (Put time v ∷ es) = waiting es
+waiting (Hold n time v ∷ es) = waiting_by (fate n es) n v ++ waiting es
+waiting (Apply n commit ∷ es) = waiting es
+waiting (Abort n ∷ es) = waiting es
+waiting (Safe value ∷ es) = waiting es
 
--- the commit of the next apply of the transaction, where no abort of it comes before
-abbrev pub settled_by : ℕ → Kind → Option ℕ → Option ℕ
-settled_by n (Apply txn commit) later = if txn == n then Some commit else later
-settled_by n (Abort txn) later = if txn == n then None else later
-settled_by n (Write ops) later = later
-settled_by n (Intent txn ops) later = later
-settled_by n (Safe value) later = later
-settled_by n (Split at left right) later = later
-
-abbrev pub settled : ℕ → List Record → Option ℕ
-settled n [] = None
-settled n (r ∷ rs) = settled_by n r.kind (settled n rs)
-
+-- a version of the key: its commit, its transaction (0: a write), and what it leaves there
 pub record Version : Type 0 where
   pub commit : ℕ
   pub txn : ℕ
-  pub value : Option (List ℕ)
+  pub value : Written
 
-abbrev pub versions_at : ℕ → ℕ → List (Option (List ℕ)) → List Version
-versions_at commit n vs = map (λ v. record { commit = commit; txn = n; value = v }) vs
-
--- the versions that come of the record, with the later records
-abbrev pub versions_of : List ℕ → ℕ → Kind → List Record → List Version
-versions_of k time (Write ops) later = versions_at time 0 (puts k ops)
-versions_of k time (Intent n ops) later = option_map_or (λ commit. versions_at commit n (puts k ops)) (settled n later) []
-versions_of k time _ later = []
+abbrev pub version_by : Fate → ℕ → Written → List Version
+version_by Waits n v = []
+version_by (Taken commit) n v = record { commit = commit; txn = n; value = v } ∷ []
+version_by Dropped n v = []
 
 -- in the order of the path
-abbrev pub versions_along : List ℕ → List Record → List Version
-versions_along k [] = []
-versions_along k (r ∷ rs) = versions_of k r.time r.kind rs ++ versions_along k rs
+abbrev pub versions_along : List Event → List Version
+versions_along [] = []
+versions_along (Put time v ∷ es) = record { commit = time; txn = 0; value = v } ∷ versions_along es
+versions_along (Hold n time v ∷ es) = version_by (fate n es) n v ++ versions_along es
+versions_along (Apply n commit ∷ es) = versions_along es
+versions_along (Abort n ∷ es) = versions_along es
+versions_along (Safe value ∷ es) = versions_along es
 
 abbrev pub version_cmp : Version → Version → Ordering
 version_cmp x y = ordering_then (nat_cmp x.commit y.commit) (nat_cmp x.txn y.txn)
 
-abbrev pub versions : List ℕ → List Record → List Version
-versions k rs = sort_by version_cmp (versions_along k rs)
+abbrev pub versions : List Event → List Version
+versions es = sort_by version_cmp (versions_along es)

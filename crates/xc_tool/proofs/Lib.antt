@@ -1,2 +1,4 @@
 pub mod Scripts
 pub mod NumberLists
+pub mod OneTablet
+pub mod OneLogs

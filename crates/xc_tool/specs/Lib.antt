@@ -2,4 +2,5 @@ pub mod Words
 pub mod Later
 pub mod Lines
 pub mod Script
+pub mod OneTablet
 pub mod Outcome

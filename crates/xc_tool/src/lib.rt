@@ -5,6 +5,7 @@ mod later;
 mod lines;
 mod refusal;
 mod script;
+mod session;
 mod steps;
 mod words;
 

@@ -155,6 +155,7 @@ fn add_pair(text: &mut Bytes, key: &Key, value: &Option<Value>) -> Result<(), Al
     }
 }
 
+#[tactic(auto, using(std::proofs::lemmas::Grind::common_steps))]
 fn report(
     alloc: Global,
     acks: &[u64],
@@ -169,21 +170,35 @@ fn report(
     let acks = number_list(alloc, acks)?;
     let cursors = number_list(alloc, cursors)?;
     let places = number_list(alloc, places)?;
+    let closed = truth(closed);
     let line = format!(in alloc; "report {{\"acks\":{acks},\"closed\":{closed},\"cursors\":{cursors},\"cutoff\":{cutoff},\"places\":{places},\"safe\":{safe}}}\n")?;
     Ok(bytes_of(line))
+}
+
+fn truth(flag: bool) -> &'static str
+    ensures { result.now ≡ truth flag }
+{
+    if flag { "true" } else { "false" }
 }
 
 // The numbers parted by commas, in brackets.
 fn number_list(alloc: Global, numbers: &[u64]) -> Result<String, AllocError>
     ensures { IfOk result (λ text. string_bytes text ≡ number_list numbers.now) }
 {
-    let mut text = String::from_str(alloc, "[")?;
-    for (i, number) in numbers.iter().enumerate() {
-        if i > 0 {
-            text.push_str(",")?;
-        }
-        let digits = format!(in alloc; "{number}")?;
-        text.push_str(digits.as_str())?;
+    match numbers {
+        [] => String::from_str(alloc, "[]"),
+        [first, rest @ ..] => listed(alloc, *first, rest),
+    }
+}
+
+#[tactic(auto, using(std::proofs::lemmas::Grind::common_steps, crate::proofs::NumberLists::join_numbers))]
+fn listed(alloc: Global, first: u64, rest: &[u64]) -> Result<String, AllocError>
+    ensures { IfOk result (λ text. string_bytes text ≡ number_list (first ∷ rest.now)) }
+{
+    let mut text = format!(in alloc; "[{first}")?;
+    for number in rest {
+        let more = format!(in alloc; ",{number}")?;
+        text.push_str(more.as_str())?;
     }
     text.push_str("]")?;
     Ok(text)

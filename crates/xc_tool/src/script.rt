@@ -91,9 +91,14 @@ fn is_end(line: &[u8], rest: &[u8]) -> bool
 fn requests_to_end(alloc: Global, lines: &[&[u8]]) -> Result<Option<Requests>, AllocError>
     ensures { IfOk result (λ requests. requests ≡ commands_of (map (λ line. line.now) lines.now)) }
 {
-    match lines {
-        [before @ .., end, rest] if is_end(end, rest) => all_requests(alloc, before),
-        _ => Ok(None),
+    if lines.len() < 2 {
+        return Ok(None);
+    }
+    let count = lines.len() - 2;
+    if is_end(lines[count], lines[count + 1]) {
+        all_requests(alloc, &lines[..count])
+    } else {
+        Ok(None)
     }
 }
 

@@ -2,3 +2,4 @@ pub mod Scripts
 pub mod NumberLists
 pub mod OneTablet
 pub mod OneLogs
+pub mod OneSteps

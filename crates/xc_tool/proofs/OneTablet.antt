@@ -66,7 +66,7 @@ accepted_one records place order r lt is e = rw (next_record records place r lt 
 
 -- ---- the halt
 
-halts_later : (p : Progress) (number : ℕ) (xs ys : List Record) → accepted_from p xs ≡ xs → halt_from p number (xs ++ ys) ≡ halt_from (fold after p xs) (number + length xs) ys
+pub halts_later : (p : Progress) (number : ℕ) (xs ys : List Record) → accepted_from p xs ≡ xs → halt_from p number (xs ++ ys) ≡ halt_from (fold after p xs) (number + length xs) ys
 halts_later p number [] ys e = ap (λ n. halt_from p n ys) (sym (add-zero number))
 halts_later p number (x ∷ xs) ys e = grind (arith, halts_later (after p x) (number + 1) xs ys)
 
@@ -113,7 +113,7 @@ pull_stops records i end order r kind goal within is broken count =
 
 -- ---- the safe time
 
-floor_of : (p : Progress) (rs : List Record) → floor_after p.floor rs ≡ (fold after p rs).floor
+pub floor_of : (p : Progress) (rs : List Record) → floor_after p.floor rs ≡ (fold after p rs).floor
 floor_of p [] = refl
 floor_of p (r ∷ rs) = floor_of (after p r) rs
 

@@ -3,10 +3,14 @@
 --     run_of form logs script      the same of one command, or why the input is refused, in the order of work
 --     reads_of form      which sources the command reads
 --     line_of refusal, refusal_status refusal      the line that a refusal writes, and its status
-use Rattle.std.specs.Prelude.{ℕ, ◌^◌, true, false, if◌then◌else◌, List, [], ◌++◌, codes, decimal, Option, Some, None, Result, Ok, Err}
+--     InOrder reads result logs script      a refusal came in the order of work
+use Rattle.std.specs.Prelude.{◌≡◌, ℕ, ◌^◌, true, false, if◌then◌else◌, List, [], ◌++◌, codes, decimal, Option, Some, None, Result, Ok, Err}
 use Rattle.std.specs.List.{list_any}
 use Rattle.xc_base.specs.declared.status.Status.{Status}
 use Rattle.xc_base.specs.declared.status.Status.TheVariants as status
+use Rattle.xc_base.specs.declared.status.Stop.{Stop}
+use Rattle.xc_base.specs.declared.status.Stop.TheVariants as stop
+use Rattle.xc_base.specs.Streams.{Stream, IsUntouched, Used}
 use Rattle.xc_base.specs.Ran.{Output, Reads, ◌>>=◌, output_of, within}
 use Rattle.xc_record.specs.declared.record.Logs.{Logs}
 use Rattle.xc_record.specs.declared.session.Command.{Command}
@@ -110,3 +114,23 @@ output_for form logs script = output_of refusal_output (run_of form logs script)
 -- the same by its words
 abbrev pub outcome : List (List ℕ) → List ℕ → List ℕ → Output
 outcome words = output_for (form_of words)
+
+-- ---- what a refusal leaves, beside its line
+
+-- Where the logs are refused, the script is as it was. Where the script is, the logs were read to their end.
+pub record InOrder (reads : Reads) (result : Status) (logs script : Stream) : Type 0 where
+  pub logs_first : result ≡ status.BadLogs → IsUntouched script
+  pub script_next : result ≡ status.BadScript → Used reads.logs (Unit {0}) logs
+
+-- the same of an input that stopped
+abbrev pub StopsInOrder : Reads → Stop Refusal → Stream → Stream → Type 0
+StopsInOrder reads (stop.Refused refusal) logs script = InOrder reads (refusal_status refusal) logs script
+StopsInOrder reads stop.ReadFault logs script = Unit {0}
+StopsInOrder reads stop.NoMemory logs script = Unit {0}
+
+-- what words that form no command may end with
+abbrev pub IsUsage : Status → Type 0
+IsUsage status.Usage = Unit {0}
+IsUsage status.WriteFault = Unit {0}
+IsUsage status.NoMemory = Unit {0}
+IsUsage other = ⊥

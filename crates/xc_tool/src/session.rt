@@ -50,13 +50,17 @@ impl Session {
             return Line::AtEnd { id: 0 };
         }
         let mut order = self.order;
-        if let Err(kind) = order.take(&records[place]) {
-            let number = place as u64 + 1;
-            return Line::Halt { id: 0, number, kind };
+        match order.take(&records[place]) {
+            Err(kind) => {
+                let number = place as u64 + 1;
+                Line::Halt { id: 0, number, kind }
+            }
+            Ok(()) => {
+                *self = pull(*self, records, n);
+                let count = (self.place - place) as u64;
+                Line::Polled { id: 0, count }
+            }
         }
-        *self = pull(*self, records, n);
-        let count = (self.place - place) as u64;
-        Line::Polled { id: 0, count }
     }
 
     fn read(&mut self, records: &[Record], key: Key) -> Line

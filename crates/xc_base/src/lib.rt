@@ -62,6 +62,10 @@ mod tests {
             assert!(rt; Key::new(name.as_bytes()).err() == key, "{name}");
             assert!(rt; Value::new(name.as_bytes()).err() == value, "{name}");
         }
+        assert!(rt;
+            Key::new(b"order/10").ok() < Key::new(b"order/2").ok(),
+            "by bytes"
+        );
     }
 
     // What five bytes give, with these limit and failing call: how many bytes, or how it failed.

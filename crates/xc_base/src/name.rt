@@ -1,9 +1,13 @@
 // Keys and values. Their bytes lie inline, so that an operation takes no memory of its own.
-ghost use Rattle.std.specs.Prelude.{◌≡◌, IsTrue, IfOk, not};
+ghost use Rattle.std.specs.Prelude.{◌≡◌, IsTrue, IfOk, not, bytes_eq, Some, refl};
+ghost use Rattle.std.specs.Cmp.{partial_equiv_from_equiv};
+ghost use Rattle.std.specs.Cmp.Lexicographic.{slice_cmp, nat_list_eq_equiv, nat_list_cmp_total, texts_ties, texts_po};
+ghost use Rattle.std.specs.Ordering.{nat_cmp};
 ghost use Rattle.std.specs.Result.{result_err};
 ghost use Rattle.xc_base.specs.Names.{is_key, is_value, in_alphabet, name_fault, key_fault, value_fault};
 ghost use Rattle.std.specs.List.{position_or_len};
 
+use std::cmp::Ordering;
 use std::marker::Model;
 
 /// The most bytes of a key.
@@ -12,8 +16,8 @@ pub const KEY_BYTES: usize = 32;
 /// The most bytes of a value.
 pub const VALUE_BYTES: usize = 64;
 
-/// A key: 1 to 32 bytes, each a letter, a digit or one of `_ . - / :`.
-#[derive(Clone, Copy, PartialEq, Eq, Debug)]
+/// A key: 1 to 32 bytes, each a letter, a digit or one of `_ . - / :`. Keys are ordered by their bytes.
+#[derive(Clone, Copy, Debug)]
 pub struct Key {
     len: u8,
     bytes: [u8; KEY_BYTES],
@@ -101,6 +105,44 @@ impl Key {
         ensures key { IsTrue (is_key self.now) }
     {
         &self.bytes[..self.len as usize]
+    }
+}
+
+impl PartialEq for Key {
+    ghost eq = { bytes_eq };
+
+    ghost laws = { partial_equiv_from_equiv nat_list_eq_equiv };
+
+    fn eq(&self, other: &Key) -> bool {
+        self.bytes() == other.bytes()
+    }
+}
+
+impl Eq for Key {
+    ghost laws = { nat_list_eq_equiv };
+}
+
+impl PartialOrd for Key {
+    ghost partial_cmp = { λ x y. Some (slice_cmp nat_cmp x y) };
+
+    ghost laws = { texts_po };
+
+    fn partial_cmp(&self, other: &Key) -> Option<Ordering> {
+        Some(self.cmp(other))
+    }
+}
+
+impl Ord for Key {
+    ghost cmp = { slice_cmp nat_cmp };
+
+    ghost total = { nat_list_cmp_total };
+
+    ghost matches_partial_cmp = { λ x y. refl };
+
+    ghost matches_eq = { texts_ties };
+
+    fn cmp(&self, other: &Key) -> Ordering {
+        self.bytes().cmp(other.bytes())
     }
 }
 

@@ -10,3 +10,4 @@ pub use key_hash::hash;
 pub use record::{AgreeKind, Break, Header, Kind, Logs, Op, Ops, Record, Records, Tablet, Tablets};
 pub use rules::{Next, valid};
 pub use session::{Command, Line, Numbers, PollAnswer};
+pub use xc_time::HybridTime;

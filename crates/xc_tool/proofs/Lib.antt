@@ -3,3 +3,4 @@ pub mod NumberLists
 pub mod OneTablet
 pub mod OneLogs
 pub mod OneSteps
+pub mod Requests

@@ -46,7 +46,7 @@ one_header h e =
     let range = and_parts _ (parent_fits [] (RootAt 0) h h.parent) id.1 in
     (eqb-true h.id 0 id.0, parent_none h h.parent range.1)
 
-valid_parts : (logs : Logs) → is_valid logs ≡ true → (headers_fit (headers_of logs.tablets) ≡ true) × (list_all (tablet_fits (headers_of logs.tablets)) logs.tablets ≡ true)
+pub valid_parts : (logs : Logs) → is_valid logs ≡ true → (headers_fit (headers_of logs.tablets) ≡ true) × (list_all (tablet_fits (headers_of logs.tablets)) logs.tablets ≡ true)
 unfolding is_valid
 valid_parts logs e =
     let outer = and_parts (headers_fit (headers_of logs.tablets)) _ e in

@@ -60,10 +60,8 @@ fn run_session<O: Sink>(alloc: Global, logs: &Logs, requests: &Requests, out: &m
     requires { IsTaken logs.now }
     ensures { Wrote (replay_output (logs.now, requests.now)) ⊥ result (stream O.written O.faults out.old out.new) }
 {
-    match logs.tablets.as_slice() {
-        [tablet] => run_requests(alloc, tablet.records.as_slice(), requests.as_slice(), out),
-        _ => Status::Ok,
-    }
+    let tablet = &logs.tablets.as_slice()[0];
+    run_requests(alloc, tablet.records.as_slice(), requests.as_slice(), out)
 }
 
 // Answers all requests over the records of the one tablet.
@@ -80,7 +78,7 @@ fn run_requests<O: Sink>(
     let mut halted = false;
     for request in requests {
         let line = session.answer(records, *request);
-        halted = halted || is_halt(&line);
+        halted = halted | is_halt(&line);
         let Ok(text) = line_text(alloc, &line) else {
             return Status::NoMemory;
         };

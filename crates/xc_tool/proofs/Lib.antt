@@ -4,3 +4,4 @@ pub mod OneTablet
 pub mod OneLogs
 pub mod OneSteps
 pub mod Requests
+pub mod Statuses

@@ -170,9 +170,25 @@ fn report(
     let acks = number_list(alloc, acks)?;
     let cursors = number_list(alloc, cursors)?;
     let places = number_list(alloc, places)?;
-    let closed = truth(closed);
-    let line = format!(in alloc; "report {{\"acks\":{acks},\"closed\":{closed},\"cursors\":{cursors},\"cutoff\":{cutoff},\"places\":{places},\"safe\":{safe}}}\n")?;
-    Ok(bytes_of(line))
+    let front = report_front(alloc, acks.as_str(), truth(closed), cursors.as_str())?;
+    let back = report_back(alloc, cutoff, places.as_str(), safe)?;
+    let mut text = bytes_of(front);
+    text.extend(back.as_bytes())?;
+    Ok(text)
+}
+
+fn report_front(alloc: Global, acks: &str, closed: &str, cursors: &str) -> Result<String, AllocError>
+    ensures { IfOk result (λ text. string_bytes text ≡ codes "report {\"acks\":" ++ (acks.now ++ (codes ",\"closed\":" ++ (closed.now ++ (codes ",\"cursors\":" ++ cursors.now))))) }
+{
+    let text = format!(in alloc; "report {{\"acks\":{acks},\"closed\":{closed},\"cursors\":{cursors}")?;
+    Ok(text)
+}
+
+fn report_back(alloc: Global, cutoff: u64, places: &str, safe: u64) -> Result<String, AllocError>
+    ensures { IfOk result (λ text. string_bytes text ≡ codes ",\"cutoff\":" ++ (decimal cutoff ++ (codes ",\"places\":" ++ (places.now ++ (codes ",\"safe\":" ++ (decimal safe ++ codes "}\n")))))) }
+{
+    let text = format!(in alloc; ",\"cutoff\":{cutoff},\"places\":{places},\"safe\":{safe}}}\n")?;
+    Ok(text)
 }
 
 fn truth(flag: bool) -> &'static str

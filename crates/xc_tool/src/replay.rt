@@ -60,8 +60,10 @@ fn run_session<O: Sink>(alloc: Global, logs: &Logs, requests: &Requests, out: &m
     requires { IsTaken logs.now }
     ensures { Wrote (replay_output (logs.now, requests.now)) ⊥ result (stream O.written O.faults out.old out.new) }
 {
-    let tablet = &logs.tablets.as_slice()[0];
-    run_requests(alloc, tablet.records.as_slice(), requests.as_slice(), out)
+    let tablets = logs.tablets.as_slice();
+    let records = tablets[0].records.as_slice();
+    let asked = requests.as_slice();
+    run_requests(alloc, records, asked, out)
 }
 
 // Answers all requests over the records of the one tablet.

@@ -1,5 +1,5 @@
 -- Numbers parted by commas, one after the other.
-use Rattle.std.proofs.Common.{◌≡◌, ℕ, Bool, List, [], ◌∷◌, ◌++◌, refl, sym, ap, ◌∙◌, map, append_assoc}
+use Rattle.std.proofs.Common.{◌≡◌, ℕ, Bool, List, [], ◌∷◌, ◌++◌, sym, ap, map, append_assoc}
 use Rattle.std.proofs.lemmas.List.{append-nil}
 use Rattle.std.specs.Prelude.{decimal, codes}
 use Rattle.std.specs.List.{join_with_byte}
@@ -17,9 +17,9 @@ join_numbers n (m ∷ ns) = ap (λ l. decimal n ++ 44 ∷ l) (join_numbers m ns)
 -- the two parts of a report are the report
 pub report_joined : (acks closed cursors cutoff places safe : List ℕ)
     → (codes "report {\"acks\":" ++ (acks ++ (codes ",\"closed\":" ++ (closed ++ (codes ",\"cursors\":" ++ cursors)))))
-      ++ (codes ",\"cutoff\":" ++ (cutoff ++ (codes ",\"places\":" ++ (places ++ (codes ",\"safe\":" ++ (safe ++ codes "}\n"))))))
+    ++ (codes ",\"cutoff\":" ++ (cutoff ++ (codes ",\"places\":" ++ (places ++ (codes ",\"safe\":" ++ (safe ++ codes "}\n"))))))
     ≡ codes "report " ++ ((codes "{\"acks\":" ++ acks ++ codes ",\"closed\":" ++ closed ++ codes ",\"cursors\":" ++ cursors
-      ++ codes ",\"cutoff\":" ++ cutoff ++ codes ",\"places\":" ++ places ++ codes ",\"safe\":" ++ safe ++ codes "}") ++ codes "\n")
+    ++ codes ",\"cutoff\":" ++ cutoff ++ codes ",\"places\":" ++ places ++ codes ",\"safe\":" ++ safe ++ codes "}") ++ codes "\n")
 report_joined acks closed cursors cutoff places safe = simp append_assoc
 
 pub report_is : (text start tail front back acks closed cursors places as_acks as_cursors as_places : List ℕ) (flag : Bool) (cutoff safe : ℕ)
@@ -28,6 +28,6 @@ pub report_is : (text start tail front back acks closed cursors places as_acks a
     → back ≡ codes ",\"cutoff\":" ++ (decimal cutoff ++ (codes ",\"places\":" ++ (places ++ (codes ",\"safe\":" ++ (decimal safe ++ codes "}\n")))))
     → acks ≡ as_acks → closed ≡ truth flag → cursors ≡ as_cursors → places ≡ as_places
     → text ≡ codes "report " ++ ((codes "{\"acks\":" ++ as_acks ++ codes ",\"closed\":" ++ truth flag ++ codes ",\"cursors\":" ++ as_cursors
-      ++ codes ",\"cutoff\":" ++ decimal cutoff ++ codes ",\"places\":" ++ as_places ++ codes ",\"safe\":" ++ decimal safe ++ codes "}") ++ codes "\n")
+    ++ codes ",\"cutoff\":" ++ decimal cutoff ++ codes ",\"places\":" ++ as_places ++ codes ",\"safe\":" ++ decimal safe ++ codes "}") ++ codes "\n")
 report_is text start tail front back acks closed cursors places as_acks as_cursors as_places flag cutoff safe t s l f b a c u p =
     rw (t, s, l, f, b, a, c, u, p) (report_joined as_acks (truth flag) as_cursors (decimal cutoff) as_places (decimal safe))

@@ -1,37 +1,33 @@
 -- Logs of one root tablet without transactions: their commits, their rows, their safe time, and the steps of their session.
-use Rattle.std.proofs.Common.{◌≡◌, ℕ, zero, suc, ◌+◌, ◌-◌, ◌≤◌, ◌<◌, ◌^◌, min, max, Bool, true, false, List, [], ◌∷◌, ◌++◌, length, map, take, drop, refl, sym, ap, ◌∙◌, subst, arith, append_assoc, lit<}
-use Rattle.std.specs.Prelude.{Option, Some, None, fold, filter, flat_map, is_none, is_some, nat_le, if◌then◌else◌, ◌&&◌, ◌==◌}
+use Rattle.std.proofs.Common.{◌≡◌, ℕ, zero, suc, ◌≤◌, ◌<◌, ◌^◌, Bool, true, false, List, [], ◌∷◌, ◌++◌, length, take, drop, refl, sym, ap, ◌∙◌, arith, lit<}
+use Rattle.std.specs.Prelude.{Option, Some, None, fold, filter, flat_map, nat_le, if◌then◌else◌, ◌&&◌, ◌==◌}
 use Rattle.std.specs.List.{list_any, list_all, filter_map}
 use Rattle.std.specs.Option.{option_map_or}
-use Rattle.std.specs.Ordering.{is_gt, nat_cmp}
+use Rattle.std.specs.Ordering.{is_gt}
 use Rattle.std.specs.declared.cmp.Ordering.TheVariants.{Less}
 use Rattle.std.specs.Cmp.{nat_cmp_is}
-use Rattle.std.proofs.lemmas.List.{append-nil, take-append-drop, take_at, length-take-le, drop_all}
-use Rattle.std.proofs.lemmas.Bool.{eqb-true, and_parts, ne_eqb}
+use Rattle.std.proofs.lemmas.List.{append-nil, take_at, length-take-le}
+use Rattle.std.proofs.lemmas.Bool.{and_parts}
 use Rattle.std.proofs.lemmas.Bool.Decides.{nat_tests}
 use Rattle.xc_record.specs.declared.record.Kind.{Kind}
 use Rattle.xc_record.specs.declared.record.Kind.TheVariants.{Write, Intent, Apply, Abort, Safe, Split}
 use Rattle.xc_record.specs.declared.record.Op.{Op}
 use Rattle.xc_record.specs.declared.record.Record.{Record}
 use Rattle.xc_record.specs.declared.record.Header.{Header}
-use Rattle.xc_record.specs.declared.record.Tablet.{Tablet}
 use Rattle.xc_record.specs.declared.record.Logs.{Logs}
-use Rattle.xc_record.specs.declared.record.Break.{Break}
-use Rattle.xc_record.specs.declared.rules.Next.TheVariants.{RootAt}
-use Rattle.xc_record.specs.Accepted.{AcceptedTablet, accepted_tablets, accepted_tablet_from, root_start, halt_from, halt}
+use Rattle.xc_record.specs.Accepted.{accepted_tablets, root_start}
 use Rattle.xc_record.specs.Commits.{Commit, commit_cmp, write_ops, writes_in, applied_txn, applied, write_commits, txn_commits, commits}
-use Rattle.xc_record.specs.Headers.{headers_fit, parent_fits, children}
 use Rattle.xc_record.specs.Lists.{sort_by, insert_by}
-use Rattle.xc_record.specs.Order.{Progress, after, accepted_from, break_of, is_split, safe_value}
+use Rattle.xc_record.specs.Order.{Progress, after, accepted_from, safe_value}
 use Rattle.xc_record.specs.Path.{puts}
 use Rattle.xc_record.specs.Rows.{row, ops_to}
-use Rattle.xc_record.specs.SafeTime.{safe_time, floor_after, is_closed_in, last_safe_in}
-use Rattle.xc_record.specs.Valid.{is_valid, record_fits, kind_fits, ends_fit}
+use Rattle.xc_record.specs.SafeTime.{safe_time, floor_after}
+use Rattle.xc_record.specs.Valid.{record_fits, kind_fits, ends_fit}
 use Rattle.xc_record.proofs.OrderLaws.{accepted-rises, Rises}
 use Rattle.xc_record.proofs.RowLaws.{row-puts, after_puts}
-use Rattle.xc_tool.specs.Later.{is_of_transaction, IsTaken}
-use Rattle.xc_tool.specs.OneTablet.{IsPulled, HasRecords, shown_ops, visible_ops, value_after}
-use Rattle.xc_tool.proofs.OneTablet.{accepted_rest, floor_of, visible_pulled, value-puts}
+use Rattle.xc_tool.specs.Later.{is_of_transaction}
+use Rattle.xc_tool.specs.OneTablet.{IsPulled, visible_ops, value_after}
+use Rattle.xc_tool.proofs.OneTablet.{accepted_rest, floor_of, value-puts}
 
 abbrev header_of : ℕ → ℕ → Header
 header_of lo hi = record { id = 0; lo = lo; hi = hi; parent = None }

@@ -1,9 +1,9 @@
 -- The steps of the session over logs of one root tablet.
-use Rattle.std.proofs.Common.{◌≡◌, ℕ, ◌+◌, ◌-◌, ◌≤◌, ◌<◌, min, max, Bool, true, false, List, [], ◌∷◌, ◌++◌, length, map, take, drop, suc, get_or, refl, sym, ap, ◌∙◌, subst, arith, length-append, drop_of_length-le}
-use Rattle.std.specs.Prelude.{Option, Some, None, fold, if◌then◌else◌, ◌&&◌, ◌||◌, ◌==◌, is_some, slice_set}
+use Rattle.std.proofs.Common.{◌≡◌, ℕ, ◌+◌, ◌-◌, ◌<◌, min, max, Bool, true, false, List, [], ◌∷◌, length, map, take, drop, suc, get_or, refl, sym, ap, ◌∙◌, subst, arith, length-append, drop_of_length-le}
+use Rattle.std.specs.Prelude.{Option, Some, None, fold, if◌then◌else◌, ◌||◌, ◌==◌, is_some}
 use Rattle.std.specs.List.{list_any, list_all}
 use Rattle.std.specs.Option.{option_map_or}
-use Rattle.std.proofs.lemmas.List.{append-nil, take-append-drop, length-take-le}
+use Rattle.std.proofs.lemmas.List.{take-append-drop, length-take-le}
 use Rattle.std.proofs.lemmas.Bool.{eqb-true, and_parts, ne_eqb}
 use Rattle.std.proofs.lemmas.Bool.Decides.{nat_tests}
 use Rattle.xc_record.specs.declared.record.Record.{Record}
@@ -20,7 +20,6 @@ use Rattle.xc_record.specs.declared.session.PollAnswer.TheVariants as poll
 use Rattle.xc_record.specs.Accepted.{accepted_tablets, root_start, halt_from, halt}
 use Rattle.xc_record.specs.Headers.{headers_fit, parent_fits, children, fits}
 use Rattle.xc_record.specs.Order.{Progress, after, accepted_from, break_of}
-use Rattle.xc_record.specs.Session.{Session}
 use Rattle.xc_record.specs.Step.{step, open_step, poll_step, poll_answer}
 use Rattle.xc_record.specs.Valid.{is_valid, record_fits, ends_fit, headers_of, tablet_fits}
 use Rattle.xc_tool.specs.declared.script.Request.TheVariants.{Poll, Read}
@@ -112,7 +111,7 @@ found_answer found = poll.Halted found.0 found.1
 
 poll_answer-one : (lo hi place n : ℕ) (rs : List Record) → poll_answer (one lo hi rs) (session_at place) 0 n
     ≡ option_map_or found_answer (if place == length (accepted_from root_start rs) then halt_from root_start 1 rs else None)
-        (if place == length rs then poll.AtEnd else poll.Polled (min n (length (accepted_from root_start rs) - place)))
+    (if place == length rs then poll.AtEnd else poll.Polled (min n (length (accepted_from root_start rs) - place)))
 unfolding poll_answer halt accepted_tablets
 poll_answer-one lo hi place n rs = refl
 

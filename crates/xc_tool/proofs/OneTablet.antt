@@ -1,23 +1,15 @@
 -- The session over one root tablet is the session over its logs.
-use Rattle.std.proofs.Common.{◌≡◌, ℕ, zero, suc, ◌+◌, ◌-◌, ◌≤◌, ◌<◌, ◌^◌, min, Bool, true, false, cond, not, List, [], ◌∷◌, ◌++◌, length, map, take, drop, get_or, refl, sym, ap, ◌∙◌, subst, arith, append_assoc, add-zero, add-one, length-drop}
-use Rattle.std.specs.Prelude.{Option, Some, None, fold, filter, flat_map, is_none, nat_le, if◌then◌else◌, bytes_eq, ◌&&◌, ◌==◌}
-use Rattle.std.specs.List.{list_any, list_all, filter_map}
-use Rattle.std.specs.Option.{option_map_or}
+use Rattle.std.proofs.Common.{◌≡◌, ℕ, suc, ◌+◌, ◌-◌, ◌≤◌, ◌<◌, min, true, false, List, [], ◌∷◌, ◌++◌, length, take, drop, get_or, refl, sym, ap, ◌∙◌, subst, arith, add-zero, add-one, length-drop}
+use Rattle.std.specs.Prelude.{Option, Some, None, fold, is_none, nat_le, if◌then◌else◌, bytes_eq}
 use Rattle.std.proofs.lemmas.List.{append-nil, take-append-drop, take_more}
 use Rattle.std.proofs.lemmas.List.Sums.{fold-append}
-use Rattle.std.proofs.lemmas.Bool.{eqb-true, and_parts}
 use Rattle.std.proofs.lemmas.Bool.Decides.{nat_tests}
 use Rattle.std.proofs.Math.Seq.{drop-cons}
-use Rattle.xc_record.specs.declared.record.Kind.{Kind}
-use Rattle.xc_record.specs.declared.record.Kind.TheVariants.{Write, Intent, Apply, Abort, Safe, Split}
 use Rattle.xc_record.specs.declared.record.Op.{Op}
 use Rattle.xc_record.specs.declared.record.Record.{Record}
-use Rattle.xc_record.specs.declared.record.Header.{Header}
-use Rattle.xc_record.specs.declared.record.Logs.{Logs}
 use Rattle.xc_record.specs.declared.record.Break.{Break}
 use Rattle.xc_record.specs.Accepted.{root_start, halt_from}
-use Rattle.xc_record.specs.Commits.{write_ops}
-use Rattle.xc_record.specs.Order.{Progress, after, accepted_from, break_of, is_split}
+use Rattle.xc_record.specs.Order.{Progress, after, accepted_from, break_of}
 use Rattle.xc_record.specs.Path.{puts}
 use Rattle.xc_record.specs.SafeTime.{floor_after}
 use Rattle.xc_record.proofs.RowLaws.{after_puts}

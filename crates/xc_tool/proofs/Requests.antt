@@ -1,12 +1,12 @@
 -- What was written of a session, request by request.
-use Rattle.std.proofs.Common.{◌≡◌, ℕ, zero, suc, ◌<◌, ◌≤◌, Bool, true, false, List, [], ◌∷◌, ◌++◌, length, map, drop, get_or, refl, sym, ap, ◌∙◌, subst, append_assoc, append-nil, arith, add-one, drop-cons, ◌+◌}
+use Rattle.std.proofs.Common.{◌≡◌, ℕ, suc, ◌<◌, Bool, true, false, List, [], ◌∷◌, ◌++◌, length, map, drop, get_or, refl, sym, ap, ◌∙◌, subst, append_assoc, append-nil, arith, add-one, drop-cons, ◌+◌}
 use Rattle.std.specs.Prelude.{Option, ◌||◌, if◌then◌else◌, nat_lt}
 use Rattle.std.specs.List.{list_any}
 use Rattle.std.specs.Io.KnownBytes.{Appends}
 use Rattle.std.proofs.KnownBytes.{Appends-trans}
 use Rattle.std.proofs.lemmas.Bool.Decides.{nat_tests}
 use Rattle.xc_base.specs.Told.{IsPrefix}
-use Rattle.xc_base.specs.Ran.{IsCutShort, Wrote, Output}
+use Rattle.xc_base.specs.Ran.{IsCutShort, Wrote}
 use Rattle.xc_base.specs.Streams.{Stream, RoseIn}
 use Rattle.xc_base.specs.declared.status.Status.TheVariants as status
 use Rattle.xc_record.specs.declared.record.Record.{Record}
@@ -16,14 +16,13 @@ use Rattle.xc_record.specs.declared.session.Line.{Line}
 use Rattle.xc_record.specs.Headers.{headers_fit}
 use Rattle.xc_record.specs.Session.{Session, start}
 use Rattle.xc_record.specs.Step.{lines_from}
-use Rattle.xc_record.specs.Valid.{headers_of}
 use Rattle.xc_tool.specs.declared.script.Request.{Request}
 use Rattle.xc_tool.specs.Later.{is_later, has_transaction, IsTaken}
 use Rattle.xc_tool.specs.Lines.{line_text, lines_text, is_halt}
 use Rattle.xc_tool.specs.OneTablet.{session_at, HasRecords, Answers}
 use Rattle.xc_tool.specs.Outcome.{lines_output}
 use Rattle.xc_tool.specs.Script.{asked}
-use Rattle.xc_tool.proofs.OneLogs.{one, IsOne}
+use Rattle.xc_tool.proofs.OneLogs.{IsOne}
 use Rattle.xc_tool.proofs.OneSteps.{one_of, valid_parts}
 
 -- ---- the one tablet

@@ -6,7 +6,7 @@ use Rattle.xc_base.specs.declared.status.Status.TheVariants as status
 use Rattle.xc_base.specs.declared.status.Stop.{Stop}
 use Rattle.xc_base.specs.declared.status.Stop.TheVariants as stop
 use Rattle.xc_base.specs.Streams.{Stream, IsUntouched}
-use Rattle.xc_base.specs.Ran.{Output, Reads, Took, Wrote, Ended, Ran, Is, Shows, IsEnded, ◌>>=◌, output_of, within}
+use Rattle.xc_base.specs.Ran.{Output, Reads, Took, Wrote, Ended, Ran, Is, Shows, IsEnded, ◌>>=◌, output_of}
 use Rattle.xc_record.specs.declared.record.Logs.{Logs}
 use Rattle.xc_record.specs.declared.session.Command.{Command}
 use Rattle.xc_text.specs.LogText.{BadLine, logs_of}

@@ -5,7 +5,7 @@
 --     Answers records before request after line      for all such logs the request is answered with the line, and the session goes on
 --     shown_ops t r, visible_ops t records      the operations of the record, of the records, where they are writes up to the time
 --     value_after value key ops      what stands at the key after the operations, where the value stood before
-use Rattle.std.specs.Prelude.{◌≡◌, ℕ, ◌≤◌, List, [], ◌∷◌, ◌++◌, Option, Some, None, if◌then◌else◌, nat_le, bytes_eq, length, map, take, fold, flat_map}
+use Rattle.std.specs.Prelude.{◌≡◌, ℕ, ◌≤◌, List, [], ◌∷◌, Option, None, if◌then◌else◌, nat_le, bytes_eq, length, map, take, fold, flat_map}
 use Rattle.std.specs.Option.{option_map_or}
 use Rattle.xc_record.specs.declared.record.Op.{Op}
 use Rattle.xc_record.specs.declared.record.Record.{Record}

@@ -4,7 +4,7 @@
 --     reads_of form      which sources the command reads
 --     line_of refusal, refusal_status refusal      the line that a refusal writes, and its status
 --     InOrder reads result logs script      a refusal came in the order of work
-use Rattle.std.specs.Prelude.{◌≡◌, ℕ, ◌^◌, true, false, if◌then◌else◌, List, [], ◌++◌, codes, decimal, Option, Some, None, Result, Ok, Err}
+use Rattle.std.specs.Prelude.{◌≡◌, ℕ, ◌^◌, true, false, if◌then◌else◌, List, ◌++◌, codes, decimal, Option, Some, None, Result, Ok, Err}
 use Rattle.std.specs.List.{list_any}
 use Rattle.xc_base.specs.declared.status.Status.{Status}
 use Rattle.xc_base.specs.declared.status.Status.TheVariants as status

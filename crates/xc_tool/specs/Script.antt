@@ -2,7 +2,7 @@
 --     script_of text      the commands, or None where the text is no such script
 --     command_of words      the command that the words of a line form
 --     asked request      a request as a command
-use Rattle.std.specs.Prelude.{ℕ, ◌^◌, ◌==◌, ◌&&◌, true, false, nat_le, List, [], ◌∷◌, codes, length, Option, Some, None, option_and_then, if◌then◌else◌}
+use Rattle.std.specs.Prelude.{ℕ, ◌^◌, ◌&&◌, nat_le, List, [], ◌∷◌, codes, length, Option, Some, None, option_and_then, if◌then◌else◌}
 use Rattle.std.specs.Option.{option_map}
 use Rattle.std.specs.Str.{bytes_eq}
 use Rattle.xc_base.specs.Names.{is_key}

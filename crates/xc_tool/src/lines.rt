@@ -28,7 +28,12 @@ pub fn line_text(alloc: Global, line: &Line) -> Result<Bytes, AllocError>
         Line::Restart { id, place } => two(alloc, "restart", u64::from(*id), *place),
         Line::Closed { t } => one(alloc, "closed", *t),
         Line::Drain { t } => one(alloc, "drain", *t),
-        Line::Saw { reader, t, key, value } => saw(alloc, *reader, *t, key, value),
+        Line::Saw {
+            reader,
+            t,
+            key,
+            value,
+        } => saw(alloc, *reader, *t, key, value),
         Line::Safe { t } => one(alloc, "safe", *t),
         Line::Read { t, key, value } => valued(alloc, "read", *t, key, value),
         Line::ReadAt { u, key, value } => valued(alloc, "readat", *u, key, value),
@@ -177,10 +182,17 @@ fn report(
     Ok(text)
 }
 
-fn report_front(alloc: Global, acks: &str, closed: &str, cursors: &str) -> Result<String, AllocError>
+fn report_front(
+    alloc: Global,
+    acks: &str,
+    closed: &str,
+    cursors: &str,
+) -> Result<String, AllocError>
     ensures { IfOk result (λ text. string_bytes text ≡ codes "report {\"acks\":" ++ (acks.now ++ (codes ",\"closed\":" ++ (closed.now ++ (codes ",\"cursors\":" ++ cursors.now))))) }
 {
-    let text = format!(in alloc; "report {{\"acks\":{acks},\"closed\":{closed},\"cursors\":{cursors}")?;
+    let text = format!(in alloc;
+        "report {{\"acks\":{acks},\"closed\":{closed},\"cursors\":{cursors}"
+    )?;
     Ok(text)
 }
 

@@ -53,7 +53,11 @@ impl Session {
         match order.take(&records[place]) {
             Err(kind) => {
                 let number = place as u64 + 1;
-                Line::Halt { id: 0, number, kind }
+                Line::Halt {
+                    id: 0,
+                    number,
+                    kind,
+                }
             }
             Ok(()) => {
                 *self = pull(*self, records, n);

@@ -1,2 +1,0 @@
-pub mod LogText
-pub mod ReadLogs

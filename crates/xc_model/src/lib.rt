@@ -1,0 +1,42 @@
+//! The theorem that replication rests on, over the definitions alone: each function's contract is one law.
+//!
+//! A target tablet that stands for the logs shows, at each time from its cutoff to the safe time of its places, the rows of the logs
+//! at that time: the transactions committed by then, each in full, and none that commits later.
+#![tactic(auto)]
+
+ghost use Rattle.xc_model.specs.Laws.{ReadsShowRows, KeysSuffice, NewStands, CutoffsKeepStanding, RestoresKeepReads, SafeTimeRises, KeptValuesSuffice};
+
+/// For logs that agree, a read at a time from the cutoff to what the tablet covers is the row of the logs at that time.
+pub fn reads_show_rows()
+    ensures { ReadsShowRows }
+{}
+
+/// Well-formed logs in which no disagreement is found have no case of disagreement at any key.
+pub fn keys_suffice()
+    ensures { KeysSuffice }
+{}
+
+/// A new tablet of any range stands for all well-formed logs with its headers, from the cutoff 0.
+pub fn new_tablets_stand()
+    ensures { NewStands }
+{}
+
+/// A cutoff of at most what the tablet covers keeps it standing, at the greater cutoff.
+pub fn cutoffs_keep_standing()
+    ensures { CutoffsKeepStanding }
+{}
+
+/// After a restore to a time, reads at times up to it are as before.
+pub fn restores_keep_reads()
+    ensures { RestoresKeepReads }
+{}
+
+/// The safe time doesn't fall as places rise, splits included.
+pub fn safe_time_rises()
+    ensures { SafeTimeRises }
+{}
+
+/// The least over the values that a tablet keeps for roots and for children of closed tablets is the safe time.
+pub fn kept_values_suffice()
+    ensures { KeptValuesSuffice }
+{}

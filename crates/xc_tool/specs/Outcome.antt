@@ -17,7 +17,8 @@ use Rattle.xc_record.specs.declared.session.Command.{Command}
 use Rattle.xc_record.specs.declared.session.Line.{Line}
 use Rattle.xc_record.specs.Session.{start}
 use Rattle.xc_record.specs.Step.{lines_from}
-use Rattle.xc_text.specs.LogText.{BadLine, logs_of, kind_name}
+use Rattle.xc_text.specs.Kinds.{kind_name}
+use Rattle.xc_text.specs.LogText.{BadLine, logs_of}
 use Rattle.xc_tool.specs.declared.refusal.Refusal.{Refusal}
 use Rattle.xc_tool.specs.declared.refusal.Refusal.TheVariants.{LogsTooLong, BadLogs, LaterLogs, ScriptTooLong, LaterScript}
 use Rattle.xc_tool.specs.declared.words.Form.{Form}

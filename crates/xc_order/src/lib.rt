@@ -86,6 +86,7 @@ mod tests {
             };
             assert!(rt; broken == Some(want), "{time}");
         }
+        assert!(rt; order.has_split());
         let child = Order::child(&order);
         assert!(rt; (child.floor(), child.last(), child.has_split()) == (0, 14, false));
     }

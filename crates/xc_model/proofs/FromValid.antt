@@ -148,6 +148,9 @@ kids-of ts h e fit m k f s o =
     let pair = some-pair (children hs t.id) has in
     child-cover hs t pair.0.0 pair.0.1 h (there-get hs t m (header-there ts f.tablet f.there)) (children-found [] (RootAt 0) hs t.id pair.0.0 pair.0.1 tt fit pair.1) o
 
+none-below : (n : ℕ) → n < 0 → ⊥
+none-below n h = omega arith
+
 pub rules-suffice : (logs : Logs) → is_valid logs ≡ true → ValidLogs logs.tablets
 unfolding is_valid headers_fit
 rules-suffice logs v =
@@ -162,7 +165,7 @@ rules-suffice logs v =
     record {
       grows = grows;
       covers = λ k2. record {
-        root = exists-heads (RootOf (hash_of k2)) (ends ts) (subst (Exists (RootOf (hash_of k2))) (sym same) (roots-cover (hash_of k2) [] (RootAt 0) hs (hash-below k2) (λ (z : hash_of k2 < 0). absurd (omega arith)) fit));
+        root = exists-heads (RootOf (hash_of k2)) (ends ts) (subst (Exists (RootOf (hash_of k2))) (sym same) (roots-cover (hash_of k2) [] (RootAt 0) hs (hash-below k2) (λ z. absurd (none-below (hash_of k2) z)) fit));
         child = each-weaker (FromTablet ts) (λ e. e.end.split ≡ true → owns (hash_of k2) e.header ≡ true → Exists (λ d. (d.header.parent ≡ Some e.header.id) × (owns (hash_of k2) d.header ≡ true)) (ends ts))
             (λ e f s o.
             let found = kids-of ts (hash_of k2) e fit m k f s (ap (owns (hash_of k2)) (sym (head-of ts e f)) ∙ o) in

@@ -24,7 +24,7 @@ use Rattle.xc_model.proofs.FromCases.{no-case-agrees}
 use Rattle.xc_model.proofs.NoDisagreement.{no-disagreement, sound-logs}
 use Rattle.xc_model.proofs.Bridge.{safe-time, legal-places, given-shown}
 
-values : (xs : List Version) → value_of xs ≡ row_of (map (λ x. x.value) xs)
+pub values : (xs : List Version) → value_of xs ≡ row_of (map (λ x. x.value) xs)
 values [] = refl
 values (x ∷ xs) = refl
 

@@ -237,7 +237,7 @@ abbrev pub row_of : List Written → Option (List ℕ)
 row_of [] = None
 row_of (v ∷ vs) = v
 
-after-last : (xs : List Written) → after_puts None xs ≡ row_of (last_of xs)
+pub after-last : (xs : List Written) → after_puts None xs ≡ row_of (last_of xs)
 after-last [] = refl
 after-last (x ∷ []) = refl
 after-last (x ∷ (y ∷ ys)) = after-last (y ∷ ys)

@@ -1,22 +1,19 @@
 -- The whole list of rows that a tablet shows.
-use Rattle.std.proofs.Common.{◌≡◌, ℕ, ◌≤◌, Bool, true, false, cond, List, [], ◌∷◌, map, Option, Some, None, refl, ap, sym, ◌∙◌, arith, subst, ⊎_elim}
-use Rattle.std.specs.Prelude.{T, filter, nat_le, bytes_eq}
+use Rattle.std.proofs.Common.{◌≡◌, ℕ, Bool, true, false, cond, List, [], ◌∷◌, map, None, refl, ap, sym, ◌∙◌, arith, ⊎_elim}
+use Rattle.std.specs.Prelude.{filter, nat_le, bytes_eq}
 use Rattle.std.specs.declared.cmp.Ordering.{Ordering}
 use Rattle.std.specs.declared.cmp.Ordering.TheVariants.{Equal}
 use Rattle.std.specs.Ordering.{nat_cmp}
 use Rattle.std.specs.Cmp.Lexicographic.{slice_cmp, nat_list_cmp_total}
 use Rattle.std.specs.FinMap.{slice_cmp-IsAntisymmetric, nat_cmp-IsAntisymmetric}
-use Rattle.std.specs.FinMap.Entries.{find, where_key, find-where_key, is_sorted, is_sorted-where_key, same_entries}
+use Rattle.std.specs.FinMap.Entries.{find, where_key, find-where_key, is_sorted-where_key, same_entries}
 use Rattle.std.proofs.lemmas.Bool.{cases_Bool, true≢false}
-use Rattle.std.proofs.lemmas.Bool.Decides.{nat_tests}
-use Rattle.std.proofs.lemmas.Slice.Eq.{bytes_eq-Decides}
 use Rattle.xc_record.specs.declared.record.Op.{Op}
-use Rattle.xc_record.specs.declared.record.Logs.{Logs}
-use Rattle.xc_record.specs.Path.{Written, Version, puts}
-use Rattle.xc_record.specs.Rows.{rows, row, rows_after}
+use Rattle.xc_record.specs.Path.{Version, puts}
+use Rattle.xc_record.specs.Rows.{rows, row}
 use Rattle.xc_record.proofs.RowLaws.{after_puts, find-rows_after, rows_after-sorted, rows-sorted}
 use Rattle.xc_model.specs.Kept.{upto, newest, read, value_of, last_of}
-use Rattle.xc_model.specs.Stands.{KeyVersion, TargetTablet, in_range, versions_at, kept_at, rows_shown, StandsFor, covers}
+use Rattle.xc_model.specs.Stands.{KeyVersion, TargetTablet, in_range, versions_at, kept_at, rows_shown}
 use Rattle.xc_model.specs.Laws.{ReadsShowLists}
 use Rattle.xc_model.proofs.StableSort.{Each}
 use Rattle.xc_model.proofs.RowsAt.{map-last_of}

@@ -1,13 +1,11 @@
 -- Standing for logs in the forms that the proofs go by.
-use Rattle.std.proofs.Common.{◌≡◌, ℕ, zero, suc, ◌+◌, ◌≤◌, Bool, true, false, cond, not, List, [], ◌∷◌, ◌++◌, map, take, length, Option, Some, None, refl, ap, sym, ◌∙◌, arith, subst, zero-add, ⊎_elim}
+use Rattle.std.proofs.Common.{◌≡◌, ℕ, suc, ◌+◌, ◌≤◌, true, false, cond, not, List, [], ◌∷◌, ◌++◌, map, take, length, Option, Some, None, refl, ap, sym, ◌∙◌, arith, subst, zero-add, ⊎_elim}
 use Rattle.std.specs.Prelude.{filter, flat_map, slice_get, slice_index}
 use Rattle.std.specs.Option.{option_map_or}
-use Rattle.xc_record.specs.declared.record.Record.{Record}
-use Rattle.xc_record.specs.declared.record.Header.{Header}
 use Rattle.xc_record.specs.declared.record.Logs.{Logs}
 use Rattle.xc_record.specs.Hash.{hash_of, holds}
 use Rattle.xc_record.specs.Accepted.{AcceptedTablet, accepted_tablets}
-use Rattle.xc_record.specs.Path.{Version, path_to, holders, events, versions, waiting}
+use Rattle.xc_record.specs.Path.{Version, path_to, holders, events, versions}
 use Rattle.xc_record.specs.SafeTime.{place, last_safe_in, is_closed_in, is_closed as closed_at, safe_time, StartsAfter, IsPlaces}
 use Rattle.xc_record.specs.Lists.{least}
 use Rattle.xc_record.specs.Valid.{is_valid}
@@ -16,9 +14,9 @@ use Rattle.xc_model.specs.Kept.{Kept, kept_from}
 use Rattle.xc_model.specs.Stands.{given_at}
 use Rattle.xc_model.proofs.StableSort.{Each, Exists}
 use Rattle.xc_model.proofs.Paths.{shown, ordered}
-use Rattle.xc_model.proofs.Placed.{Placed, placed, is_closed, is_open, applied, last_safe, safe, owns_it, owners, path_upto, Legal}
+use Rattle.xc_model.proofs.Placed.{Placed, placed, is_closed, is_open, last_safe, safe, owners, path_upto, Legal}
 use Rattle.xc_model.proofs.Sorts.{each-weaker}
-use Rattle.xc_model.proofs.Tree.{each-itself, each-at}
+use Rattle.xc_model.proofs.Tree.{each-itself}
 use Rattle.xc_model.proofs.Sorted.{versions-ordered}
 use Rattle.xc_model.proofs.FromRules.{heads}
 use Rattle.xc_model.proofs.FromValid.{accepted-numbered}

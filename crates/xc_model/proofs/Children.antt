@@ -1,13 +1,13 @@
 -- The children of a tablet: the two that its split names, and no others.
-use Rattle.std.proofs.Common.{◌≡◌, ◌≢◌, ℕ, ◌+◌, Bool, true, false, cond, not, List, [], ◌∷◌, ◌++◌, Option, Some, None, refl, ap, sym, ◌∙◌, arith, subst, append_assoc, ◌⊎◌, inl, inr, ⊎_elim}
-use Rattle.std.specs.Prelude.{◌==◌, ◌&&◌, ◌||◌}
+use Rattle.std.proofs.Common.{◌≡◌, ℕ, Bool, true, false, cond, not, List, [], ◌∷◌, ◌++◌, Some, refl, ap, sym, ◌∙◌, arith, subst, ◌⊎◌, inl, inr, ⊎_elim}
+use Rattle.std.specs.Prelude.{◌==◌, ◌||◌}
 use Rattle.std.specs.Option.{option_map_or}
 use Rattle.std.specs.List.{list_any}
-use Rattle.std.proofs.lemmas.Bool.{cases_Bool, and_parts, eqb-true, true≢false}
+use Rattle.std.proofs.lemmas.Bool.{cases_Bool, and_parts, true≢false}
 use Rattle.std.proofs.lemmas.Bool.Decides.{nat_tests}
 use Rattle.xc_record.specs.declared.record.Header.{Header}
 use Rattle.xc_record.specs.declared.rules.Next.{Next}
-use Rattle.xc_record.specs.declared.rules.Next.TheVariants.{RootAt, LeftChild, RightChild}
+use Rattle.xc_record.specs.declared.rules.Next.TheVariants.{LeftChild, RightChild}
 use Rattle.xc_record.specs.Headers.{is_child_of, parent_fits, fits as fits_next, fit_from, next_after, with_next, children}
 use Rattle.xc_model.proofs.StableSort.{Each}
 use Rattle.xc_model.proofs.FromRules.{NotAwaited, named, split-from, not-awaited, right-from, some-is}

@@ -1,8 +1,8 @@
 -- One more record of a source tablet keeps a target tablet standing.
-use Rattle.std.proofs.Common.{◌≡◌, ◌≢◌, ◌==◌, ℕ, zero, suc, ◌+◌, ◌<◌, ◌≤◌, max, Bool, true, false, cond, List, [], ◌∷◌, ◌++◌, map, take, drop, length, Option, Some, None, refl, ap, sym, ◌∙◌, arith, subst, zero-add, get_or, append_assoc, ◌⊎◌, inl, inr, ⊎_elim}
-use Rattle.std.specs.Prelude.{filter, fold, flat_map, ◌&&◌, nat_le, slice_get, slice_index, slice_index_or, slice_set, if◌then◌else◌}
+use Rattle.std.proofs.Common.{◌≡◌, ◌≢◌, ◌==◌, ℕ, zero, suc, ◌+◌, ◌<◌, ◌≤◌, max, Bool, true, false, cond, List, [], ◌∷◌, ◌++◌, map, take, drop, length, Option, Some, None, refl, ap, sym, ◌∙◌, arith, subst, zero-add, ◌⊎◌, inl, inr, ⊎_elim}
+use Rattle.std.specs.Prelude.{fold, ◌&&◌, nat_le, slice_get, slice_index, slice_index_or, slice_set, if◌then◌else◌}
 use Rattle.std.specs.Option.{option_map_or}
-use Rattle.std.proofs.lemmas.Bool.{cases_Bool, cases_eq, and_parts, eqb-true, eq-eqb, ne_eqb, true≢false}
+use Rattle.std.proofs.lemmas.Bool.{cases_Bool, cases_eq, and_parts, eqb-true, eq-eqb, true≢false}
 use Rattle.std.proofs.lemmas.List.{get_or-set_same, get_or-set_other, length-set, length-append, length-map}
 use Rattle.xc_record.specs.declared.record.Kind.{Kind}
 use Rattle.xc_record.specs.declared.record.Kind.TheVariants as log
@@ -11,36 +11,36 @@ use Rattle.xc_record.specs.declared.record.Record.{Record}
 use Rattle.xc_record.specs.declared.record.Tablet.{Tablet}
 use Rattle.xc_record.specs.declared.record.Logs.{Logs}
 use Rattle.xc_record.specs.Hash.{hash_of, holds}
-use Rattle.xc_record.specs.Order.{Progress, is_split, accepted_from, safe_value}
+use Rattle.xc_record.specs.Order.{Progress, is_split, accepted_from}
 use Rattle.xc_record.specs.Order.{after as step_order}
 use Rattle.xc_record.specs.Accepted.{AcceptedTablet, accepted_tablets, accepted}
-use Rattle.xc_record.specs.Path.{events, record_events}
+use Rattle.xc_record.specs.Path.{record_events}
 use Rattle.xc_record.specs.SafeTime.{place, floor_after, last_safe_in, is_closed_in, is_closed as closed_at, safe_time, StartsAfter, IsPlaces}
-use Rattle.xc_record.specs.Valid.{is_valid, headers_of, kind_fits, split_fits}
+use Rattle.xc_record.specs.Valid.{headers_of, kind_fits, split_fits}
 use Rattle.xc_record.specs.Headers.{children}
 use Rattle.xc_record.proofs.HeaderLaws.{Numbered}
 use Rattle.xc_record.proofs.AcceptedLaws.{IsGrown, accepted_tablets-grown}
-use Rattle.xc_model.specs.Kept.{Kept, steps}
-use Rattle.xc_model.specs.Stands.{TargetTablet, in_range, kept_at, given_at, is_started, KeepsTablet, StandsFor, closed_after, safe_after, owned_by, TakesIn, has_started, TakesAll}
+use Rattle.xc_model.specs.Kept.{steps}
+use Rattle.xc_model.specs.Stands.{TargetTablet, in_range, kept_at, is_started, KeepsTablet, StandsFor, closed_after, safe_after, TakesIn, has_started}
 use Rattle.xc_model.specs.Laws.{DeliveriesKeepStanding, BatchesKeepStanding}
 use Rattle.xc_model.proofs.StableSort.{Each, Exists}
-use Rattle.xc_model.proofs.Placed.{owns, Placed, placed, more, floor_by, is_closed, applied, last_safe, safe, owners, path_upto, Legal, ends, TabletsOf, Stands, after_record}
-use Rattle.xc_model.proofs.Sorts.{each-append, each-weaker}
+use Rattle.xc_model.proofs.Placed.{Placed, placed, more, floor_by, is_closed, safe, TabletsOf, Stands, after_record}
+use Rattle.xc_model.proofs.Sorts.{each-weaker}
 use Rattle.xc_model.proofs.Chain.{Goes, order_after-parts}
 use Rattle.xc_model.proofs.Cover.{floor_after-append}
-use Rattle.xc_model.proofs.KeyRead.{each-front, each-back, goes-back}
+use Rattle.xc_model.proofs.KeyRead.{goes-back}
 use Rattle.xc_model.proofs.Tree.{each-itself, each-at, ends-placed, Below, below-from}
 use Rattle.xc_model.proofs.SafeTime.{Begins, begins-from, begins-goes, floor-step}
 use Rattle.xc_model.proofs.ValidLogs.{IsBelow}
 use Rattle.xc_record.specs.declared.rules.Next.TheVariants.{RootAt}
 use Rattle.xc_model.proofs.KeptSafe.{StartsFrom, starts-from}
-use Rattle.xc_model.proofs.FromRules.{heads, FromTablet, ends-tablets, children-found, AreChildren}
+use Rattle.xc_model.proofs.FromRules.{heads, children-found}
 use Rattle.xc_model.proofs.FromValid.{rules-suffice, accepted-ends, accepted-numbered, kinds-fit, headers-fit, there-get}
 use Rattle.xc_model.proofs.Children.{IsOne, children-only}
 use Rattle.xc_model.proofs.SplitEnd.{last-split, no-split-end}
 use Rattle.xc_model.proofs.Bridge.{at_place, safe-time, legal-places, each-placed, each-unplaced, get-tablet, closed-of, given-shown}
 use Rattle.xc_model.proofs.DeliverRecord.{delivers, is-open, applied-is, applied-more}
-use Rattle.xc_model.proofs.FloorLaw.{get-id, closed-kept, heads-logs, each-header, each-of-header}
+use Rattle.xc_model.proofs.FloorLaw.{get-id, closed-kept, heads-logs}
 
 -- ---- lists
 
@@ -201,8 +201,7 @@ safe-mine s (log.Split at left right) safe f l e h n = let k = n at left right r
 -- ---- a record of the tablet b, between those before and after it
 
 module _ (logs : Logs) (u : ℕ) (x y : TargetTablet) (before after : List AcceptedTablet) (b : AcceptedTablet) (front rest : List Record) (r : Record) (st : StandsFor logs u x) (is : accepted_tablets logs ≡ before ++ b ∷ after)
-  (recs : b.records ≡ front ++ r ∷ rest) (at : length front ≡ slice_index x.places b.header.id) (up : is_started logs x.places b.header.parent ≡ true) (tk : TakesIn b.header.id r x y) where
-
+    (recs : b.records ≡ front ++ r ∷ rest) (at : length front ≡ slice_index x.places b.header.id) (up : is_started logs x.places b.header.parent ≡ true) (tk : TakesIn b.header.id r x y) where
   numbered : Numbered 0 (heads (before ++ b ∷ after))
   numbered = subst (λ w. Numbered 0 (heads w)) is (accepted-numbered logs st.valid)
 
@@ -543,7 +542,7 @@ started-is logs u s x b st get h =
     let m = accepted-numbered logs st.valid in
     let i : Exists (λ d. d ≡ b) (accepted_tablets logs) = in-list (accepted_tablets logs) s get in
     let head : slice_get x.headers s ≡ Some b.header = subst (λ (w : ℕ). slice_get x.headers w ≡ Some b.header) (get-is (accepted_tablets logs) s b m get)
-        (subst (λ w. slice_get w b.header.id ≡ Some b.header) (heads-logs logs st.valid ∙ sym st.headers) (there-get (heads (accepted_tablets logs)) b.header m (exists-header (accepted_tablets logs) b i))) in
+    (subst (λ w. slice_get w b.header.id ≡ Some b.header) (heads-logs logs st.valid ∙ sym st.headers) (there-get (heads (accepted_tablets logs)) b.header m (exists-header (accepted_tablets logs) b i))) in
     let kept : option_map_or (λ parent. slice_index_or x.closed parent false) b.header.parent true ≡ true = sym (ap (λ o. option_map_or (λ (h : Header). option_map_or (λ parent. slice_index_or x.closed parent false) h.parent true) o false) head) ∙ h in
     go b.header.parent kept
   where

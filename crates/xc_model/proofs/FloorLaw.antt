@@ -1,21 +1,20 @@
 -- The least over the values that a tablet keeps is the safe time at its places.
-use Rattle.std.proofs.Common.{◌≡◌, ℕ, zero, suc, ◌+◌, ◌^◌, ◌<◌, ◌≤◌, Bool, true, false, cond, not, List, [], ◌∷◌, map, length, Option, Some, None, refl, ap, sym, ◌∙◌, arith, subst, zero-add, get_or, ◌⊎◌, inl, inr, ⊎_elim}
+use Rattle.std.proofs.Common.{◌≡◌, ℕ, zero, suc, ◌+◌, ◌^◌, ◌≤◌, Bool, true, false, cond, not, List, [], ◌∷◌, map, length, Option, Some, None, refl, ap, sym, ◌∙◌, arith, subst, zero-add, get_or, ◌⊎◌, ⊎_elim}
 use Rattle.std.specs.Prelude.{filter, ◌&&◌, slice_get, slice_index, slice_index_or}
 use Rattle.std.specs.Option.{option_map_or}
-use Rattle.std.proofs.lemmas.Bool.{cases_Bool, true≢false, and_parts}
+use Rattle.std.proofs.lemmas.Bool.{true≢false, and_parts}
 use Rattle.std.proofs.lemmas.List.{length-map}
 use Rattle.xc_record.specs.declared.record.Header.{Header}
-use Rattle.xc_record.specs.declared.record.Tablet.{Tablet}
 use Rattle.xc_record.specs.declared.record.Logs.{Logs}
 use Rattle.xc_record.specs.Accepted.{AcceptedTablet, accepted_tablets}
 use Rattle.xc_record.specs.Lists.{least}
 use Rattle.xc_record.specs.SafeTime.{last_safe_in, is_closed_in, is_closed as closed_at, safe_time}
 use Rattle.xc_record.specs.Valid.{is_valid, headers_of}
-use Rattle.xc_record.proofs.HeaderLaws.{Numbered, Numbered-at}
+use Rattle.xc_record.proofs.HeaderLaws.{Numbered}
 use Rattle.xc_model.specs.Stands.{TargetTablet, is_started, KeepsTablet, StandsFor, covers, counts_in, least_kept}
 use Rattle.xc_model.specs.Laws.{KeptValuesSuffice}
 use Rattle.xc_model.proofs.StableSort.{Each, Exists}
-use Rattle.xc_model.proofs.Placed.{Placed, placed, is_closed, last_safe, safe, ends, TabletsOf, KeptBound, Legal}
+use Rattle.xc_model.proofs.Placed.{placed, is_closed, last_safe, safe, TabletsOf, KeptBound}
 use Rattle.xc_model.proofs.Sorts.{each-weaker}
 use Rattle.xc_model.proofs.Tree.{ends-placed, each-both}
 use Rattle.xc_model.proofs.ReadRows.{under-safe}
@@ -23,7 +22,7 @@ use Rattle.xc_model.proofs.SafeTime.{safe-top}
 use Rattle.xc_model.proofs.KeptSafe.{kept-suffice}
 use Rattle.xc_model.proofs.FromRules.{heads, heads-from}
 use Rattle.xc_model.proofs.FromValid.{rules-suffice, accepted-ends, accepted-numbered}
-use Rattle.xc_model.proofs.Bridge.{at_place, safe-time, legal-places, each-placed, each-unplaced}
+use Rattle.xc_model.proofs.Bridge.{safe-time, legal-places, each-placed, each-unplaced}
 use Rattle.xc_model.proofs.KeepLaws.{each-get}
 
 least-low : {A : Type 0} (f : A → ℕ) (p : A → Bool) (xs : List A) (b : ℕ) → b ≤ least (map f (filter p xs)) → Each (λ x. p x ≡ true → b ≤ f x) xs

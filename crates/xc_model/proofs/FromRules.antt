@@ -1,12 +1,9 @@
 -- The rules on headers and records give what the reads rest on.
 use Rattle.std.proofs.Common.{◌≡◌, ◌≢◌, ℕ, ◌+◌, ◌<◌, ◌≤◌, Bool, true, false, cond, List, [], ◌∷◌, ◌++◌, map, length, Some, None, refl, ap, sym, ◌∙◌, arith, subst, append_assoc, append-nil, inl, inr, ⊎_elim}
 use Rattle.std.proofs.lemmas.Bool.Decides.{nat_tests}
-use Rattle.std.proofs.lemmas.Bool.{cases_Bool, cases_lt, ne_eqb, true≢false}
-use Rattle.std.proofs.lemmas.List.{length-append, map-append}
-use Rattle.xc_record.specs.declared.record.Kind.TheVariants as log
+use Rattle.std.proofs.lemmas.Bool.{cases_Bool, cases_lt, true≢false}
+use Rattle.std.proofs.lemmas.List.{map-append}
 use Rattle.xc_model.proofs.StableSort.{Each, Exists}
-use Rattle.xc_record.specs.declared.record.Op.{Op}
-use Rattle.xc_record.specs.declared.record.Kind.{Kind}
 use Rattle.xc_record.specs.declared.record.Record.{Record}
 use Rattle.xc_record.specs.declared.record.Header.{Header}
 use Rattle.xc_record.specs.declared.record.Tablet.{Tablet}
@@ -14,8 +11,7 @@ use Rattle.xc_record.specs.Order.{Progress, accepted_from, after, is_split}
 use Rattle.xc_record.specs.Accepted.{AcceptedTablet}
 use Rattle.xc_model.proofs.Placed.{ends, ends_from, end_under, parent_order, accepted_under, fits, order_after, begun, owns}
 use Rattle.xc_record.specs.Hash.{hash_of}
-use Rattle.xc_record.specs.Path.{puts}
-use Rattle.xc_model.proofs.ValidLogs.{IsBelow, ParentThere, HasParent, Follows, GrowsBy, KindAway, KindNumbered}
+use Rattle.xc_model.proofs.ValidLogs.{IsBelow, ParentThere, HasParent, Follows, GrowsBy}
 use Rattle.xc_model.proofs.Sorts.{each-append, each-weaker}
 use Rattle.xc_model.proofs.Tree.{each-itself, each-at, exists-weaker}
 use Rattle.std.specs.Prelude.{◌==◌, ◌&&◌, Option, slice_get, nat_le, suc, zero}
@@ -29,7 +25,7 @@ use Rattle.std.specs.Option.{option_map_or}
 use Rattle.std.proofs.Common.{◌*◌, ◌%◌}
 use Rattle.xc_record.specs.Hash.{hash_from}
 use Rattle.xc_record.specs.Valid.{headers_of}
-use Rattle.xc_record.proofs.HeaderLaws.{Numbered, Numbered-at, Fits, Fits-none, Fits-snoc, slice_get-append, SplitsOff, splits_off-parts}
+use Rattle.xc_record.proofs.HeaderLaws.{Numbered, Numbered-at, Fits, Fits-snoc, slice_get-append, SplitsOff, splits_off-parts}
 
 abbrev pub heads : List AcceptedTablet → List Header
 heads es = map (λ e. e.header) es
@@ -133,7 +129,6 @@ exists-under P o rs i =
 pub split-among : (o : Progress) (rs : List Record) → o.split ≡ false → (order_after o rs).split ≡ true → Exists (λ r. is_split r.kind ≡ true) rs
 split-among o [] n s = absurd (true≢false (sym s ∙ n))
 split-among o (r ∷ rs) n s = ⊎_elim (λ t. inl t) (λ f. inr (split-among (after o r) rs (ap (λ b. cond b true o.split) f ∙ n) s)) (cases_Bool (is_split r.kind))
-
 
 -- ---- headers that fit
 

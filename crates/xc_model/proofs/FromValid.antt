@@ -1,9 +1,9 @@
 -- Well-formed logs give what reads and deliveries rest on, and their accepted tablets are those that the proofs go by.
-use Rattle.std.proofs.Common.{◌≡◌, ℕ, zero, suc, ◌+◌, ◌<◌, Bool, true, false, cond, List, [], ◌∷◌, ◌++◌, map, length, Option, Some, None, refl, ap, sym, ◌∙◌, arith, subst, append_assoc, append-nil, zero-add, inl, inr, ⊎_elim}
-use Rattle.std.specs.Prelude.{◌==◌, ◌&&◌, slice_get, is_some, fold, if◌then◌else◌, bytes_eq, is_none}
+use Rattle.std.proofs.Common.{◌≡◌, ℕ, zero, suc, ◌+◌, ◌<◌, Bool, true, false, cond, List, [], ◌∷◌, ◌++◌, length, Option, Some, None, refl, ap, sym, ◌∙◌, arith, subst, append_assoc, append-nil, zero-add, inl, inr, ⊎_elim}
+use Rattle.std.specs.Prelude.{◌==◌, ◌&&◌, slice_get, is_some, fold, if◌then◌else◌, bytes_eq}
 use Rattle.std.specs.Option.{option_map_or}
 use Rattle.std.specs.List.{list_all}
-use Rattle.std.proofs.lemmas.Bool.{and_parts, cases_Bool, eqb-true, eq-eqb, ne_eqb, true≢false, leb-true}
+use Rattle.std.proofs.lemmas.Bool.{and_parts, cases_Bool, eq-eqb, ne_eqb, true≢false}
 use Rattle.std.proofs.lemmas.Bool.Decides.{nat_tests}
 use Rattle.std.proofs.lemmas.Slice.Eq.{bytes_eq-Decides}
 use Rattle.xc_record.specs.declared.record.Kind.{Kind}
@@ -20,13 +20,13 @@ use Rattle.xc_record.specs.Headers.{headers_fit, children, fit_from}
 use Rattle.xc_record.specs.Accepted.{AcceptedTablet, accepted_tablets, accepted_tablets_after, accepted_tablet_after, start_after, reached_after, root_start, child_start}
 use Rattle.xc_record.specs.Valid.{is_valid, is_txn, op_fits, ops_fit, kind_fits, record_fits, ends_fit, tablet_fits, headers_of}
 use Rattle.xc_record.specs.Path.{puts}
-use Rattle.xc_record.proofs.HeaderLaws.{Numbered, Numbered-at, Fits-none}
+use Rattle.xc_record.proofs.HeaderLaws.{Numbered, Fits-none}
 use Rattle.xc_model.proofs.StableSort.{Each, Exists}
 use Rattle.xc_model.proofs.Placed.{owns, order_after, origin, begun, accepted_under, end_under, order_at, parent_order, ends_from, ends}
-use Rattle.xc_model.proofs.ValidLogs.{GrowsBy, Follows, Covers, KindNumbered, KindAway, ValidLogs}
+use Rattle.xc_model.proofs.ValidLogs.{GrowsBy, KindNumbered, KindAway, ValidLogs}
 use Rattle.xc_model.proofs.Sorts.{each-append, each-weaker}
-use Rattle.xc_model.proofs.Tree.{each-at, exists-weaker}
-use Rattle.xc_model.proofs.FromRules.{heads, heads-from, heads-push, heads-length, exists-heads, FromTablet, ends-tablets, each-under, exists-under, split-among, all-grow, RootOf, roots-cover, hash-below, AreChildren, children-found, child-cover}
+use Rattle.xc_model.proofs.Tree.{each-at}
+use Rattle.xc_model.proofs.FromRules.{heads, heads-from, heads-push, heads-length, exists-heads, FromTablet, ends-tablets, each-under, exists-under, split-among, all-grow, RootOf, roots-cover, hash-below, children-found, child-cover}
 
 -- ---- one record
 
@@ -148,6 +148,9 @@ kids-of ts h e fit m k f s o =
     let pair = some-pair (children hs t.id) has in
     child-cover hs t pair.0.0 pair.0.1 h (there-get hs t m (header-there ts f.tablet f.there)) (children-found [] (RootAt 0) hs t.id pair.0.0 pair.0.1 tt fit pair.1) o
 
+none-below : (n : ℕ) → n < 0 → ⊥
+none-below n h = omega arith
+
 pub rules-suffice : (logs : Logs) → is_valid logs ≡ true → ValidLogs logs.tablets
 unfolding is_valid headers_fit
 rules-suffice logs v =
@@ -162,7 +165,7 @@ rules-suffice logs v =
     record {
       grows = grows;
       covers = λ k2. record {
-        root = exists-heads (RootOf (hash_of k2)) (ends ts) (subst (Exists (RootOf (hash_of k2))) (sym same) (roots-cover (hash_of k2) [] (RootAt 0) hs (hash-below k2) (λ (z : hash_of k2 < 0). absurd (omega arith)) fit));
+        root = exists-heads (RootOf (hash_of k2)) (ends ts) (subst (Exists (RootOf (hash_of k2))) (sym same) (roots-cover (hash_of k2) [] (RootAt 0) hs (hash-below k2) (λ z. absurd (none-below (hash_of k2) z)) fit));
         child = each-weaker (FromTablet ts) (λ e. e.end.split ≡ true → owns (hash_of k2) e.header ≡ true → Exists (λ d. (d.header.parent ≡ Some e.header.id) × (owns (hash_of k2) d.header ≡ true)) (ends ts))
             (λ e f s o.
             let found = kids-of ts (hash_of k2) e fit m k f s (ap (owns (hash_of k2)) (sym (head-of ts e f)) ∙ o) in

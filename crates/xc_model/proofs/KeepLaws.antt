@@ -1,7 +1,7 @@
 -- Cutoffs, restores and new tablets.
-use Rattle.std.proofs.Common.{◌≡◌, ℕ, zero, suc, ◌+◌, ◌<◌, ◌≤◌, max, Bool, true, false, cond, List, [], ◌∷◌, map, length, replicate, Option, Some, None, refl, ap, sym, ◌∙◌, arith, subst, zero-add, get_or, take, ◌++◌, ⊎_elim}
-use Rattle.std.specs.Prelude.{filter, nat_le, ◌==◌, ◌&&◌, bytes_eq, slice_get, slice_index, slice_index_or, fold}
-use Rattle.std.proofs.lemmas.Bool.{cases_Bool, cases_lt, true≢false, and_parts, eqb-true}
+use Rattle.std.proofs.Common.{◌≡◌, ℕ, zero, suc, ◌≤◌, max, true, false, List, [], ◌∷◌, length, replicate, Option, Some, None, refl, ap, sym, ◌∙◌, arith, subst, get_or, take, ◌++◌}
+use Rattle.std.specs.Prelude.{filter, nat_le, slice_get, slice_index}
+use Rattle.std.proofs.lemmas.Bool.{true≢false}
 use Rattle.std.proofs.lemmas.List.{length-replicate, length-map}
 use Rattle.std.specs.Option.{option_map_or}
 use Rattle.xc_record.specs.SafeTime.{floor_after}
@@ -14,19 +14,17 @@ use Rattle.xc_model.proofs.Tree.{each-both, empty-open}
 use Rattle.xc_model.proofs.FromRules.{FromTablet, ends-tablets}
 use Rattle.xc_model.proofs.FromValid.{accepted-ends}
 use Rattle.xc_model.proofs.Bridge.{at_place, each-placed}
-use Rattle.xc_record.specs.declared.record.Header.{Header}
-use Rattle.xc_record.specs.declared.record.Record.{Record}
 use Rattle.xc_record.specs.declared.record.Logs.{Logs}
 use Rattle.xc_record.specs.Hash.{hash_of}
 use Rattle.xc_record.specs.Accepted.{AcceptedTablet, accepted_tablets}
-use Rattle.xc_record.specs.Path.{Version, events, path_to}
+use Rattle.xc_record.specs.Path.{Version, events}
 use Rattle.xc_record.specs.SafeTime.{place, last_safe_in, is_closed_in, is_closed, safe_time, StartsAfter, IsPlaces}
 use Rattle.xc_record.specs.Valid.{is_valid, headers_of}
 use Rattle.xc_record.proofs.SafeLaws.{safe_time-rises}
-use Rattle.xc_model.specs.Kept.{Kept, read, value_of, newest, upto, last_of, pruned, restored}
-use Rattle.xc_model.specs.Stands.{KeyVersion, TargetTablet, in_range, versions_at, kept_at, given_at, is_started, KeepsTablet, KeepsWithin, StandsFor, covers, KeepsFrom, RestoredTo, restore, new_tablet}
+use Rattle.xc_model.specs.Kept.{Kept, read, value_of, upto, pruned, restored}
+use Rattle.xc_model.specs.Stands.{KeyVersion, TargetTablet, versions_at, kept_at, is_started, KeepsTablet, StandsFor, restore, new_tablet}
 use Rattle.xc_model.specs.Laws.{NewStands, CutoffsKeepStanding, RestoresKeepReads, SafeTimeRises}
-use Rattle.xc_model.proofs.StableSort.{Each, Exists}
+use Rattle.xc_model.proofs.StableSort.{Each}
 use Rattle.xc_model.proofs.Placed.{placed, path_upto, owners}
 use Rattle.xc_model.proofs.Sorts.{each-weaker}
 use Rattle.xc_model.proofs.Keep.{newest-restored}

@@ -34,3 +34,4 @@ pub mod SplitEnd
 pub mod DeliverLaw
 pub mod SessionLaws
 pub mod TimeLaws
+pub mod ListLaw

@@ -1,12 +1,8 @@
 -- Where no disagreement is found, no case stands at any key: the keys of a transaction's own operations are enough.
-use Rattle.std.proofs.Common.{◌≡◌, ◌≢◌, ℕ, Bool, true, false, cond, List, [], ◌∷◌, ◌++◌, Option, Some, None, refl, ap, sym, ◌∙◌, arith, subst, append_assoc, append-nil, ◌⊎◌, inl, inr, ⊎_elim}
+use Rattle.std.proofs.Common.{◌≡◌, ◌≢◌, ℕ, Bool, true, false, cond, List, [], ◌∷◌, ◌++◌, Option, Some, None, refl, ap, sym, ◌∙◌, subst, append_assoc, append-nil, ◌⊎◌, inl, inr, ⊎_elim}
 use Rattle.std.specs.Prelude.{filter, flat_map, ◌==◌, ◌&&◌, ◌||◌, if◌then◌else◌, map, bytes_eq}
-use Rattle.std.specs.Option.{option_map_or}
 use Rattle.std.specs.List.{list_any}
 use Rattle.std.proofs.lemmas.Bool.{cases_Bool, cases_eq, eq-eqb, ne_eqb, true≢false}
-use Rattle.std.proofs.lemmas.Bool.Decides.{nat_tests}
-use Rattle.std.proofs.lemmas.Slice.Eq.{bytes_eq-Decides}
-use Rattle.std.proofs.lemmas.List.{append-nil as nil-append}
 use Rattle.xc_record.specs.declared.record.Kind.{Kind}
 use Rattle.xc_record.specs.declared.record.Kind.TheVariants as log
 use Rattle.xc_record.specs.declared.record.AgreeKind.{AgreeKind}
@@ -15,9 +11,8 @@ use Rattle.xc_record.specs.declared.record.Record.{Record}
 use Rattle.xc_record.specs.declared.record.Tablet.{Tablet}
 use Rattle.xc_record.specs.declared.record.Logs.{Logs}
 use Rattle.xc_record.specs.Hash.{hash_of, holds}
-use Rattle.xc_record.specs.Order.{safe_value}
 use Rattle.xc_record.specs.Accepted.{AcceptedTablet, accepted_tablets}
-use Rattle.xc_record.specs.Path.{Written, Event, Hold, Put, Fate, Waits, Taken, Dropped, fate, Waiting, waiting, waiting_by, events, kind_events, record_events, puts}
+use Rattle.xc_record.specs.Path.{Written, Event, Hold, Put, Fate, Waits, Taken, Dropped, fate, Waiting, waiting, waiting_by, events, kind_events, puts}
 use Rattle.xc_record.specs.Commits as real
 use Rattle.xc_record.specs.Valid.{is_valid}
 use Rattle.xc_record.specs.Agreement.{commit_differs, late_intent, aborted, straggler, kind_at, disagreement, path_above, straggles_at, HasNoCase, Agrees}
@@ -25,18 +20,17 @@ use Rattle.xc_record.proofs.HeaderLaws.{Numbered}
 use Rattle.xc_record.proofs.AgreementLaws.{agrees}
 use Rattle.xc_model.proofs.StableSort.{Each, Exists}
 use Rattle.xc_model.proofs.Placed.{owns, origin, owners, placed, path, ends}
-use Rattle.xc_model.proofs.Rows.{path_of, txn_ops}
+use Rattle.xc_model.proofs.Rows.{path_of}
 use Rattle.xc_model.proofs.ValidLogs.{ValidLogs}
-use Rattle.xc_model.proofs.Sorts.{each-append, each-weaker}
+use Rattle.xc_model.proofs.Sorts.{each-append}
 use Rattle.xc_model.proofs.Chain.{Goes, Threads, path-goes}
 use Rattle.xc_model.proofs.KeyRead.{each-front}
-use Rattle.xc_model.proofs.Cover.{events-push}
-use Rattle.xc_model.proofs.Tree.{Chained, chained, own, place-follow, owners-ends, ends-placed, path-ends}
+use Rattle.xc_model.proofs.Tree.{chained, own, place-follow, owners-ends, ends-placed, path-ends}
 use Rattle.xc_model.proofs.RowsAt.{Sound, kind_lefts, txn-lefts}
 use Rattle.xc_model.proofs.RealRows.{ops-same}
 use Rattle.xc_model.proofs.FromRules.{heads}
 use Rattle.xc_model.proofs.FromValid.{rules-suffice, accepted-ends, accepted-numbered, same-key}
-use Rattle.xc_model.proofs.FromCases.{any-none, unless_true, above-before, path-of-append}
+use Rattle.xc_model.proofs.FromCases.{any-none, above-before, path-of-append}
 
 -- a key's whole path goes by the order rules
 pub path-of-goes : (ts : List Tablet) (k : List ℕ) → ValidLogs ts → Goes 0 0 (path_of (hash_of k) (ends ts))
@@ -143,9 +137,10 @@ silent-free logs n c k before (b ∷ after) m s h g =
     ]
     in
     let parts = at (owns q b.header) refl g in
-    let more : Each (Silent n k) (path_of q (before ++ b ∷ [])) = subst (Each (Silent n k)) (sym (path-of-append q before (b ∷ []))) (each-append (Silent n k) (path_of q before) (path_of q (b ∷ [])) h (one (owns q b.header) parts.0)) in
-    ((λ o. subst (λ w. straggles_at n c k w b.records ≡ false) (sym above) (none-straggles n c k (path_of q before) b.records h (parts.0 o))),
-    silent-free logs n c k (before ++ b ∷ []) after m (s ∙ sym (append_assoc before (b ∷ []) after)) more parts.1)
+    let more : Each (Silent n k) (path_of q (before ++ b ∷ [])) = subst (Each (Silent n k)) (sym (path-of-append q before (b ∷ []))) (each-append (Silent n k) (path_of q before) (path_of q (b ∷ [])) h (one (owns q b.header) parts.0)) in (
+      (λ o. subst (λ w. straggles_at n c k w b.records ≡ false) (sym above) (none-straggles n c k (path_of q before) b.records h (parts.0 o))),
+      silent-free logs n c k (before ++ b ∷ []) after m (s ∙ sym (append_assoc before (b ∷ []) after)) more parts.1,
+    )
   where
     each-rest : (xs ys : List Record) → Each (Silent n k) (xs ++ ys) → Each (Silent n k) ys
     each-rest [] ys w = w

@@ -1,5 +1,5 @@
 -- The accepted tablets one by one, each beside its place: the forms that the proofs go by.
-use Rattle.std.specs.Prelude.{◌≡◌, ◌==◌, ℕ, ◌+◌, ◌^◌, ◌≤◌, max, Bool, true, false, cond, not, ◌&&◌, List, [], ◌∷◌, ◌++◌, map, take, length, Option, Some, None, fold, filter, flat_map, is_none, slice_index}
+use Rattle.std.specs.Prelude.{◌≡◌, ◌==◌, ℕ, ◌+◌, ◌≤◌, Bool, true, false, cond, not, ◌&&◌, List, [], ◌∷◌, ◌++◌, map, take, length, Option, Some, None, fold, filter, flat_map, is_none, slice_index}
 use Rattle.std.specs.Option.{option_map_or}
 use Rattle.std.proofs.Common.{◌⊎◌}
 use Rattle.xc_record.specs.declared.record.Kind.{Kind}
@@ -12,8 +12,8 @@ use Rattle.xc_record.specs.Order.{Progress, safe_value, break_of, after, accepte
 use Rattle.xc_record.specs.Accepted.{AcceptedTablet}
 use Rattle.xc_record.specs.SafeTime.{floor_after}
 use Rattle.xc_record.specs.Lists.{least}
-use Rattle.xc_record.specs.Path.{Event, Waiting, waiting, events, record_events}
-use Rattle.xc_model.specs.Kept.{Kept, steps, kept_from, upto, newest, pruned, restored}
+use Rattle.xc_record.specs.Path.{Waiting, waiting, events, record_events}
+use Rattle.xc_model.specs.Kept.{Kept, steps}
 use Rattle.xc_model.proofs.StableSort.{Each, Exists}
 use Rattle.xc_model.proofs.Paths.{IsAfter, shown}
 

@@ -1,14 +1,11 @@
 -- Reads of a tablet that stands for logs that agree.
-use Rattle.std.proofs.Common.{◌≡◌, ℕ, ◌<◌, ◌≤◌, true, List, [], ◌∷◌, map, Option, Some, None, refl, ap, sym, ◌∙◌, arith, subst}
+use Rattle.std.proofs.Common.{◌≡◌, ℕ, ◌<◌, ◌≤◌, true, List, [], ◌∷◌, map, Some, refl, ap, sym, ◌∙◌, subst}
 use Rattle.xc_record.specs.declared.record.Logs.{Logs}
 use Rattle.xc_record.specs.Hash.{hash_of}
-use Rattle.xc_record.specs.Accepted.{AcceptedTablet, accepted_tablets}
-use Rattle.xc_record.specs.Agreement.{disagreement}
+use Rattle.xc_record.specs.Accepted.{accepted_tablets}
 use Rattle.xc_record.specs.Path.{Version, events}
-use Rattle.xc_record.specs.Rows.{row}
 use Rattle.xc_record.specs.Valid.{is_valid}
-use Rattle.xc_model.specs.Kept.{Kept, newest, read, value_of}
-use Rattle.xc_model.specs.Stands.{StandsFor, kept_at, given_at, covers}
+use Rattle.xc_model.specs.Kept.{newest, read, value_of}
 use Rattle.xc_model.specs.Laws.{ReadsShowRows, KeysSuffice}
 use Rattle.xc_model.proofs.StableSort.{Each}
 use Rattle.xc_model.proofs.Placed.{ends, placed, safe, owners, path_upto, Legal}
@@ -24,7 +21,7 @@ use Rattle.xc_model.proofs.FromCases.{no-case-agrees}
 use Rattle.xc_model.proofs.NoDisagreement.{no-disagreement, sound-logs}
 use Rattle.xc_model.proofs.Bridge.{safe-time, legal-places, given-shown}
 
-values : (xs : List Version) → value_of xs ≡ row_of (map (λ x. x.value) xs)
+pub values : (xs : List Version) → value_of xs ≡ row_of (map (λ x. x.value) xs)
 values [] = refl
 values (x ∷ xs) = refl
 

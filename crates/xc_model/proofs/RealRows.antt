@@ -1,6 +1,6 @@
 -- The rows of the logs are the rows that the proofs go by.
-use Rattle.std.proofs.Common.{◌≡◌, ℕ, ◌≤◌, ◌<◌, Bool, true, false, cond, List, [], ◌∷◌, ◌++◌, map, Option, Some, None, refl, ap, sym, ◌∙◌, arith, subst, append-nil}
-use Rattle.std.specs.Prelude.{filter, flat_map, nat_le, nat_lt, ◌==◌, ◌||◌, ◌&&◌}
+use Rattle.std.proofs.Common.{◌≡◌, ℕ, ◌≤◌, ◌<◌, Bool, true, false, cond, List, [], ◌∷◌, ◌++◌, map, Option, Some, None, refl, ap, sym, ◌∙◌, arith}
+use Rattle.std.specs.Prelude.{filter, flat_map, nat_le, ◌==◌}
 use Rattle.std.specs.Option.{option_map_or}
 use Rattle.std.specs.List.{filter_map, cons_option}
 use Rattle.std.proofs.lemmas.List.{map-append}
@@ -23,7 +23,7 @@ use Rattle.xc_model.proofs.StableSort.{stable_sort, Each}
 use Rattle.xc_model.proofs.Rows.{Entry, over_records, kind_write, record_write, Applied, kind_apply, record_apply, first_commit, commit_of, numbers, Part, kind_part, record_part, txn_ops, entry_by, txn_entry, by_pair, commits, entry_upto, row_at}
 use Rattle.xc_model.proofs.Sorts.{each-append, each-weaker}
 use Rattle.xc_model.proofs.Sorted.{by_triple, by_double, commits-sort, provisional-sort, Agreeing, Ties, sort-finer, ties-append, ties-same, ties-rising, map-sort}
-use Rattle.xc_model.proofs.RowsAt.{map-flat, flat-same, flat-flat, each-flat, each-true, puts-flat}
+use Rattle.xc_model.proofs.RowsAt.{map-flat, flat-same, each-flat, each-true, puts-flat}
 use Rattle.xc_model.proofs.FromRules.{heads}
 
 -- ---- the commit of a transaction
@@ -237,7 +237,7 @@ abbrev pub row_of : List Written → Option (List ℕ)
 row_of [] = None
 row_of (v ∷ vs) = v
 
-after-last : (xs : List Written) → after_puts None xs ≡ row_of (last_of xs)
+pub after-last : (xs : List Written) → after_puts None xs ≡ row_of (last_of xs)
 after-last [] = refl
 after-last (x ∷ []) = refl
 after-last (x ∷ (y ∷ ys)) = after-last (y ∷ ys)

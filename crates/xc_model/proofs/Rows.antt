@@ -1,5 +1,5 @@
 -- The commits of logs record by record, and the row that they leave at a key.
-use Rattle.std.specs.Prelude.{◌==◌, ℕ, Bool, true, false, cond, ◌&&◌, ◌||◌, nat_lt, nat_le, List, [], ◌∷◌, ◌++◌, map, Option, Some, None, filter, flat_map}
+use Rattle.std.specs.Prelude.{◌==◌, ℕ, Bool, cond, ◌&&◌, ◌||◌, nat_lt, nat_le, List, [], ◌∷◌, ◌++◌, map, Option, Some, None, filter, flat_map}
 use Rattle.xc_record.specs.declared.record.Kind.{Kind}
 use Rattle.xc_record.specs.declared.record.Kind.TheVariants as log
 use Rattle.xc_record.specs.declared.record.Op.{Op}

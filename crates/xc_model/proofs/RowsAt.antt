@@ -7,7 +7,7 @@ use Rattle.xc_record.specs.Commits.{distinct, insert_number}
 use Rattle.std.proofs.lemmas.List.{map-append}
 use Rattle.std.specs.List.{filter, flat_map}
 use Rattle.std.proofs.lemmas.Bool.Decides.{nat_tests}
-use Rattle.std.proofs.lemmas.Bool.{cases_eq, eqb-true, eq-eqb, ne_eqb, le-leb}
+use Rattle.std.proofs.lemmas.Bool.{cases_eq, eq-eqb, ne_eqb, le-leb}
 use Rattle.std.proofs.lemmas.List.Elements.{filter-append}
 use Rattle.std.proofs.lemmas.Grind.{flat_map-append}
 use Rattle.xc_record.specs.declared.record.Kind.TheVariants as log
@@ -435,7 +435,7 @@ made-values : (c n : ℕ) (vs : List Written) → map (λ (x : Version). x.value
 made-values c n [] = refl
 made-values c n (v ∷ vs) = ap (λ w. v ∷ w) (made-values c n vs)
 
-map-last_of : {A B : Type 0} (f : A → B) (xs : List A) → map f (last_of xs) ≡ last_of (map f xs)
+pub map-last_of : {A B : Type 0} (f : A → B) (xs : List A) → map f (last_of xs) ≡ last_of (map f xs)
 map-last_of f [] = refl
 map-last_of f (x ∷ []) = refl
 map-last_of f (x ∷ (y ∷ ys)) = map-last_of f (y ∷ ys)

@@ -1,13 +1,11 @@
 -- What the commands keep of a session.
-use Rattle.std.proofs.Common.{◌≡◌, ◌≢◌, ◌==◌, ℕ, zero, suc, ◌+◌, ◌-◌, ◌<◌, ◌≤◌, min, max, Bool, true, false, cond, List, [], ◌∷◌, ◌++◌, map, take, length, replicate, Option, Some, None, refl, ap, sym, ◌∙◌, arith, subst, zero-add, get_or, ◌⊎◌, inl, inr, ⊎_elim}
-use Rattle.std.specs.Prelude.{◌&&◌, nat_lt, slice_get, slice_index, slice_set, if◌then◌else◌, option_and_then, is_some}
+use Rattle.std.proofs.Common.{◌≡◌, ◌==◌, ℕ, zero, suc, ◌+◌, ◌-◌, ◌<◌, ◌≤◌, min, max, Bool, true, false, cond, List, [], ◌∷◌, ◌++◌, map, length, replicate, Option, Some, None, refl, ap, sym, ◌∙◌, arith, subst, ◌⊎◌, inl, inr, ⊎_elim}
+use Rattle.std.specs.Prelude.{◌&&◌, nat_lt, slice_get, slice_index, slice_set, if◌then◌else◌, option_and_then}
 use Rattle.std.specs.Option.{option_map_or, option_map}
-use Rattle.std.specs.List.{filter_map, cons_option}
-use Rattle.std.proofs.lemmas.Bool.{cases_Bool, cases_eq, cases_lt, and_parts, and_from, eqb-true, eq-eqb, ne_eqb, true≢false}
+use Rattle.std.proofs.lemmas.Bool.{cases_Bool, cases_eq, cases_lt, and_parts, and_from, eqb-true, eq-eqb, true≢false}
 use Rattle.std.proofs.lemmas.Bool.Decides.{nat_tests}
 use Rattle.std.proofs.lemmas.List.{get_or-set_same, get_or-set_other, length-set, length-replicate, length-map}
 use Rattle.xc_record.specs.declared.record.Header.{Header}
-use Rattle.xc_record.specs.declared.record.Record.{Record}
 use Rattle.xc_record.specs.declared.record.Tablet.{Tablet}
 use Rattle.xc_record.specs.declared.record.Logs.{Logs}
 use Rattle.xc_record.specs.declared.record.Break.{Break}
@@ -17,13 +15,13 @@ use Rattle.xc_record.specs.declared.session.Line.{Line}
 use Rattle.xc_record.specs.declared.session.Line.TheVariants as line
 use Rattle.xc_record.specs.declared.session.PollAnswer.{PollAnswer}
 use Rattle.xc_record.specs.declared.session.PollAnswer.TheVariants as poll
-use Rattle.xc_record.specs.Accepted.{AcceptedTablet, accepted_tablets, accepted, records, parent_of, halt}
+use Rattle.xc_record.specs.Accepted.{AcceptedTablet, accepted_tablets, accepted, records, parent_of}
 use Rattle.xc_record.specs.SafeTime.{place, is_closed_in, is_closed as closed_at, safe_time, StartsAfter, IsPlaces}
 use Rattle.xc_record.specs.Valid.{is_valid, headers_of}
-use Rattle.xc_record.specs.Session.{Session, IsSession, start}
-use Rattle.xc_record.specs.Step.{safe_now, cursor, awaits, halts_at, poll_answer, moved, set_back, poll_step, stop_step, ends as ends_of, drained, halt_lines, drain_step, row_lines, read_at_line, prune_step, failover_step, open_step, refuses, step, lines_from}
+use Rattle.xc_record.specs.Session.{Session, IsSession}
+use Rattle.xc_record.specs.Step.{safe_now, cursor, awaits, halts_at, poll_answer, moved, set_back, poll_step, stop_step, ends as ends_of, drained, prune_step, open_step, refuses, step}
 use Rattle.xc_record.proofs.SafeLaws.{safe_time-rises}
-use Rattle.xc_model.specs.Laws.{StepsKeepSessions, SessionsStart, StepsKeepTimes, NamedTimesRise, ClosedStays}
+use Rattle.xc_model.specs.Laws.{StepsKeepSessions, SessionsStart, StepsKeepTimes}
 use Rattle.xc_model.proofs.StableSort.{Each, Exists}
 use Rattle.xc_model.proofs.Sorts.{each-append, each-weaker}
 use Rattle.xc_model.proofs.Tree.{each-itself, each-at, exists-weaker}
@@ -31,7 +29,7 @@ use Rattle.xc_model.proofs.FromRules.{heads}
 use Rattle.xc_model.proofs.FromValid.{rules-suffice, accepted-ends, accepted-numbered}
 use Rattle.xc_model.proofs.Bridge.{get-tablet, closed-of}
 use Rattle.xc_model.proofs.KeepLaws.{stands-new}
-use Rattle.xc_model.proofs.FloorLaw.{heads-logs, get-id, none-index}
+use Rattle.xc_model.proofs.FloorLaw.{heads-logs, none-index}
 use Rattle.xc_model.proofs.DeliverLaw.{get-is, some-below, pick, none-some, some-number}
 use Rattle.xc_record.specs.Order.{Progress, accepted_from}
 use Rattle.xc_model.proofs.Placed.{begun, end_under, order_at, parent_order, ends_from}

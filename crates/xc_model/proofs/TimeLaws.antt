@@ -1,9 +1,8 @@
 -- The times that a session names, along its commands.
-use Rattle.std.proofs.Common.{◌≡◌, ℕ, ◌≤◌, max, Bool, true, false, List, [], ◌∷◌, ◌++◌, map, length, Option, Some, None, refl, ap, sym, ◌∙◌, arith, subst, ◌⊎◌, inl, inr, ⊎_elim}
+use Rattle.std.proofs.Common.{◌≡◌, ℕ, ◌≤◌, max, Bool, true, false, List, [], ◌∷◌, ◌++◌, map, Option, Some, None, refl, ap, sym, arith, subst, ◌⊎◌, inl, inr, ⊎_elim}
 use Rattle.std.specs.Prelude.{nat_lt, if◌then◌else◌}
 use Rattle.std.specs.Option.{option_map_or, option_map}
 use Rattle.std.specs.List.{filter_map, cons_option}
-use Rattle.std.proofs.lemmas.Bool.{cases_Bool}
 use Rattle.std.proofs.lemmas.List.Elements.{filter_map-append}
 use Rattle.xc_record.specs.declared.record.Logs.{Logs}
 use Rattle.xc_record.specs.declared.record.Break.{Break}
@@ -14,10 +13,9 @@ use Rattle.xc_record.specs.declared.session.Line.TheVariants as line
 use Rattle.xc_record.specs.declared.session.PollAnswer.{PollAnswer}
 use Rattle.xc_record.specs.declared.session.PollAnswer.TheVariants as poll
 use Rattle.xc_record.specs.Accepted.{AcceptedTablet, accepted_tablets, halt}
-use Rattle.xc_record.specs.Valid.{is_valid}
-use Rattle.xc_record.specs.Session.{Session, IsSession}
+use Rattle.xc_record.specs.Session.{Session}
 use Rattle.xc_record.specs.Rows.{rows, row}
-use Rattle.xc_record.specs.Step.{safe_now, poll_answer, poll_step, stop_step, drained, halt_lines, row_lines, read_at_line, prune_step, open_step, refuses, is_change, step, lines_from}
+use Rattle.xc_record.specs.Step.{safe_now, poll_answer, poll_step, stop_step, drained, read_at_line, prune_step, open_step, refuses, is_change, step, lines_from}
 use Rattle.xc_model.specs.Sessions.{named, named_times, IsRising}
 use Rattle.xc_model.specs.Laws.{NamedTimesRise, ClosedStays}
 use Rattle.xc_model.proofs.SessionLaws.{either, steps-keep, steps-rise}

@@ -4,7 +4,7 @@
 --     kept_from u xs      of the versions with commit at most u only the newest, and all later ones
 --     newest t xs      the newest version with commit at most t, as a list of one, or none
 use Rattle.std.specs.Prelude.{ℕ, Bool, ◌&&◌, ◌||◌, ◌==◌, true, false, nat_lt, nat_le, List, [], ◌∷◌, ◌++◌, Option, None, if◌then◌else◌, filter}
-use Rattle.xc_record.specs.Path.{Event, Put, Hold, Apply, Abort, Safe, Written, Version, Waiting}
+use Rattle.xc_record.specs.Path.{Event, Put, Hold, Apply, Abort, Safe, Version, Waiting}
 
 pub record Kept : Type 0 where
   pub versions : List Version

@@ -4,7 +4,10 @@ use Rattle.xc_record.specs.declared.record.Logs.{Logs}
 use Rattle.xc_record.specs.declared.record.Record.{Record}
 use Rattle.xc_record.specs.Accepted.{accepted}
 use Rattle.xc_record.specs.Agreement.{disagreement, Agrees}
-use Rattle.xc_record.specs.Rows.{row}
+use Rattle.xc_record.specs.Rows.{row, rows}
+use Rattle.std.specs.Ordering.{nat_cmp}
+use Rattle.std.specs.Cmp.Lexicographic.{slice_cmp}
+use Rattle.std.specs.FinMap.Entries.{where_key}
 use Rattle.xc_record.specs.Valid.{is_valid, headers_of}
 use Rattle.xc_record.specs.declared.session.Command.{Command}
 use Rattle.xc_record.specs.Session.{Session, IsSession, start}
@@ -12,11 +15,15 @@ use Rattle.xc_record.specs.Step.{step, safe_now, lines_from}
 use Rattle.xc_record.specs.SafeTime.{safe_time, IsPlaces}
 use Rattle.xc_model.specs.Kept.{read}
 use Rattle.xc_model.specs.Sessions.{named_times, IsRising}
-use Rattle.xc_model.specs.Stands.{TargetTablet, in_range, kept_at, StandsFor, covers, new_tablet, least_kept, KeepsFrom, RestoredTo, has_started, TakesIn, TakesAll}
+use Rattle.xc_model.specs.Stands.{TargetTablet, in_range, kept_at, rows_shown, StandsFor, covers, new_tablet, least_kept, KeepsFrom, RestoredTo, has_started, TakesIn, TakesAll}
 
 -- For logs that agree, a read at a time from the cutoff to what the tablet covers is the row of the logs at that time.
 abbrev pub ReadsShowRows : Type 0
 ReadsShowRows = (logs : Logs) (x : TargetTablet) (u t : ℕ) (k : List ℕ) → StandsFor logs u x → disagreement logs ≡ None → u ≤ t → t ≤ covers logs x → in_range x k ≡ true → read t (kept_at x k) ≡ row logs t k
+
+-- The whole list of rows that a tablet shows is the list of the logs' rows at that time, in byte order, of the keys of its range.
+abbrev pub ReadsShowLists : Type 0
+ReadsShowLists = (logs : Logs) (x : TargetTablet) (u t : ℕ) → StandsFor logs u x → disagreement logs ≡ None → u ≤ t → t ≤ covers logs x → rows_shown t x ≡ where_key (slice_cmp nat_cmp) (in_range x) (rows logs t)
 
 -- Well-formed logs in which no disagreement is found have no case of disagreement at any key.
 abbrev pub KeysSuffice : Type 0

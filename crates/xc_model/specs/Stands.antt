@@ -1,6 +1,7 @@
 -- What a target tablet keeps, and when it stands for logs.
 --     TargetTablet      what a tablet of the target keeps of all source tablets, for the keys of its range
 --     kept_at x k      what it keeps at the key k
+--     rows_shown t x      the rows that it shows at t, in byte order of keys
 --     StandsFor logs u x      x keeps exactly what the logs give up to its places, with no history before the cutoff u
 --     new_tablet lo hi headers      a tablet that took nothing in yet
 --     least_kept x      the least of the last safe values that x keeps for open tablets
@@ -21,7 +22,9 @@ use Rattle.xc_record.specs.Accepted.{AcceptedTablet, accepted_tablets}
 use Rattle.xc_record.specs.Path.{Written, Version, Waiting, path_to, events, record_events, versions, waiting}
 use Rattle.xc_record.specs.SafeTime.{safe_time, last_safe_in, is_closed_in, is_closed, IsPlaces}
 use Rattle.xc_record.specs.Valid.{is_valid, headers_of}
+use Rattle.xc_record.specs.declared.record.Op.{Op}
 use Rattle.xc_record.specs.Lists.{least}
+use Rattle.xc_record.specs.Rows.{rows_after}
 use Rattle.xc_model.specs.Kept.{Kept, steps, kept_from}
 
 -- ---- a target tablet
@@ -67,6 +70,10 @@ kept_at x k = record { versions = versions_at k x.versions; held = held_at k x.h
 pub record KeepsWithin (x : TargetTablet) : Type 0 where
   pub versions : AllByRecursion (λ v. in_range x v.key ≡ true) x.versions
   pub held : AllByRecursion (λ w. in_range x w.key ≡ true) x.held
+
+-- the rows that x shows at t, in byte order of keys: of each key the newest version with commit at most t, unless it removes the key
+abbrev pub rows_shown : ℕ → TargetTablet → List (List ℕ × List ℕ)
+rows_shown t x = rows_after (map {B = Op} (λ v. record { key = v.key; value = v.value }) (filter (λ v. nat_le v.commit t) x.versions)) []
 
 -- ---- standing for logs
 

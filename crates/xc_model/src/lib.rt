@@ -4,11 +4,16 @@
 //! at that time: the transactions committed by then, each in full, and none that commits later.
 #![tactic(auto)]
 
-ghost use Rattle.xc_model.specs.Laws.{ReadsShowRows, KeysSuffice, NewStands, CutoffsKeepStanding, RestoresKeepReads, SafeTimeRises, KeptValuesSuffice, DeliveriesKeepStanding, BatchesKeepStanding, SessionsStart, StepsKeepSessions, StepsKeepTimes, NamedTimesRise, ClosedStays};
+ghost use Rattle.xc_model.specs.Laws.{ReadsShowRows, ReadsShowLists, KeysSuffice, NewStands, CutoffsKeepStanding, RestoresKeepReads, SafeTimeRises, KeptValuesSuffice, DeliveriesKeepStanding, BatchesKeepStanding, SessionsStart, StepsKeepSessions, StepsKeepTimes, NamedTimesRise, ClosedStays};
 
 /// For logs that agree, a read at a time from the cutoff to what the tablet covers is the row of the logs at that time.
 pub fn reads_show_rows()
     ensures { ReadsShowRows }
+{}
+
+/// The whole list of rows that a tablet shows is the list of the logs' rows at that time, in byte order, of the keys of its range.
+pub fn reads_show_lists()
+    ensures { ReadsShowLists }
 {}
 
 /// Well-formed logs in which no disagreement is found have no case of disagreement at any key.

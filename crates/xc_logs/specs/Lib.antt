@@ -1,1 +1,2 @@
 pub mod LogSet
+pub mod Feed

@@ -58,12 +58,20 @@ impl LogSet {
         &self.tablets()[id as usize].header
     }
 
+    /// The records of a tablet, to be walked in the order of their numbers.
+    pub fn records(&self, id: u32) -> &[Record]
+        requires { id < length self.now.tablets }
+        ensures { result.now ≡ records self.now id }
+    {
+        self.tablets()[id as usize].records.as_slice()
+    }
+
     /// How many records a tablet has.
     pub fn len(&self, id: u32) -> u64
         requires { id < length self.now.tablets }
         ensures { result ≡ length (records self.now id) }
     {
-        self.tablets()[id as usize].records.as_slice().len() as u64
+        self.records(id).len() as u64
     }
 
     /// The tablets that a tablet was split into, the left one first: None exactly where no header names it as its parent.

@@ -18,7 +18,7 @@ pub struct MemoryFeed<'a> {
 impl<'a> MemoryFeed<'a> {
     /// A feed of these logs.
     pub fn new(logs: &'a LogSet) -> MemoryFeed<'a>
-        ensures { result.logs.now ≡ logs.now }
+        ensures { ⟦<MemoryFeed<'a> as Feed>⟧.logs result ≡ Some logs.now }
     {
         let _tablets = logs.tablets();
         MemoryFeed { logs }

@@ -1,5 +1,5 @@
 -- What the laws say of small logs: a split tablet, a transaction over both children, a removal, a cutoff. All is computed by the definitions.
-use Rattle.std.proofs.Common.{◌≡◌, ℕ, true, false, List, [], ◌∷◌, Option, Some, None, refl}
+use Rattle.std.proofs.Common.{◌≡◌, true, false, [], ◌∷◌, Some, None, refl}
 use Rattle.std.specs.Prelude.{codes}
 use Rattle.std.specs.Ordering.{nat_cmp}
 use Rattle.std.specs.Cmp.Lexicographic.{slice_cmp}
@@ -13,7 +13,7 @@ use Rattle.xc_record.specs.Session.{start}
 use Rattle.xc_record.specs.Step.{lines_from}
 use Rattle.xc_record.specs.declared.session.Command.TheVariants as command
 use Rattle.xc_record.specs.Valid.{is_valid, headers_of}
-use Rattle.xc_record.proofs.WorkedLogs.{computed, at, a, z, two_tablets, with_both_children}
+use Rattle.xc_record.proofs.WorkedLogs.{computed, at, a, z, with_both_children}
 use Rattle.xc_model.specs.Kept.{read, steps, kept_from}
 use Rattle.xc_model.specs.Sessions.{named_times}
 use Rattle.xc_model.specs.Stands.{TargetTablet, in_range, kept_at, given_at, rows_shown, covers, least_kept, restore, versions_at, new_tablet}

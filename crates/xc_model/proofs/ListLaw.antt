@@ -15,7 +15,7 @@ use Rattle.xc_record.specs.Path.{Version, puts}
 use Rattle.xc_record.specs.Rows.{rows_after, rows, row}
 use Rattle.xc_record.proofs.RowLaws.{after_puts, find-rows_after, rows_after-sorted, rows-sorted}
 use Rattle.xc_model.specs.Kept.{upto, newest, read, value_of, last_of}
-use Rattle.xc_model.specs.Stands.{restore, covers, RestoredTo, KeyVersion, TargetTablet, in_range, versions_at, kept_at, rows_shown}
+use Rattle.xc_model.specs.Stands.{restore, covers, KeyVersion, TargetTablet, in_range, versions_at, kept_at, rows_shown}
 use Rattle.xc_model.specs.Laws.{ReadsShowLists, RestoredShowRows}
 use Rattle.xc_model.proofs.KeepLaws.{restores-keep}
 use Rattle.xc_model.proofs.StableSort.{Each}
@@ -78,6 +78,7 @@ restored-list v t y h = ap (λ vs. rows_after (map op_of vs) []) (upto-both v t 
 pub restored-show : RestoredShowRows
 restored-show logs x y u t v r agree b h =
     let c : v ≤ covers logs y = let q : t ≤ covers logs y = r.covered in omega arith in
-    subst (λ (z : TargetTablet). ((k : List ℕ) → in_range z k ≡ true → read v (kept_at z k) ≡ row logs v k) × (rows_shown v z ≡ where_key cmp (in_range z) (rows logs v))) (sym r.is)
-    ((λ k q. restores-keep logs (restore t y) y u t v k (record { stood = r.stood; after_cutoff = r.after_cutoff; covered = r.covered; is = refl }) h ∙ reads-show-rows logs y u v k r.stood agree b c q),
-    restored-list v t y h ∙ reads-show-lists logs y u v r.stood agree b c)
+    subst (λ (z : TargetTablet). ((k : List ℕ) → in_range z k ≡ true → read v (kept_at z k) ≡ row logs v k) × (rows_shown v z ≡ where_key cmp (in_range z) (rows logs v))) (sym r.is) (
+      (λ k q. restores-keep logs (restore t y) y u t v k (record { stood = r.stood; after_cutoff = r.after_cutoff; covered = r.covered; is = refl }) h ∙ reads-show-rows logs y u v k r.stood agree b c q),
+      restored-list v t y h ∙ reads-show-lists logs y u v r.stood agree b c,
+    )

@@ -35,3 +35,4 @@ pub mod DeliverLaw
 pub mod SessionLaws
 pub mod TimeLaws
 pub mod ListLaw
+mod Examples

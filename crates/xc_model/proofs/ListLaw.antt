@@ -1,4 +1,6 @@
 -- The whole list of rows that a tablet shows.
+use Rattle.std.proofs.Common.{◌≤◌, subst}
+use Rattle.std.proofs.lemmas.Bool.Decides.{nat_tests}
 use Rattle.std.proofs.Common.{◌≡◌, ℕ, Bool, true, false, cond, List, [], ◌∷◌, map, None, refl, ap, sym, ◌∙◌, arith, ⊎_elim}
 use Rattle.std.specs.Prelude.{filter, nat_le, bytes_eq}
 use Rattle.std.specs.declared.cmp.Ordering.{Ordering}
@@ -10,11 +12,12 @@ use Rattle.std.specs.FinMap.Entries.{find, where_key, find-where_key, is_sorted-
 use Rattle.std.proofs.lemmas.Bool.{cases_Bool, true≢false}
 use Rattle.xc_record.specs.declared.record.Op.{Op}
 use Rattle.xc_record.specs.Path.{Version, puts}
-use Rattle.xc_record.specs.Rows.{rows, row}
+use Rattle.xc_record.specs.Rows.{rows_after, rows, row}
 use Rattle.xc_record.proofs.RowLaws.{after_puts, find-rows_after, rows_after-sorted, rows-sorted}
 use Rattle.xc_model.specs.Kept.{upto, newest, read, value_of, last_of}
-use Rattle.xc_model.specs.Stands.{KeyVersion, TargetTablet, in_range, versions_at, kept_at, rows_shown}
-use Rattle.xc_model.specs.Laws.{ReadsShowLists}
+use Rattle.xc_model.specs.Stands.{restore, covers, KeyVersion, TargetTablet, in_range, versions_at, kept_at, rows_shown}
+use Rattle.xc_model.specs.Laws.{ReadsShowLists, RestoredShowRows}
+use Rattle.xc_model.proofs.KeepLaws.{restores-keep}
 use Rattle.xc_model.proofs.StableSort.{Each}
 use Rattle.xc_model.proofs.RowsAt.{map-last_of}
 use Rattle.xc_model.proofs.RealRows.{row_of, after-last}
@@ -62,3 +65,20 @@ reads-show-lists logs x u t s agree b c =
     go : (k : List ℕ) (o : Bool) → in_range x k ≡ o → read t (kept_at x k) ≡ cond o (find cmp k (rows logs t)) None
     go k true e = reads-show-rows logs x u t k s agree b c e
     go k false e = none-read x t k s.within.versions e
+
+-- ---- restored tablets
+
+upto-both : (v t : ℕ) (vs : List KeyVersion) → v ≤ t → filter (λ w. nat_le w.commit v) (filter (λ w. nat_le w.commit t) vs) ≡ filter (λ w. nat_le w.commit v) vs
+upto-both v t [] h = refl
+upto-both v t (w ∷ vs) h = grind (arith, nat_tests, upto-both v t vs h)
+
+restored-list : (v t : ℕ) (y : TargetTablet) → v ≤ t → rows_shown v (restore t y) ≡ rows_shown v y
+restored-list v t y h = ap (λ vs. rows_after (map op_of vs) []) (upto-both v t y.versions h)
+
+pub restored-show : RestoredShowRows
+restored-show logs x y u t v r agree b h =
+    let c : v ≤ covers logs y = let q : t ≤ covers logs y = r.covered in omega arith in
+    subst (λ (z : TargetTablet). ((k : List ℕ) → in_range z k ≡ true → read v (kept_at z k) ≡ row logs v k) × (rows_shown v z ≡ where_key cmp (in_range z) (rows logs v))) (sym r.is) (
+      (λ k q. restores-keep logs (restore t y) y u t v k (record { stood = r.stood; after_cutoff = r.after_cutoff; covered = r.covered; is = refl }) h ∙ reads-show-rows logs y u v k r.stood agree b c q),
+      restored-list v t y h ∙ reads-show-lists logs y u v r.stood agree b c,
+    )

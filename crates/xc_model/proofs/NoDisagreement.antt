@@ -1,4 +1,6 @@
 -- Where no disagreement is found, no case stands at any key: the keys of a transaction's own operations are enough.
+use Rattle.xc_record.specs.Lists.{first_some, or_else}
+use Rattle.std.specs.Option.{option_map_or, option_map}
 use Rattle.std.proofs.Common.{◌≡◌, ◌≢◌, ℕ, Bool, true, false, cond, List, [], ◌∷◌, ◌++◌, Option, Some, None, refl, ap, sym, ◌∙◌, subst, append_assoc, append-nil, ◌⊎◌, inl, inr, ⊎_elim}
 use Rattle.std.specs.Prelude.{filter, flat_map, ◌==◌, ◌&&◌, ◌||◌, if◌then◌else◌, map, bytes_eq}
 use Rattle.std.specs.List.{list_any}
@@ -15,14 +17,14 @@ use Rattle.xc_record.specs.Accepted.{AcceptedTablet, accepted_tablets}
 use Rattle.xc_record.specs.Path.{Written, Event, Hold, Put, Fate, Waits, Taken, Dropped, fate, Waiting, waiting, waiting_by, events, kind_events, puts}
 use Rattle.xc_record.specs.Commits as real
 use Rattle.xc_record.specs.Valid.{is_valid}
-use Rattle.xc_record.specs.Agreement.{commit_differs, late_intent, aborted, straggler, kind_at, disagreement, path_above, straggles_at, HasNoCase, Agrees}
+use Rattle.xc_record.specs.Agreement.{Disagreement, disagreement_on, commit_differs, late_intent, aborted, straggler, kind_at, disagreement, path_above, straggles_at, HasNoCase, Agrees}
 use Rattle.xc_record.proofs.HeaderLaws.{Numbered}
 use Rattle.xc_record.proofs.AgreementLaws.{agrees}
 use Rattle.xc_model.proofs.StableSort.{Each, Exists}
 use Rattle.xc_model.proofs.Placed.{owns, origin, owners, placed, path, ends}
 use Rattle.xc_model.proofs.Rows.{path_of}
 use Rattle.xc_model.proofs.ValidLogs.{ValidLogs}
-use Rattle.xc_model.proofs.Sorts.{each-append}
+use Rattle.xc_model.proofs.Sorts.{each-weaker, each-append}
 use Rattle.xc_model.proofs.Chain.{Goes, Threads, path-goes}
 use Rattle.xc_model.proofs.KeyRead.{each-front}
 use Rattle.xc_model.proofs.Tree.{chained, own, place-follow, owners-ends, ends-placed, path-ends}
@@ -193,3 +195,38 @@ no-cases logs n c (b ∷ bs) f h =
 -- logs in which no disagreement is found agree
 pub no-disagreement : (logs : Logs) → is_valid logs ≡ true → disagreement logs ≡ None → Agrees logs
 no-disagreement logs valid e = record { no_case = λ n c q. no-cases logs n c (accepted_tablets logs) (λ k z. key-free logs n c k valid z) (agrees logs n c e q) }
+
+-- ---- and back
+
+all-first : (a : Bool) (x : AgreeKind) (o : Option AgreeKind) → a ≡ false → o ≡ None → (if a then Some x else o) ≡ None
+all-first true x o e f = cc
+all-first false x o e f = f
+
+none-any : {A : Type 0} (p : A → Bool) (xs : List A) → ((x : A) → p x ≡ false) → list_any p xs ≡ false
+none-any p [] f = refl
+none-any p (x ∷ xs) f = ap (λ b. b || list_any p xs) (f x) ∙ none-any p xs f
+
+no-kind : (logs : Logs) (n c : ℕ) (b : AcceptedTablet) → HasNoCase logs n c b → kind_at logs n c b ≡ None
+unfolding kind_at straggler
+no-kind logs n c b h = all-first _ _ _ h.same_commit (all-first _ _ _ h.early_intents (all-first _ _ _ h.no_abort (all-first _ _ _ (none-any (λ (op : Op). straggles_on logs n c b op.key) (real.txn_ops logs n) (λ op. off (holds b.header (hash_of op.key)) _ (h.no_straggler op.key))) refl)))
+  where
+    off : (a d : Bool) → (a ≡ true → d ≡ false) → (a && d) ≡ false
+    off true d f = f refl
+    off false d f = refl
+
+first-none : {X Y : Type 0} (f : X → Option Y) (xs : List X) → Each (λ x. f x ≡ None) xs → first_some f xs ≡ None
+first-none f [] h = refl
+first-none f (x ∷ xs) h = ap (λ o. or_else o (first_some f xs)) h.0 ∙ first-none f xs h.1
+
+every : {X : Type 0} (P : X → Type 0) (xs : List X) → ((x : X) → P x) → Each P xs
+every P [] f = tt
+every P (x ∷ xs) f = (f x, every P xs f)
+
+pub agrees-found : (logs : Logs) → Agrees logs → disagreement logs ≡ None
+unfolding disagreement disagreement_on
+agrees-found logs a = first-none (λ n. option_map_or (disagreement_on logs n) (real.commit_of logs n) None) (real.applied logs) (every _ (real.applied logs) (λ n. one n (real.commit_of logs n) refl))
+  where
+    one : (n : ℕ) (o : Option ℕ) → real.commit_of logs n ≡ o → option_map_or (disagreement_on logs n) o None ≡ None
+    one n None e = refl
+    one n (Some c) e = first-none (λ b. option_map {U = Disagreement} (λ kind. record { txn = n; tablet = b.header.id; kind = kind }) (kind_at logs n c b)) (accepted_tablets logs)
+        (each-weaker (HasNoCase logs n c) (λ b. option_map {U = Disagreement} (λ kind. record { txn = n; tablet = b.header.id; kind = kind }) (kind_at logs n c b) ≡ None) (λ b h. ap (option_map {U = Disagreement} (λ kind. record { txn = n; tablet = b.header.id; kind = kind })) (no-kind logs n c b h)) (accepted_tablets logs) (a.no_case n c e))

@@ -18,7 +18,7 @@ use Rattle.xc_model.proofs.RealRows.{row_of, row-same}
 use Rattle.xc_model.proofs.ReadRows.{reads-rows}
 use Rattle.xc_model.proofs.FromValid.{rules-suffice, accepted-ends, accepted-numbered}
 use Rattle.xc_model.proofs.FromCases.{no-case-agrees}
-use Rattle.xc_model.proofs.NoDisagreement.{no-disagreement, sound-logs}
+use Rattle.xc_model.proofs.NoDisagreement.{agrees-found, no-disagreement, sound-logs}
 use Rattle.xc_model.proofs.Bridge.{safe-time, legal-places, given-shown}
 
 pub values : (xs : List Version) → value_of xs ≡ row_of (map (λ x. x.value) xs)
@@ -45,4 +45,4 @@ reads-show-rows logs x u t k s agree b c w =
     ap (read t) (s.keys k w ∙ given-shown logs u ps k) ∙ values (newest t (shown u (events k (path_upto (owners (hash_of k) (placed bs ps))))).versions) ∙ ap row_of shows ∙ sym (row-same logs t k m (positive logs k s.valid))
 
 pub keys-suffice : KeysSuffice
-keys-suffice logs valid e = no-disagreement logs valid e
+keys-suffice logs valid = ((λ e. no-disagreement logs valid e), (λ a. agrees-found logs a))

@@ -25,9 +25,9 @@ ReadsShowRows = (logs : Logs) (x : TargetTablet) (u t : ℕ) (k : List ℕ) → 
 abbrev pub ReadsShowLists : Type 0
 ReadsShowLists = (logs : Logs) (x : TargetTablet) (u t : ℕ) → StandsFor logs u x → disagreement logs ≡ None → u ≤ t → t ≤ covers logs x → rows_shown t x ≡ where_key (slice_cmp nat_cmp) (in_range x) (rows logs t)
 
--- Well-formed logs in which no disagreement is found have no case of disagreement at any key.
+-- In well-formed logs no disagreement is found exactly where no case of disagreement stands at any key: the keys of a transaction's own operations are enough.
 abbrev pub KeysSuffice : Type 0
-KeysSuffice = (logs : Logs) → is_valid logs ≡ true → disagreement logs ≡ None → Agrees logs
+KeysSuffice = (logs : Logs) → is_valid logs ≡ true → (disagreement logs ≡ None → Agrees logs) × (Agrees logs → disagreement logs ≡ None)
 
 -- One more accepted record r of the source tablet s, which is started, keeps a tablet standing. What is taken in sees what the tablet keeps, and no path.
 abbrev pub DeliveriesKeepStanding : Type 0
@@ -49,6 +49,11 @@ CutoffsKeepStanding = (logs : Logs) (x y : TargetTablet) (u w : ℕ) → StandsF
 -- After a restore to t, reads at times up to t are as before.
 abbrev pub RestoresKeepReads : Type 0
 RestoresKeepReads = (logs : Logs) (x y : TargetTablet) (u t v : ℕ) (k : List ℕ) → RestoredTo logs u t y x → v ≤ t → read v (kept_at x k) ≡ read v (kept_at y k)
+
+-- So a restored tablet shows the rows of the logs from the cutoff to the time of the restore, key by key and as a whole list.
+abbrev pub RestoredShowRows : Type 0
+RestoredShowRows = (logs : Logs) (x y : TargetTablet) (u t v : ℕ) → RestoredTo logs u t y x → disagreement logs ≡ None → u ≤ v → v ≤ t
+    → ((k : List ℕ) → in_range x k ≡ true → read v (kept_at x k) ≡ row logs v k) × (rows_shown v x ≡ where_key (slice_cmp nat_cmp) (in_range x) (rows logs v))
 
 -- The safe time doesn't fall as places rise, splits included.
 abbrev pub SafeTimeRises : Type 0

@@ -4,7 +4,7 @@
 //! at that time: the transactions committed by then, each in full, and none that commits later.
 #![tactic(auto)]
 
-ghost use Rattle.xc_model.specs.Laws.{ReadsShowRows, ReadsShowLists, KeysSuffice, NewStands, CutoffsKeepStanding, RestoresKeepReads, SafeTimeRises, KeptValuesSuffice, DeliveriesKeepStanding, BatchesKeepStanding, SessionsStart, StepsKeepSessions, StepsKeepTimes, NamedTimesRise, ClosedStays};
+ghost use Rattle.xc_model.specs.Laws.{ReadsShowRows, ReadsShowLists, KeysSuffice, NewStands, CutoffsKeepStanding, RestoresKeepReads, RestoredShowRows, SafeTimeRises, KeptValuesSuffice, DeliveriesKeepStanding, BatchesKeepStanding, SessionsStart, StepsKeepSessions, StepsKeepTimes, NamedTimesRise, ClosedStays};
 
 /// For logs that agree, a read at a time from the cutoff to what the tablet covers is the row of the logs at that time.
 pub fn reads_show_rows()
@@ -16,7 +16,7 @@ pub fn reads_show_lists()
     ensures { ReadsShowLists }
 {}
 
-/// Well-formed logs in which no disagreement is found have no case of disagreement at any key.
+/// In well-formed logs no disagreement is found exactly where no case of disagreement stands at any key.
 pub fn keys_suffice()
     ensures { KeysSuffice }
 {}
@@ -44,6 +44,11 @@ pub fn cutoffs_keep_standing()
 /// After a restore to a time, reads at times up to it are as before.
 pub fn restores_keep_reads()
     ensures { RestoresKeepReads }
+{}
+
+/// A restored tablet shows the rows of the logs from the cutoff to the time of the restore.
+pub fn restored_tablets_show_rows()
+    ensures { RestoredShowRows }
 {}
 
 /// The safe time doesn't fall as places rise, splits included.

@@ -36,10 +36,9 @@ pub split_is_cut : (c : ℕ) (bytes : List ℕ) → IsCut (split_on c bytes)
 split_is_cut c [] = record { first = []; others = []; cut = refl }
 split_is_cut c (x ∷ xs) = by (x == c)
   where
-  by : (b : Bool) → IsCut (cond b ([] ∷ split_on c xs) (onto_first x (split_on c xs)))
-  by true = record { first = []; others = split_on c xs; cut = refl }
-  by false = onto_cut x (split_on c xs)
-
+    by : (b : Bool) → IsCut (cond b ([] ∷ split_on c xs) (onto_first x (split_on c xs)))
+    by true = record { first = []; others = split_on c xs; cut = refl }
+    by false = onto_cut x (split_on c xs)
 
 pub not_over : (bytes : List ℕ) → is_over (split_on 32 bytes) ≡ false
 not_over bytes = let parts = split_is_cut 32 bytes in rw parts.cut refl

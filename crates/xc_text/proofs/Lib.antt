@@ -6,4 +6,7 @@ pub mod StepLaws
 pub mod ValidParts
 pub mod OpsHeld
 pub mod ValidLaws
+pub mod PrintedWords
+pub mod PrintedLines
+pub mod PrintedHeaders
 mod WorkedTexts

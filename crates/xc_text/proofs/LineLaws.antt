@@ -45,11 +45,11 @@ intent_cases : (txn : ℕ) (o : Option (List Op)) → judge kind_numbers_fit kin
 intent_cases txn None = carried_form (is_txn txn) (Intent txn)
 intent_cases txn (Some ops) = by (is_txn txn) (list_all op_is_named ops)
   where
-  by : (fit named : Bool) → (if fit then (if named then Ok (Intent txn ops) else Err Key) else Err Number) ≡ carried fit (Intent txn) (if named then Ok ops else Err Key)
-  by true true = refl
-  by true false = refl
-  by false true = refl
-  by false false = refl
+    by : (fit named : Bool) → (if fit then (if named then Ok (Intent txn ops) else Err Key) else Err Number) ≡ carried fit (Intent txn) (if named then Ok ops else Err Key)
+    by true true = refl
+    by true false = refl
+    by false true = refl
+    by false false = refl
 
 pub intent_judged : (txn : ℕ) (words : List (List ℕ)) → judge kind_numbers_fit kind_names_fit (ops_of words >>= (λ ops. Some (Intent txn ops))) ≡ carried (is_txn txn) (Intent txn) (ops_in words)
 unfolding ops_in
@@ -62,16 +62,16 @@ entry_cases : (id time : ℕ) (o : Option Kind) → judge numbers_fit names_fit 
 entry_cases id time None = carried_form (nat_lt id 64 && is_time time) (entry id time)
 entry_cases id time (Some kind) = by (nat_lt id 64) (is_time time) (kind_numbers_fit kind) (kind_names_fit kind)
   where
-  by : (a b numbers names : Bool) → (if a && (b && numbers) then (if names then Ok (entry id time kind) else Err Key) else Err Number) ≡ carried (a && b) (entry id time) (if numbers then (if names then Ok kind else Err Key) else Err Number)
-  by true true true true = refl
-  by true true true false = refl
-  by true true false n = refl
-  by true false true true = refl
-  by true false true false = refl
-  by true false false n = refl
-  by false b true true = refl
-  by false b true false = refl
-  by false b false n = refl
+    by : (a b numbers names : Bool) → (if a && (b && numbers) then (if names then Ok (entry id time kind) else Err Key) else Err Number) ≡ carried (a && b) (entry id time) (if numbers then (if names then Ok kind else Err Key) else Err Number)
+    by true true true true = refl
+    by true true true false = refl
+    by true true false n = refl
+    by true false true true = refl
+    by true false true false = refl
+    by true false false n = refl
+    by false b true true = refl
+    by false b true false = refl
+    by false b false n = refl
 
 pub entry_judged : (id time : ℕ) (words : List (List ℕ)) → judge numbers_fit names_fit (kind_of words >>= (λ kind. Some (entry id time kind))) ≡ carried (nat_lt id 64 && is_time time) (entry id time) (kind_in words)
 unfolding kind_in

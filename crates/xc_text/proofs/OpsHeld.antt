@@ -72,14 +72,14 @@ split_some words =
 verb_some : (verb : List ℕ) (words : List (List ℕ)) → holds_of has_ops (kind_by verb words) ≡ true
 verb_some verb words = by (bytes_eq verb (codes "write")) (bytes_eq verb (codes "intent")) (bytes_eq verb (codes "apply")) (bytes_eq verb (codes "abort")) (bytes_eq verb (codes "safe")) (bytes_eq verb (codes "split"))
   where
-  by : (a b c d e f : Bool) → holds_of has_ops (if a then option_map Write (ops_of words) else (if b then intent_of words else (if c then apply_of words else (if d then abort_of words else (if e then safe_of words else (if f then split_of words else None)))))) ≡ true
-  by true b c d e f = write_some (ops_of words) (ops_some words)
-  by false true c d e f = intents_some words
-  by false false true d e f = apply_some words
-  by false false false true e f = abort_some words
-  by false false false false true f = safe_some words
-  by false false false false false true = split_some words
-  by false false false false false false = refl
+    by : (a b c d e f : Bool) → holds_of has_ops (if a then option_map Write (ops_of words) else (if b then intent_of words else (if c then apply_of words else (if d then abort_of words else (if e then safe_of words else (if f then split_of words else None)))))) ≡ true
+    by true b c d e f = write_some (ops_of words) (ops_some words)
+    by false true c d e f = intents_some words
+    by false false true d e f = apply_some words
+    by false false false true e f = abort_some words
+    by false false false false true f = safe_some words
+    by false false false false false true = split_some words
+    by false false false false false false = refl
 
 kind_some : (words : List (List ℕ)) → holds_of has_ops (kind_of words) ≡ true
 unfolding kind_of
@@ -110,11 +110,11 @@ entries_some id words =
 word_some : (word : List ℕ) (words : List (List ℕ)) → holds_of line_has_ops (line_by word words) ≡ true
 word_some word words = by (bytes_eq word (codes "xclog")) (bytes_eq word (codes "tablet")) (bytes_eq word (codes "end"))
   where
-  by : (a b c : Bool) → holds_of line_has_ops (if a then version_of words else (if b then option_map line.Tablet (header_of words) else (if c then at_end words line.End else (number word >>= (λ id. entry_of id words))))) ≡ true
-  by true b c = version_some words
-  by false true c = header_some line.Tablet (header_of words) (λ h. refl)
-  by false false true = end_holds line_has_ops words line.End refl
-  by false false false = then_holds line_has_ops (number word) (λ id. entry_of id words) (λ id. entries_some id words)
+    by : (a b c : Bool) → holds_of line_has_ops (if a then version_of words else (if b then option_map line.Tablet (header_of words) else (if c then at_end words line.End else (number word >>= (λ id. entry_of id words))))) ≡ true
+    by true b c = version_some words
+    by false true c = header_some line.Tablet (header_of words) (λ h. refl)
+    by false false true = end_holds line_has_ops words line.End refl
+    by false false false = then_holds line_has_ops (number word) (λ id. entry_of id words) (λ id. entries_some id words)
 
 pub line_some : (words : List (List ℕ)) → holds_of line_has_ops (line_of words) ≡ true
 unfolding line_of

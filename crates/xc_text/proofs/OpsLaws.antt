@@ -83,16 +83,16 @@ seen_bad seen w ws all op h is bad (Some ops) left = is_key_kind all seen op ops
 pub seen_bad_form : (seen : List Op) (w : List ℕ) (ws all : List (List ℕ)) (op : Op) → Seen seen (w ∷ ws) all → op_of w ≡ Some op → op_is_named op ≡ false → is_some (all_ops ws) ≡ false → ops_in all ≡ Err Form
 seen_bad_form seen w ws all op h is bad none = by (all_ops ws) refl
   where
-  by : (o : Option (List Op)) → all_ops ws ≡ o → ops_in all ≡ Err Form
-  by None left = seen_bad seen w ws all op h is bad None left
-  by (Some ops) left = let f : is_some (all_ops ws) ≡ true = rw left refl in cc
+    by : (o : Option (List Op)) → all_ops ws ≡ o → ops_in all ≡ Err Form
+    by None left = seen_bad seen w ws all op h is bad None left
+    by (Some ops) left = let f : is_some (all_ops ws) ≡ true = rw left refl in cc
 
 pub seen_bad_key : (seen : List Op) (w : List ℕ) (ws all : List (List ℕ)) (op : Op) → Seen seen (w ∷ ws) all → op_of w ≡ Some op → op_is_named op ≡ false → is_some (all_ops ws) ≡ true → ops_in all ≡ Err Key
 seen_bad_key seen w ws all op h is bad some = by (all_ops ws) refl
   where
-  by : (o : Option (List Op)) → all_ops ws ≡ o → ops_in all ≡ Err Key
-  by None left = let f : is_some (all_ops ws) ≡ false = rw left refl in cc
-  by (Some ops) left = seen_bad seen w ws all op h is bad (Some ops) left
+    by : (o : Option (List Op)) → all_ops ws ≡ o → ops_in all ≡ Err Key
+    by None left = let f : is_some (all_ops ws) ≡ false = rw left refl in cc
+    by (Some ops) left = seen_bad seen w ws all op h is bad (Some ops) left
 
 -- ---- the end of the words
 
@@ -104,10 +104,10 @@ no_ops : (all : List (List ℕ)) → all_ops all ≡ Some [] → ops_of all ≡ 
 no_ops [] h = refl
 no_ops (w ∷ ws) h = by (op_of w) (all_ops ws) h
   where
-  by : (o : Option Op) (p : Option (List Op)) → option_and_then (λ op. option_and_then (λ ops. Some (op ∷ ops)) p) o ≡ Some [] → ops_of (w ∷ ws) ≡ None
-  by None p e = cc
-  by (Some op) None e = cc
-  by (Some op) (Some ops) e = cc
+    by : (o : Option Op) (p : Option (List Op)) → option_and_then (λ op. option_and_then (λ ops. Some (op ∷ ops)) p) o ≡ Some [] → ops_of (w ∷ ws) ≡ None
+    by None p e = cc
+    by (Some op) None e = cc
+    by (Some op) (Some ops) e = cc
 
 pub seen_all : (seen : List Op) (all : List (List ℕ)) → Seen seen [] all → (length seen ≡ 0 → ⊥) → ops_in all ≡ Ok seen
 unfolding ops_in

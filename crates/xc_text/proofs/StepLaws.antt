@@ -30,15 +30,15 @@ start_cases s None start = refl
 start_cases s (Some line.First) start = rw start refl
 start_cases s (Some (line.Tablet h)) start = rw start (by (numbers_fit (line.Tablet h)))
   where
-  by : (a : Bool) → Err kind.Form ≡ first_step s (if a then Ok (line.Tablet h) else Err kind.Number)
-  by true = refl
-  by false = refl
+    by : (a : Bool) → Err kind.Form ≡ first_step s (if a then Ok (line.Tablet h) else Err kind.Number)
+    by true = refl
+    by false = refl
 start_cases s (Some (line.Entry id r)) start = rw start (by (numbers_fit (line.Entry id r)) (names_fit (line.Entry id r)))
   where
-  by : (a b : Bool) → Err kind.Form ≡ first_step s (if a then (if b then Ok (line.Entry id r) else Err kind.Key) else Err kind.Number)
-  by true true = refl
-  by true false = refl
-  by false b = refl
+    by : (a b : Bool) → Err kind.Form ≡ first_step s (if a then (if b then Ok (line.Entry id r) else Err kind.Key) else Err kind.Number)
+    by true true = refl
+    by true false = refl
+    by false b = refl
 start_cases s (Some line.End) start = rw start refl
 
 at_start : (s : Reading) (bytes : List ℕ) → s.stage ≡ Start → step s bytes ≡ first_step s (line_in (split_on 32 bytes))
@@ -86,15 +86,15 @@ inner_cases s None i = refl
 inner_cases s (Some line.First) i = rw (first_misplaced s.stage i) refl
 inner_cases s (Some (line.Tablet h)) i = rw (header_in_place s.stage h i) (by (numbers_fit (line.Tablet h)))
   where
-  by : (a : Bool) → unless_bad (if not a then Some kind.Number else first_kind (later_kinds s (line.Tablet h))) (moved s (line.Tablet h)) ≡ inner_step s (if a then Ok (line.Tablet h) else Err kind.Number)
-  by true = refl
-  by false = refl
+    by : (a : Bool) → unless_bad (if not a then Some kind.Number else first_kind (later_kinds s (line.Tablet h))) (moved s (line.Tablet h)) ≡ inner_step s (if a then Ok (line.Tablet h) else Err kind.Number)
+    by true = refl
+    by false = refl
 inner_cases s (Some (line.Entry id r)) i = rw (entry_in_place s.stage id r i) (by (numbers_fit (line.Entry id r)) (names_fit (line.Entry id r)))
   where
-  by : (a b : Bool) → unless_bad (if not a then Some kind.Number else (if not b then Some kind.Key else first_kind (later_kinds s (line.Entry id r)))) (moved s (line.Entry id r)) ≡ inner_step s (if a then (if b then Ok (line.Entry id r) else Err kind.Key) else Err kind.Number)
-  by true true = refl
-  by true false = refl
-  by false b = refl
+    by : (a b : Bool) → unless_bad (if not a then Some kind.Number else (if not b then Some kind.Key else first_kind (later_kinds s (line.Entry id r)))) (moved s (line.Entry id r)) ≡ inner_step s (if a then (if b then Ok (line.Entry id r) else Err kind.Key) else Err kind.Number)
+    by true true = refl
+    by true false = refl
+    by false b = refl
 inner_cases s (Some line.End) i = rw (end_in_place s.stage i) refl
 
 at_inner : (s : Reading) (bytes : List ℕ) → is_inner s.stage ≡ true → step s bytes ≡ inner_step s (line_in (split_on 32 bytes))

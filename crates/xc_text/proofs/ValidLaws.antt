@@ -261,13 +261,13 @@ good_step s bytes next g h = step_cases s (line_of (split_on 32 bytes)) next g (
 valid_ending : (s : Reading) (number : ℕ) (logs : Logs) → Good s → ending s.stage s number ≡ Ok logs → is_valid logs ≡ true
 valid_ending s number logs g h = by s.stage refl h
   where
-  by : (stage : Stage) → s.stage ≡ stage → ending stage s number ≡ Ok logs → is_valid logs ≡ true
-  by Start is e = cc
-  by Headers is e = cc
-  by Records is e = cc
-  by Ended is e =
-      let P : Logs → Type 0 = λ l. is_valid l ≡ true in
-      let same : record { tablets = s.tablets } ≡ logs = cc in subst P same (valid_at_end s g is)
+    by : (stage : Stage) → s.stage ≡ stage → ending stage s number ≡ Ok logs → is_valid logs ≡ true
+    by Start is e = cc
+    by Headers is e = cc
+    by Records is e = cc
+    by Ended is e =
+        let P : Logs → Type 0 = λ l. is_valid l ≡ true in
+        let same : record { tablets = s.tablets } ≡ logs = cc in subst P same (valid_at_end s g is)
 
 valid_rest : (s : Reading) (number : ℕ) (rest : List ℕ) (logs : Logs) → Good s → rest_of_text s number rest ≡ Ok logs → is_valid logs ≡ true
 valid_rest s number [] logs g h = valid_ending s number logs g h
@@ -278,9 +278,9 @@ valid_from s number [] logs g h = valid_ending s number logs g h
 valid_from s number (piece ∷ []) logs g h = valid_rest s number piece logs g h
 valid_from s number (piece ∷ (next ∷ pieces)) logs g h = by (λ after good e. valid_from after (number + 1) (next ∷ pieces) logs good e) (step s piece) refl h
   where
-  by : ((after : Reading) → Good after → lines_from after (number + 1) (next ∷ pieces) ≡ Ok logs → is_valid logs ≡ true) → (r : Result Reading LogKind) → step s piece ≡ r → go_on r number (λ after. lines_from after (number + 1) (next ∷ pieces)) ≡ Ok logs → is_valid logs ≡ true
-  by more (Ok after) is e = more after (good_step s piece after g is) e
-  by more (Err k) is e = cc
+    by : ((after : Reading) → Good after → lines_from after (number + 1) (next ∷ pieces) ≡ Ok logs → is_valid logs ≡ true) → (r : Result Reading LogKind) → step s piece ≡ r → go_on r number (λ after. lines_from after (number + 1) (next ∷ pieces)) ≡ Ok logs → is_valid logs ≡ true
+    by more (Ok after) is e = more after (good_step s piece after g is) e
+    by more (Err k) is e = cc
 
 -- what a text spells is valid
 pub read_is_valid : (text : List ℕ) (logs : Logs) → logs_of text ≡ Ok logs → is_valid logs ≡ true

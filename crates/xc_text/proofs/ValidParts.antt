@@ -77,9 +77,9 @@ open_push [] r h last = elim (is_split r.kind) as (λ b. (if b then true else tr
 open_push (q ∷ []) r h last = rw last (elim (is_split r.kind) as (λ b. (if b then true else true) ≡ true) [ true ↦ refl | false ↦ refl ])
 open_push (q ∷ (x ∷ xs)) r h last = by (λ e. open_push (x ∷ xs) r e last) (is_split q.kind) refl
   where
-  by : (open_fit (x ∷ xs) ≡ true → open_fit ((x ∷ xs) ++ r ∷ []) ≡ true) → (b : Bool) → is_split q.kind ≡ b → open_fit ((q ∷ x ∷ xs) ++ r ∷ []) ≡ true
-  by more true is = let e = open_cases q (x ∷ xs) h true is in cc
-  by more false is = let e = open_cases q (x ∷ xs) h false is in rw is (more e)
+    by : (open_fit (x ∷ xs) ≡ true → open_fit ((x ∷ xs) ++ r ∷ []) ≡ true) → (b : Bool) → is_split q.kind ≡ b → open_fit ((q ∷ x ∷ xs) ++ r ∷ []) ≡ true
+    by more true is = let e = open_cases q (x ∷ xs) h true is in cc
+    by more false is = let e = open_cases q (x ∷ xs) h false is in rw is (more e)
 
 not_split : (h : Header) (time : ℕ) (k : Kind) → (is_time time && kind_fits h None k) ≡ true → is_split k ≡ false
 not_split h time (Write ops) e = refl
@@ -101,17 +101,17 @@ split_last [] h last = cc
 split_last (r ∷ []) h last = rw last refl
 split_last (r ∷ (x ∷ xs)) h last = by (λ e. split_last (x ∷ xs) e last) (is_split r.kind) refl
   where
-  by : (open_fit (x ∷ xs) ≡ true → ends_fit true (x ∷ xs) ≡ true) → (b : Bool) → is_split r.kind ≡ b → ends_fit true (r ∷ x ∷ xs) ≡ true
-  by more true is = let e = open_cases r (x ∷ xs) h true is in cc
-  by more false is = let e = open_cases r (x ∷ xs) h false is in rw is (more e)
+    by : (open_fit (x ∷ xs) ≡ true → ends_fit true (x ∷ xs) ≡ true) → (b : Bool) → is_split r.kind ≡ b → ends_fit true (r ∷ x ∷ xs) ≡ true
+    by more true is = let e = open_cases r (x ∷ xs) h true is in cc
+    by more false is = let e = open_cases r (x ∷ xs) h false is in rw is (more e)
 
 ends_ok : (h : Header) (pair : Option (Header × Header)) (rs : List Record) → list_all (record_fits h pair) rs ≡ true → open_fit rs ≡ true → (is_some pair && not (ends_split rs)) ≡ false → ends_fit (is_some pair) rs ≡ true
 ends_ok h None rs all open_ no_orphan = no_splits h rs all
 ends_ok h (Some p) rs all open_ no_orphan = split_last rs open_ (by (ends_split rs) no_orphan)
   where
-  by : (b : Bool) → not b ≡ false → b ≡ true
-  by true e = refl
-  by false e = cc
+    by : (b : Bool) → not b ≡ false → b ≡ true
+    by true e = refl
+    by false e = cc
 
 -- what holds of a tablet while its records come
 abbrev pub grows : List Header → Tablet → Bool

@@ -85,7 +85,12 @@ fn numbers_fit(id: u64, time: u64) -> bool
     is_tablet(id) && is_time(time)
 }
 
-fn read_entry(alloc: Global, id: u64, mut words: Words<'_>, ops: &mut Vec<Op>) -> Result<LogLine, Fail>
+fn read_entry(
+    alloc: Global,
+    id: u64,
+    mut words: Words<'_>,
+    ops: &mut Vec<Op>,
+) -> Result<LogLine, Fail>
     ensures { Answers (λ line. line) result (judge numbers_fit names_fit (entry_of id words.entry)) }
 {
     let time = words.number()?;

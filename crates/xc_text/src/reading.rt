@@ -9,7 +9,10 @@ ghost use Rattle.xc_text.specs.LogText.{begun, between, in_range, is_split_off, 
 use crate::kind::{Fail, LogKind};
 use crate::line::{LogLine, read_line};
 use std::alloc::Global;
-use xc_record::{Header, Kind, Next, Op, Record, Records, Tablet, Tablets, children, fits, hash, may_end, next_after};
+use xc_record::{
+    Header, Kind, Next, Op, Record, Records, Tablet, Tablets, children, fits, hash, may_end,
+    next_after,
+};
 
 // How far a text is.
 #[derive(Clone, Copy, PartialEq, Eq, Debug)]
@@ -147,7 +150,12 @@ impl Reading {
     }
 
     // Takes the next line, given without the byte that ends it. The list of operations is there to be used again.
-    pub(crate) fn take_line(&mut self, alloc: Global, line: &[u8], ops: &mut Vec<Op>) -> Result<(), Fail>
+    pub(crate) fn take_line(
+        &mut self,
+        alloc: Global,
+        line: &[u8],
+        ops: &mut Vec<Op>,
+    ) -> Result<(), Fail>
         ensures { Answers (λ _. self.new) result (step self.old line.now) }
     {
         match self.stage {

@@ -144,7 +144,11 @@ fn read_split(mut words: Words<'_>) -> Result<Kind, Fail>
 
 // What the words say, from the verb on. The list of operations is there to be used again.
 #[tactic(auto, unfolding(crate::specs::Lines::kind_in, crate::specs::Lines::kind_of))]
-pub(crate) fn read_kind(alloc: Global, mut words: Words<'_>, ops: &mut Vec<Op>) -> Result<Kind, Fail>
+pub(crate) fn read_kind(
+    alloc: Global,
+    mut words: Words<'_>,
+    ops: &mut Vec<Op>,
+) -> Result<Kind, Fail>
     ensures { Answers (λ kind. kind) result (kind_in words.entry) }
 {
     let Some(verb) = words.next() else {

@@ -15,7 +15,7 @@ use Rattle.xc_model.proofs.Sorts.{each-append, filter-sort, in_order-sort}
 use Rattle.xc_model.proofs.ApplyPath.{not_after-orders}
 use Rattle.xc_model.proofs.Keep.{newest-kept_from}
 use Rattle.xc_model.proofs.ReadPath.{read-path}
-use Rattle.xc_model.proofs.Chain.{KindGoes, Goes, last_after, Threads, path-goes}
+use Rattle.xc_model.proofs.Chain.{Goes, last_after, Threads, path-goes}
 use Rattle.xc_model.proofs.Cover.{floor-time, path-front, covered, Cut, cut-from, record-late}
 
 pub each-front : {A : Type 0} (P : A → Type 0) (xs ys : List A) → Each P (xs ++ ys) → Each P xs

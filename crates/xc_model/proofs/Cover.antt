@@ -112,7 +112,7 @@ cut-step commit t k f l seen time (log.Safe v) h i g s a c b = record {
   free = each-weaker (λ w. IsAfter v (commit w.txn)) (λ w. IsAfter t (commit w.txn)) (λ w. after-more t v (commit w.txn) b) (waiting (events k seen)) s;
 }
 
-floor-time : (f l time : ℕ) (kind : Kind) → f ≤ l → l < time → KindGoes f time kind → floor_by f kind ≤ time
+pub floor-time : (f l time : ℕ) (kind : Kind) → f ≤ l → l < time → KindGoes f time kind → floor_by f kind ≤ time
 floor-time f l time (log.Write ops) h i g = omega arith
 floor-time f l time (log.Intent n ops) h i g = omega arith
 floor-time f l time (log.Apply n m) h i g = omega arith

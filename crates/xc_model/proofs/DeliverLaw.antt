@@ -1,4 +1,5 @@
 -- One more record of a source tablet keeps a target tablet standing.
+use Rattle.xc_model.proofs.FromCases.{numbered-above}
 use Rattle.std.proofs.Common.{◌≡◌, ◌≢◌, ◌==◌, ℕ, zero, suc, ◌+◌, ◌<◌, ◌≤◌, max, Bool, true, false, cond, List, [], ◌∷◌, ◌++◌, map, take, drop, length, Option, Some, None, refl, ap, sym, ◌∙◌, arith, subst, zero-add, ◌⊎◌, inl, inr, ⊎_elim}
 use Rattle.std.specs.Prelude.{fold, ◌&&◌, nat_le, slice_get, slice_index, slice_index_or, slice_set, if◌then◌else◌}
 use Rattle.std.specs.Option.{option_map_or}
@@ -57,12 +58,8 @@ numbered-mid : (n : ℕ) (before : List AcceptedTablet) (b : AcceptedTablet) (af
 numbered-mid n [] b after m = (let q = m.0 in omega arith)
 numbered-mid n (d ∷ before) b after m = let q : b.header.id ≡ n + 1 + length before = numbered-mid (n + 1) before b after m.1 in omega arith
 
-numbered-from : (n : ℕ) (bs : List AcceptedTablet) → Numbered n (heads bs) → Each (λ d. n ≤ d.header.id) bs
-numbered-from n [] m = tt
-numbered-from n (b ∷ bs) m = ((let q = m.0 in omega arith), each-weaker (λ d. n + 1 ≤ d.header.id) (λ d. n ≤ d.header.id) (λ d k. omega arith) bs (numbered-from (n + 1) bs m.1))
-
 apart-ids : (n : ℕ) (before : List AcceptedTablet) (b : AcceptedTablet) (after : List AcceptedTablet) → Numbered n (heads (before ++ b ∷ after)) → Each (λ d. d.header.id ≢ b.header.id) before × Each (λ d. d.header.id ≢ b.header.id) after
-apart-ids n [] b after m = (tt, each-weaker (λ d. n + 1 ≤ d.header.id) (λ d. d.header.id ≢ b.header.id) (λ d k e. let q = m.0 in let z : ⊥ = omega arith in z) after (numbered-from (n + 1) after m.1))
+apart-ids n [] b after m = (tt, each-weaker (λ d. n + 1 ≤ d.header.id) (λ d. d.header.id ≢ b.header.id) (λ d k e. let q = m.0 in let z : ⊥ = omega arith in z) after (numbered-above (n + 1) after m.1))
 apart-ids n (d ∷ before) b after m =
     let rest = apart-ids (n + 1) before b after m.1 in
     let high : b.header.id ≡ n + 1 + length before = numbered-mid (n + 1) before b after m.1 in

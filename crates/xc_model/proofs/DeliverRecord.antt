@@ -28,7 +28,7 @@ use Rattle.xc_model.proofs.Deliver.{AddsAfter, shown-append}
 use Rattle.xc_model.proofs.SafeTime.{Begins, begins-placed, begins-goes, safe-rises}
 use Rattle.xc_model.proofs.ReadRows.{under-safe}
 use Rattle.xc_model.proofs.RowsAt.{each-flat}
-use Rattle.xc_model.proofs.Tree.{Linked, Follow, chained, owners-ends, legal-chain, the_ends, own, each-both}
+use Rattle.xc_model.proofs.Tree.{each-ends, Linked, Follow, chained, owners-ends, legal-chain, the_ends, own, each-both}
 
 -- one element of a list is changed
 pub each-swap : {A : Type 0} (P : A → Type 0) (before after : List A) (x y : A) → (P x → P y) → Each P (before ++ x ∷ after) → Each P (before ++ y ∷ after)
@@ -133,10 +133,6 @@ each-take : {A : Type 0} (P : A → Type 0) (n : ℕ) (xs : List A) → Each P x
 each-take P zero xs h = tt
 each-take P (suc n) [] h = tt
 each-take P (suc n) (x ∷ xs) h = (h.0, each-take P n xs h.1)
-
-each-ends : (P : AcceptedTablet → Type 0) (xs : List Placed) → Each P (the_ends xs) → Each (λ x. P x.tablet) xs
-each-ends P [] h = tt
-each-ends P (x ∷ xs) h = (h.0, each-ends P xs h.1)
 
 pub upto-numbered : (ts : List Tablet) (xs : List Placed) (h : ℕ) (k : List ℕ) → ValidLogs ts → TabletsOf ts xs → Each IsNumbered (events k (path_upto (owners h xs)))
 upto-numbered ts xs h k v is =

@@ -20,7 +20,7 @@ use Rattle.xc_model.proofs.Tree.{ends-placed, each-both}
 use Rattle.xc_model.proofs.ReadRows.{under-safe}
 use Rattle.xc_model.proofs.SafeTime.{safe-top}
 use Rattle.xc_model.proofs.KeptSafe.{kept-suffice}
-use Rattle.xc_model.proofs.FromRules.{heads, heads-from}
+use Rattle.xc_model.proofs.FromRules.{each-heads, heads, heads-from}
 use Rattle.xc_model.proofs.FromValid.{rules-suffice, accepted-ends, accepted-numbered}
 use Rattle.xc_model.proofs.Bridge.{safe-time, legal-places, each-placed, each-unplaced}
 use Rattle.xc_model.proofs.KeepLaws.{each-get}
@@ -53,10 +53,6 @@ least-top f p (x ∷ xs) = elim (p x) as (λ o. least (map f (cond o (x ∷ filt
 pub each-header : (P : Header → Type 0) (bs : List AcceptedTablet) → Each (λ b. P b.header) bs → Each P (heads bs)
 each-header P [] h = tt
 each-header P (b ∷ bs) h = (h.0, each-header P bs h.1)
-
-pub each-of-header : (P : Header → Type 0) (bs : List AcceptedTablet) → Each P (heads bs) → Each (λ b. P b.header) bs
-each-of-header P [] h = tt
-each-of-header P (b ∷ bs) h = (h.0, each-of-header P bs h.1)
 
 pub none-index : {A B : Type 0} (xs : List A) (ys : List B) (i : ℕ) (d : B) → length ys ≡ length xs → slice_get xs i ≡ None → get_or ys i d ≡ d
 none-index [] [] i d l e = refl
@@ -113,7 +109,7 @@ module _ (logs : Logs) (u : ℕ) (x : TargetTablet) (s : StandsFor logs u x) whe
   same-heads = heads-logs logs s.valid ∙ sym s.headers
 
   low : Each (λ b. counts_in x b.header ≡ true → least_kept x ≤ value b.header) (accepted_tablets logs)
-  low = each-of-header (λ h. counts_in x h ≡ true → least_kept x ≤ value h) (accepted_tablets logs) (subst (Each (λ h. counts_in x h ≡ true → least_kept x ≤ value h)) (sym same-heads) (least-low value (counts_in x) x.headers (least_kept x) (omega arith)))
+  low = each-heads (λ h. counts_in x h ≡ true → least_kept x ≤ value h) (accepted_tablets logs) (subst (Each (λ h. counts_in x h ≡ true → least_kept x ≤ value h)) (sym same-heads) (least-low value (counts_in x) x.headers (least_kept x) (omega arith)))
 
   bound : KeptBound (least_kept x) (placed (accepted_tablets logs) x.places)
   bound = each-placed (λ y. is_closed y ≡ false → (y.tablet.header.parent ≡ None) ⊎ Exists (λ z. (Some z.tablet.header.id ≡ y.tablet.header.parent) × (is_closed z ≡ true)) (placed (accepted_tablets logs) x.places) → least_kept x ≤ last_safe y) (accepted_tablets logs) x.places

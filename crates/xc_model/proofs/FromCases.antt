@@ -1,5 +1,5 @@
 -- Where no case of disagreement stands, the paths agree.
-use Rattle.std.proofs.Common.{◌≡◌, ℕ, ◌+◌, ◌<◌, ◌≤◌, Bool, true, false, cond, List, [], ◌∷◌, ◌++◌, Option, Some, None, refl, ap, sym, ◌∙◌, arith, subst, append_assoc, append-nil, inl, inr, ⊎_elim}
+use Rattle.std.proofs.Common.{◌≡◌, ℕ, ◌+◌, ◌<◌, ◌≤◌, Bool, true, false, cond, List, [], ◌∷◌, ◌++◌, Option, Some, None, refl, ap, sym, ◌∙◌, arith, subst, append_assoc, append-nil, inl, ⊎_elim}
 use Rattle.std.specs.Prelude.{filter, flat_map, ◌==◌, ◌&&◌, ◌||◌, not, nat_le, nat_lt, is_some, if◌then◌else◌}
 use Rattle.std.specs.Option.{option_map_or}
 use Rattle.std.specs.List.{list_any}
@@ -24,7 +24,7 @@ use Rattle.xc_model.proofs.Paths.{IsAfter}
 use Rattle.xc_model.proofs.Placed.{owns, KindAgrees, Agrees, KindFree, NoStragglers}
 use Rattle.xc_model.proofs.Rows.{Applied, over_records, record_apply, kind_apply, first_commit, commit_of, path_of}
 use Rattle.xc_model.proofs.ValidLogs.{AgreeAll}
-use Rattle.xc_model.proofs.Sorts.{each-weaker}
+use Rattle.xc_model.proofs.Sorts.{exists-right, exists-left, each-weaker}
 use Rattle.xc_model.proofs.KeyRead.{each-back}
 use Rattle.xc_model.proofs.Tree.{each-itself, each-at, exists-weaker}
 use Rattle.xc_model.proofs.FromRules.{heads}
@@ -40,17 +40,9 @@ first-there n (a ∷ rest) i =
     (λ d. let deep = first-there n rest (⊎_elim (λ e. absurd (d e)) (λ r. r) i) in (deep.0, ap (λ b. cond b (Some a.commit) (first_commit n rest)) (ne_eqb a.txn n d) ∙ deep.1))
     (cases_eq a.txn n)
 
-exists-append_left : {A : Type 0} (P : A → Type 0) (xs ys : List A) → Exists P xs → Exists P (xs ++ ys)
-exists-append_left P [] ys i = absurd i
-exists-append_left P (x ∷ xs) ys i = ⊎_elim (λ a. inl a) (λ r. inr (exists-append_left P xs ys r)) i
-
-exists-append_right : {A : Type 0} (P : A → Type 0) (xs ys : List A) → Exists P ys → Exists P (xs ++ ys)
-exists-append_right P [] ys i = i
-exists-append_right P (x ∷ xs) ys i = inr (exists-append_right P xs ys i)
-
 exists-flat : {A B : Type 0} (P : B → Type 0) (f : A → List B) (xs : List A) → Exists (λ x. Exists P (f x)) xs → Exists P (flat_map f xs)
 exists-flat P f [] i = i
-exists-flat P f (x ∷ xs) i = ⊎_elim (λ a. exists-append_left P (f x) (flat_map f xs) a) (λ r. exists-append_right P (f x) (flat_map f xs) (exists-flat P f xs r)) i
+exists-flat P f (x ∷ xs) i = ⊎_elim (λ a. exists-left P (f x) (flat_map f xs) a) (λ r. exists-right P (f x) (flat_map f xs) (exists-flat P f xs r)) i
 
 -- a transaction with an accepted apply has a commit
 applied-commits : (es : List AcceptedTablet) (e : AcceptedTablet) (r : Record) (n d : ℕ) → Exists (λ x. x ≡ e) es → Exists (λ x. x ≡ r) e.records → r.kind ≡ log.Apply n d → (c : ℕ) × (commit_of es n ≡ Some c)
@@ -136,7 +128,7 @@ tablet-free commit k seen (r ∷ rs) more f n = (
 
 -- ---- what stands above a tablet on a path
 
-numbered-above : (n : ℕ) (bs : List AcceptedTablet) → Numbered n (heads bs) → Each (λ a. n ≤ a.header.id) bs
+pub numbered-above : (n : ℕ) (bs : List AcceptedTablet) → Numbered n (heads bs) → Each (λ a. n ≤ a.header.id) bs
 numbered-above n [] m = tt
 numbered-above n (b ∷ bs) m = ((let q = m.0 in omega arith), each-weaker (λ a. n + 1 ≤ a.header.id) (λ a. n ≤ a.header.id) (λ a k. omega arith) bs (numbered-above (n + 1) bs m.1))
 

@@ -12,7 +12,7 @@ use Rattle.xc_record.specs.Accepted.{AcceptedTablet}
 use Rattle.xc_model.proofs.Placed.{ends, ends_from, end_under, parent_order, accepted_under, fits, order_after, begun, owns}
 use Rattle.xc_record.specs.Hash.{hash_of}
 use Rattle.xc_model.proofs.ValidLogs.{IsBelow, ParentThere, HasParent, Follows, GrowsBy}
-use Rattle.xc_model.proofs.Sorts.{each-append, each-weaker}
+use Rattle.xc_model.proofs.Sorts.{exists-right, exists-left, each-append, each-weaker}
 use Rattle.xc_model.proofs.Tree.{each-itself, each-at, exists-weaker}
 use Rattle.std.specs.Prelude.{◌==◌, ◌&&◌, Option, slice_get, nat_le, suc, zero}
 use Rattle.std.specs.List.{list_any}
@@ -31,21 +31,13 @@ abbrev pub heads : List AcceptedTablet → List Header
 heads es = map (λ e. e.header) es
 
 -- a fact on headers is one on ends
-each-heads : (P : Header → Type 0) (es : List AcceptedTablet) → Each P (heads es) → Each (λ e. P e.header) es
+pub each-heads : (P : Header → Type 0) (es : List AcceptedTablet) → Each P (heads es) → Each (λ e. P e.header) es
 each-heads P [] h = tt
 each-heads P (e ∷ es) h = (h.0, each-heads P es h.1)
 
 pub exists-heads : (P : Header → Type 0) (es : List AcceptedTablet) → Exists P (heads es) → Exists (λ e. P e.header) es
 exists-heads P [] i = i
 exists-heads P (e ∷ es) i = ⊎_elim (λ a. inl a) (λ r. inr (exists-heads P es r)) i
-
-exists-left : {A : Type 0} (P : A → Type 0) (xs ys : List A) → Exists P xs → Exists P (xs ++ ys)
-exists-left P [] ys i = absurd i
-exists-left P (x ∷ xs) ys i = ⊎_elim (λ a. inl a) (λ r. inr (exists-left P xs ys r)) i
-
-exists-right : {A : Type 0} (P : A → Type 0) (xs ys : List A) → Exists P ys → Exists P (xs ++ ys)
-exists-right P [] ys i = i
-exists-right P (x ∷ xs) ys i = inr (exists-right P xs ys i)
 
 owns-false : (h : ℕ) (d : Header) → d.hi < h → owns h d ≡ false
 owns-false h d k = grind (arith, nat_tests)

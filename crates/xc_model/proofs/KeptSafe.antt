@@ -9,9 +9,9 @@ use Rattle.xc_record.specs.Accepted.{AcceptedTablet}
 use Rattle.xc_model.proofs.Placed.{safe, ends_from, end_under, parent_order, order_at, accepted_under, begun, Placed, is_closed, last_safe, TabletsOf, KeptBound}
 use Rattle.xc_record.specs.SafeTime.{floor_after}
 use Rattle.xc_model.proofs.ValidLogs.{IsBelow, ParentThere, GrowsBy, ValidLogs}
-use Rattle.xc_model.proofs.Sorts.{each-append, each-weaker}
+use Rattle.xc_model.proofs.Sorts.{exists-left, each-append, each-weaker}
 use Rattle.xc_model.proofs.Chain.{order_after-parts}
-use Rattle.xc_model.proofs.Tree.{exists-weaker, each-both, the_ends}
+use Rattle.xc_model.proofs.Tree.{each-ends, exists-weaker, each-both, the_ends}
 use Rattle.xc_model.proofs.SafeTime.{Begins, begins-placed, begins-goes, floor-rises, floor-take, above-safe}
 
 -- where a tablet's start comes from
@@ -29,12 +29,8 @@ starts-one : (done : List AcceptedTablet) (t : Tablet) (p : Option ℕ) → t.he
 starts-one done t None e b i = inl e
 starts-one done t (Some p) e b i = inr (exists-weaker (λ d. (d.header.id ≡ p) × (d.end ≡ order_at p done)) (λ d. (Some d.header.id ≡ t.header.parent) × ((d.header.id < t.header.id) × (d.end.floor ≡ (order_at p done).floor))) (λ d h. (ap Some h.0 ∙ sym e, ((let q = h.0 in omega arith), ap (λ (w : Progress). w.floor) h.1))) done (order-there p done i))
 
-pub exists-front : {A : Type 0} (P : A → Type 0) (xs ys : List A) → Exists P xs → Exists P (xs ++ ys)
-exists-front P [] ys i = absurd i
-exists-front P (x ∷ xs) ys i = ⊎_elim (λ a. inl a) (λ r. inr (exists-front P xs ys r)) i
-
 starts-more : (done more : List AcceptedTablet) (e : AcceptedTablet) → StartsFrom done e → StartsFrom (done ++ more) e
-starts-more done more e s = ⊎_elim (λ a. inl a) (λ r. inr (exists-front (λ d. (Some d.header.id ≡ e.header.parent) × ((d.header.id < e.header.id) × (d.end.floor ≡ e.start.floor))) done more r)) s
+starts-more done more e s = ⊎_elim (λ a. inl a) (λ r. inr (exists-left (λ d. (Some d.header.id ≡ e.header.parent) × ((d.header.id < e.header.id) × (d.end.floor ≡ e.start.floor))) done more r)) s
 
 pub starts-from : (done : List AcceptedTablet) (ts : List Tablet) → GrowsBy done ts → Each (StartsFrom done) done → Each (StartsFrom (ends_from done ts)) (ends_from done ts)
 starts-from done [] g s = s
@@ -50,15 +46,11 @@ exists-ends : (P : AcceptedTablet → Type 0) (xs : List Placed) → Exists P (t
 exists-ends P [] i = i
 exists-ends P (x ∷ xs) i = ⊎_elim (λ a. inl a) (λ r. inr (exists-ends P xs r)) i
 
-each-of-ends : (P : AcceptedTablet → Type 0) (xs : List Placed) → Each P (the_ends xs) → Each (λ x. P x.tablet) xs
-each-of-ends P [] h = tt
-each-of-ends P (x ∷ xs) h = (h.0, each-of-ends P xs h.1)
-
 pub ups : (ts : List Tablet) (xs : List Placed) → ValidLogs ts → TabletsOf ts xs → Each (Up xs) xs
 ups ts xs v is =
     each-weaker (λ x. StartsFrom (the_ends xs) x.tablet) (Up xs)
     (λ x s. ⊎_elim (λ a. inl a) (λ r. inr (exists-ends (λ d. (Some d.header.id ≡ x.tablet.header.parent) × ((d.header.id < x.tablet.header.id) × (d.end.floor ≡ x.tablet.start.floor))) xs r)) s) xs
-    (each-of-ends (StartsFrom (the_ends xs)) xs (subst (λ w. Each (StartsFrom w) w) (sym is) (starts-from [] ts v.grows tt)))
+    (each-ends (StartsFrom (the_ends xs)) xs (subst (λ w. Each (StartsFrom w) w) (sym is) (starts-from [] ts v.grows tt)))
 
 -- a last safe value is from the start to the final floor
 final-floor : (e : AcceptedTablet) → (b : Begins e) → e.end.floor ≡ floor_after e.start.floor e.records

@@ -15,8 +15,8 @@ use Rattle.xc_model.proofs.Sorts.{each-append, filter-sort, in_order-sort}
 use Rattle.xc_model.proofs.ApplyPath.{not_after-orders}
 use Rattle.xc_model.proofs.Keep.{newest-kept_from}
 use Rattle.xc_model.proofs.ReadPath.{read-path}
-use Rattle.xc_model.proofs.Chain.{KindGoes, Goes, last_after, Threads, path-goes}
-use Rattle.xc_model.proofs.Cover.{path-front, covered, Cut, cut-from, record-late}
+use Rattle.xc_model.proofs.Chain.{Goes, last_after, Threads, path-goes}
+use Rattle.xc_model.proofs.Cover.{floor-time, path-front, covered, Cut, cut-from, record-late}
 
 pub each-front : {A : Type 0} (P : A → Type 0) (xs ys : List A) → Each P (xs ++ ys) → Each P xs
 each-front P [] ys h = tt
@@ -38,17 +38,9 @@ pub stragglers-front : (commit : ℕ → Option ℕ) (k : List ℕ) (seen xs ys 
 stragglers-front commit k seen [] ys h = tt
 stragglers-front commit k seen (x ∷ xs) ys h = (h.0, stragglers-front commit k (seen ++ x ∷ []) xs ys h.1)
 
-floor-up-to-time : (f l time : ℕ) (kind : Kind) → f ≤ l → l < time → KindGoes f time kind → floor_by f kind ≤ time
-floor-up-to-time f l time (log.Write ops) h i g = omega arith
-floor-up-to-time f l time (log.Intent n ops) h i g = omega arith
-floor-up-to-time f l time (log.Apply n m) h i g = omega arith
-floor-up-to-time f l time (log.Abort n) h i g = omega arith
-floor-up-to-time f l time (log.Split at left right) h i g = omega arith
-floor-up-to-time f l time (log.Safe v) h i g = g.1
-
 pub floor-le-last : (f l : ℕ) (xs : List Record) → f ≤ l → Goes f l xs → floor_after f xs ≤ last_after l xs
 floor-le-last f l [] h g = h
-floor-le-last f l (x ∷ xs) h g = floor-le-last (floor_by f x.kind) x.time xs (floor-up-to-time f l x.time x.kind h g.0 g.1) g.2
+floor-le-last f l (x ∷ xs) h g = floor-le-last (floor_by f x.kind) x.time xs (floor-time f l x.time x.kind h g.0 g.1) g.2
 
 pub later-late : (commit : ℕ → Option ℕ) (t : ℕ) (k : List ℕ) (f l : ℕ) (xs : List Record) → t ≤ l → Goes f l xs → Each (Agrees commit) xs → Each (ComesAfter commit t) (events k xs)
 later-late commit t k f l [] h g a = tt

@@ -1,4 +1,5 @@
 -- The safe time and the floors of tablets as their places rise.
+use Rattle.xc_model.proofs.Tree.{each-ends}
 use Rattle.std.proofs.Common.{◌≡◌, ◌==◌, ℕ, suc, zero, ◌^◌, ◌≤◌, Bool, true, false, cond, not, List, [], ◌∷◌, ◌++◌, map, take, length, Option, Some, None, refl, ap, sym, ◌∙◌, arith, subst, ◌⊎◌, inl, inr, ⊎_elim}
 use Rattle.std.specs.List.{filter}
 use Rattle.std.proofs.lemmas.Bool.{and_parts, and_from, eqb-true, eq-eqb, true≢false}
@@ -56,12 +57,8 @@ begins-from done (t ∷ ts) h =
     let e = end_under o t in
     begins-from (done ++ e ∷ []) ts (each-append Begins done (e ∷ []) h (record { from = o; tablet = t; low = parent-low done t.header.parent h; is = refl }, tt))
 
-each-map : (xs : List Placed) → Each Begins (map (λ x. x.tablet) xs) → Each (λ x. Begins x.tablet) xs
-each-map [] h = tt
-each-map (x ∷ xs) h = (h.0, each-map xs h.1)
-
 pub begins-placed : (ts : List Tablet) (xs : List Placed) → TabletsOf ts xs → Each (λ x. Begins x.tablet) xs
-begins-placed ts xs h = each-map xs (subst (Each Begins) (sym h) (begins-from [] ts tt))
+begins-placed ts xs h = each-ends Begins xs (subst (Each Begins) (sym h) (begins-from [] ts tt))
 
 pub floor-step : (f time : ℕ) (kind : Kind) → KindGoes f time kind → f ≤ floor_by f kind
 floor-step f time (log.Write ops) g = omega arith

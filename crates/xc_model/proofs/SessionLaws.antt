@@ -23,7 +23,7 @@ use Rattle.xc_record.specs.Step.{safe_now, cursor, awaits, halts_at, poll_answer
 use Rattle.xc_record.proofs.SafeLaws.{safe_time-rises}
 use Rattle.xc_model.specs.Laws.{StepsKeepSessions, SessionsStart, StepsKeepTimes}
 use Rattle.xc_model.proofs.StableSort.{Each, Exists}
-use Rattle.xc_model.proofs.Sorts.{each-append, each-weaker}
+use Rattle.xc_model.proofs.Sorts.{exists-left, each-append, each-weaker}
 use Rattle.xc_model.proofs.Tree.{each-itself, each-at, exists-weaker}
 use Rattle.xc_model.proofs.FromRules.{heads}
 use Rattle.xc_model.proofs.FromValid.{rules-suffice, accepted-ends, accepted-numbered}
@@ -34,7 +34,7 @@ use Rattle.xc_model.proofs.DeliverLaw.{get-is, some-below, pick, none-some, some
 use Rattle.xc_record.specs.Order.{Progress, accepted_from}
 use Rattle.xc_model.proofs.Placed.{begun, end_under, order_at, parent_order, ends_from}
 use Rattle.xc_model.proofs.ValidLogs.{ParentThere, GrowsBy}
-use Rattle.xc_model.proofs.KeptSafe.{order-there, exists-front}
+use Rattle.xc_model.proofs.KeptSafe.{order-there}
 
 -- ---- stores
 
@@ -113,7 +113,7 @@ under-one done t None e i = inl e
 under-one done t (Some p) e i = inr (exists-weaker (λ d. (d.header.id ≡ p) × (d.end ≡ order_at p done)) (λ d. (Some d.header.id ≡ t.header.parent) × (d.end.split ≡ false → (end_under (order_at p done) t).records ≡ [])) (λ d h. (ap Some h.0 ∙ sym e, (λ q. unreached (order_at p done) t (ap (λ (w : Progress). w.split) (sym h.1) ∙ q)))) done (order-there p done i))
 
 under-more : (done more : List AcceptedTablet) (e : AcceptedTablet) → UnderSplit done e → UnderSplit (done ++ more) e
-under-more done more e s = ⊎_elim (λ a. inl a) (λ r. inr (exists-front (λ d. (Some d.header.id ≡ e.header.parent) × (d.end.split ≡ false → e.records ≡ [])) done more r)) s
+under-more done more e s = ⊎_elim (λ a. inl a) (λ r. inr (exists-left (λ d. (Some d.header.id ≡ e.header.parent) × (d.end.split ≡ false → e.records ≡ [])) done more r)) s
 
 under-from : (done : List AcceptedTablet) (ts : List Tablet) → GrowsBy done ts → Each (UnderSplit done) done → Each (UnderSplit (ends_from done ts)) (ends_from done ts)
 under-from done [] g s = s

@@ -1,8 +1,8 @@
 -- Laws of the stable sort.
-use Rattle.std.proofs.Common.{◌≡◌, Bool, true, false, cond, List, [], ◌∷◌, ◌++◌, refl, ap, ◌∙◌, arith, ⊎_elim}
+use Rattle.std.proofs.Common.{◌≡◌, Bool, true, false, cond, List, [], ◌∷◌, ◌++◌, refl, ap, ◌∙◌, arith, inl, inr, ⊎_elim}
 use Rattle.std.specs.List.{filter}
 use Rattle.std.proofs.lemmas.Bool.{cases_Bool}
-use Rattle.xc_model.proofs.StableSort.{put_before, stable_sort, Orders, Each, InOrder}
+use Rattle.xc_model.proofs.StableSort.{Exists, put_before, stable_sort, Orders, Each, InOrder}
 use Rattle.xc_model.specs.Kept.{put_after}
 
 -- the two ways to put an element in don't disturb each other
@@ -84,3 +84,11 @@ put-same le o x (y ∷ ys) h = grind (arith, h.0, o.total x y, put-same le o x y
 pub put-swap : {A : Type 0} (le : A → A → Bool) (o : Orders le) (x y : A) (xs : List A) → (le x y ≡ true → le y x ≡ false) → put_before le x (put_before le y xs) ≡ put_before le y (put_before le x xs)
 put-swap le o x y [] h = grind (arith, h, o.total x y)
 put-swap le o x y (z ∷ zs) h = grind (arith, h, put-swap le o x y zs h, o.trans x z y, o.trans y z x, o.trans y x z, o.trans x y z, o.total x y, o.total y x, o.total y z, o.total z y, o.total x z, o.total z x)
+
+pub exists-left : {A : Type 0} (P : A → Type 0) (xs ys : List A) → Exists P xs → Exists P (xs ++ ys)
+exists-left P [] ys i = absurd i
+exists-left P (x ∷ xs) ys i = ⊎_elim (λ a. inl a) (λ r. inr (exists-left P xs ys r)) i
+
+pub exists-right : {A : Type 0} (P : A → Type 0) (xs ys : List A) → Exists P ys → Exists P (xs ++ ys)
+exists-right P [] ys i = i
+exists-right P (x ∷ xs) ys i = inr (exists-right P xs ys i)

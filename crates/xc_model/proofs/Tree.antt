@@ -211,6 +211,10 @@ place-follow o (e ∷ es) ps h f =
 abbrev pub the_ends : List Placed → List AcceptedTablet
 the_ends xs = map (λ x. x.tablet) xs
 
+pub each-ends : (P : AcceptedTablet → Type 0) (xs : List Placed) → Each P (the_ends xs) → Each (λ x. P x.tablet) xs
+each-ends P [] h = tt
+each-ends P (x ∷ xs) h = (h.0, each-ends P xs h.1)
+
 pub ends-placed : (es : List AcceptedTablet) (ps : List ℕ) → the_ends (placed es ps) ≡ es
 ends-placed [] ps = refl
 ends-placed (e ∷ es) ps = ap (λ w. e ∷ w) (ends-placed es ps)

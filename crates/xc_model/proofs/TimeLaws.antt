@@ -17,7 +17,7 @@ use Rattle.xc_record.specs.Session.{Session}
 use Rattle.xc_record.specs.Rows.{rows, row}
 use Rattle.xc_record.specs.Step.{safe_now, poll_answer, poll_step, stop_step, drained, read_at_line, prune_step, open_step, refuses, is_change, step, lines_from}
 use Rattle.xc_model.specs.Sessions.{named, named_times, IsRising}
-use Rattle.xc_model.specs.Laws.{NamedTimesRise, ClosedStays}
+use Rattle.xc_model.specs.Laws.{FailoverCloses, NamedTimesRise, ClosedStays}
 use Rattle.xc_model.proofs.SessionLaws.{either, steps-keep, steps-rise}
 
 -- lines name no time, or t alone
@@ -123,3 +123,7 @@ asked logs m command.Report t (Some v) e = refl
 pub closed-stays : ClosedStays
 unfolding step
 closed-stays logs m c t e = asked logs m c t m.closed e
+
+pub failover-closes : FailoverCloses
+unfolding step open_step
+failover-closes logs m e = ap (λ o. (option_map_or {T = ℕ} {U = Session × List Line} (λ t. (m, line.Closed t ∷ [])) o (open_step logs m command.Failover)).0) e

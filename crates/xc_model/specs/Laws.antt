@@ -10,6 +10,7 @@ use Rattle.std.specs.Cmp.Lexicographic.{slice_cmp}
 use Rattle.std.specs.FinMap.Entries.{where_key}
 use Rattle.xc_record.specs.Valid.{is_valid, headers_of}
 use Rattle.xc_record.specs.declared.session.Command.{Command}
+use Rattle.xc_record.specs.declared.session.Command.TheVariants as command
 use Rattle.xc_record.specs.Session.{Session, IsSession, start}
 use Rattle.xc_record.specs.Step.{step, safe_now, lines_from}
 use Rattle.xc_record.specs.SafeTime.{safe_time, IsPlaces}
@@ -65,7 +66,7 @@ KeptValuesSuffice = (logs : Logs) (x : TargetTablet) (u : ℕ) → StandsFor log
 
 -- Each command keeps the session: legal places, the cursor between the acknowledged place and the place, the cutoff at most the safe time.
 abbrev pub StepsKeepSessions : Type 0
-StepsKeepSessions = (logs : Logs) (m : Session) (command : Command) → is_valid logs ≡ true → IsSession logs m → IsSession logs (step logs m command).0
+StepsKeepSessions = (logs : Logs) (m : Session) (c : Command) → is_valid logs ≡ true → IsSession logs m → IsSession logs (step logs m c).0
 
 -- The session that nothing was asked of yet is one.
 abbrev pub SessionsStart : Type 0
@@ -73,12 +74,16 @@ SessionsStart = (logs : Logs) → is_valid logs ≡ true → IsSession logs (sta
 
 -- No command makes the safe time fall.
 abbrev pub StepsKeepTimes : Type 0
-StepsKeepTimes = (logs : Logs) (m : Session) (command : Command) → is_valid logs ≡ true → IsSession logs m → safe_now logs m ≤ safe_now logs (step logs m command).0
+StepsKeepTimes = (logs : Logs) (m : Session) (c : Command) → is_valid logs ≡ true → IsSession logs m → safe_now logs m ≤ safe_now logs (step logs m c).0
 
 -- Along any list of commands no named time falls.
 abbrev pub NamedTimesRise : Type 0
 NamedTimesRise = (logs : Logs) (m : Session) (commands : List Command) → is_valid logs ≡ true → IsSession logs m → IsRising (safe_now logs m) (named_times (lines_from logs m commands))
 
+-- A failover of an open session closes it at its safe time, and changes nothing else.
+abbrev pub FailoverCloses : Type 0
+FailoverCloses = (logs : Logs) (m : Session) → m.closed ≡ None → (step logs m command.Failover).0 ≡ record m { closed = Some (safe_now logs m) }
+
 -- A closed session stays as it is, whatever is asked of it.
 abbrev pub ClosedStays : Type 0
-ClosedStays = (logs : Logs) (m : Session) (command : Command) (t : ℕ) → m.closed ≡ Some t → (step logs m command).0 ≡ m
+ClosedStays = (logs : Logs) (m : Session) (c : Command) (t : ℕ) → m.closed ≡ Some t → (step logs m c).0 ≡ m

@@ -4,7 +4,7 @@
 //! at that time: the transactions committed by then, each in full, and none that commits later.
 #![tactic(auto)]
 
-ghost use Rattle.xc_model.specs.Laws.{ReadsShowRows, ReadsShowLists, KeysSuffice, NewStands, CutoffsKeepStanding, RestoresKeepReads, RestoredShowRows, SafeTimeRises, KeptValuesSuffice, DeliveriesKeepStanding, BatchesKeepStanding, SessionsStart, StepsKeepSessions, StepsKeepTimes, NamedTimesRise, ClosedStays};
+ghost use Rattle.xc_model.specs.Laws.{ReadsShowRows, ReadsShowLists, KeysSuffice, NewStands, CutoffsKeepStanding, RestoresKeepReads, RestoredShowRows, SafeTimeRises, KeptValuesSuffice, DeliveriesKeepStanding, BatchesKeepStanding, SessionsStart, StepsKeepSessions, StepsKeepTimes, NamedTimesRise, FailoverCloses, ClosedStays};
 
 /// For logs that agree, a read at a time from the cutoff to what the tablet covers is the row of the logs at that time.
 pub fn reads_show_rows()
@@ -79,6 +79,11 @@ pub fn steps_keep_times()
 /// Along any list of commands no named time falls.
 pub fn named_times_rise()
     ensures { NamedTimesRise }
+{}
+
+/// A failover of an open session closes it at its safe time, and changes nothing else.
+pub fn failover_closes()
+    ensures { FailoverCloses }
 {}
 
 /// A closed session stays as it is, whatever is asked of it.

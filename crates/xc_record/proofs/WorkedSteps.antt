@@ -1,15 +1,12 @@
 -- What the session step answers over small logs.
-use Rattle.std.proofs.Common.{◌≡◌, ℕ, List, [], ◌∷◌, Some, None, false, refl}
+use Rattle.std.proofs.Common.{◌≡◌, [], ◌∷◌, Some, None, false, refl}
 use Rattle.std.specs.Prelude.{codes}
-use Rattle.xc_record.specs.declared.record.Logs.{Logs}
 use Rattle.xc_record.specs.declared.record.Break.TheVariants.{CommitBelow}
-use Rattle.xc_record.specs.declared.session.Command.{Command}
 use Rattle.xc_record.specs.declared.session.Command.TheVariants as command
-use Rattle.xc_record.specs.declared.session.Line.{Line}
 use Rattle.xc_record.specs.declared.session.Line.TheVariants as line
 use Rattle.xc_record.specs.Session.{start}
 use Rattle.xc_record.specs.Step.{lines_from}
-use Rattle.xc_record.proofs.WorkedLogs.{computed, a, z, two_tablets, with_split, with_late_apply, with_both_children}
+use Rattle.xc_record.proofs.WorkedLogs.{computed, a, z, with_split, with_late_apply, with_both_children}
 
 -- a child waits for its parent; a stop moves nothing on; a restart goes back to the acknowledged place
 polls : lines_from (with_split 14) (start (with_split 14)) (command.Poll 1 9 ∷ command.Stop 0 3 0 ∷ command.Poll 0 3 ∷ command.Ack 0 ∷ command.Poll 0 9 ∷ command.Restart 0 ∷ command.Poll 0 9 ∷ command.Poll 0 9 ∷ command.Poll 2 9 ∷ command.Safe ∷ command.Poll 1 9 ∷ command.Safe ∷ command.Read z ∷ [])

@@ -12,16 +12,16 @@ use Rattle.xc_record.specs.declared.rules.Next.TheVariants.{RootAt, LeftChild, R
 use Rattle.xc_record.specs.declared.record.Header.{Header}
 use Rattle.xc_text.specs.Lines.{header_numbers_fit}
 
-eq_of : (a b : ℕ) → (a == b) ≡ true → a ≡ b
+pub eq_of : (a b : ℕ) → (a == b) ≡ true → a ≡ b
 eq_of a b h = grind (arith, nat_tests)
 
-le_of : (a b : ℕ) → nat_le a b ≡ true → a ≤ b
+pub le_of : (a b : ℕ) → nat_le a b ≡ true → a ≤ b
 le_of a b h = grind (arith, nat_tests)
 
-lt_of : (a b : ℕ) → nat_lt a b ≡ true → a < b
+pub lt_of : (a b : ℕ) → nat_lt a b ≡ true → a < b
 lt_of a b h = grind (arith, nat_tests)
 
-lt_test : (a b : ℕ) → a < b → nat_lt a b ≡ true
+pub lt_test : (a b : ℕ) → a < b → nat_lt a b ≡ true
 lt_test a b h = grind (arith, nat_tests)
 
 -- ---- what stands in a list

@@ -91,7 +91,7 @@ headers_run done (h ∷ hs) next rest logs small f more =
     (ap (split_on 10) (append_assoc (header_text h) (flat_map header_text hs) rest) ∙ header_line h (flat_map header_text hs ++ rest) (small_parts h s.0))
     (step_is (at_headers done next) (header_bytes h) (line.Tablet h) (header_is h (small_parts h s.0)) (header_kinds done next h s.0 p.0) ∙ ap Ok (header_moved done next h))
     (headers_run (done ++ h ∷ []) hs (next_after done next h h.parent) rest logs s.1 p.1
-        (λ after m. let P : List Header → Type 0 = λ all. Gives (at_headers all after) rest logs in subst P (sym (append_assoc done (h ∷ []) hs)) (more after m)))
+    (λ after m. let P : List Header → Type 0 = λ all. Gives (at_headers all after) rest logs in subst P (sym (append_assoc done (h ∷ []) hs)) (more after m)))
 
 -- ---- a record of a tablet
 
@@ -164,14 +164,14 @@ pub no_split_yet : (b : Bool) (done : List Record) (r : Record) (left : List Rec
 no_split_yet b [] r left f = refl
 no_split_yet b (q ∷ []) r left f = by (is_split q.kind) f
   where
-  by : (t : Bool) → (if t then (b && length (r ∷ left) == 0) else ends_fit b (r ∷ left)) ≡ true → t ≡ false
-  by true g = let p = and_parts b (length (r ∷ left) == 0) g in let e = eq_of (length (r ∷ left)) 0 p.1 in absurd (omega arith)
-  by false g = refl
+    by : (t : Bool) → (if t then (b && length (r ∷ left) == 0) else ends_fit b (r ∷ left)) ≡ true → t ≡ false
+    by true g = let p = and_parts b (length (r ∷ left) == 0) g in let e = eq_of (length (r ∷ left)) 0 p.1 in absurd (omega arith)
+    by false g = refl
 no_split_yet b (q ∷ (x ∷ xs)) r left f = by (λ g. no_split_yet b (x ∷ xs) r left g) (is_split q.kind) f
   where
-  by : (ends_fit b ((x ∷ xs) ++ r ∷ left) ≡ true → ends_split (x ∷ xs) ≡ false) → (t : Bool) → (if t then (b && length ((x ∷ xs) ++ r ∷ left) == 0) else ends_fit b ((x ∷ xs) ++ r ∷ left)) ≡ true → ends_split (x ∷ xs) ≡ false
-  by more true g = let p = and_parts b (length ((x ∷ xs) ++ r ∷ left) == 0) g in let e = eq_of (length ((x ∷ xs) ++ r ∷ left)) 0 p.1 in absurd (omega arith)
-  by more false g = more g
+    by : (ends_fit b ((x ∷ xs) ++ r ∷ left) ≡ true → ends_split (x ∷ xs) ≡ false) → (t : Bool) → (if t then (b && length ((x ∷ xs) ++ r ∷ left) == 0) else ends_fit b ((x ∷ xs) ++ r ∷ left)) ≡ true → ends_split (x ∷ xs) ≡ false
+    by more true g = let p = and_parts b (length ((x ∷ xs) ++ r ∷ left) == 0) g in let e = eq_of (length ((x ∷ xs) ++ r ∷ left)) 0 p.1 in absurd (omega arith)
+    by more false g = more g
 
 abbrev pub part : Header → List Record → Tablet
 part h rs = record { header = h; records = rs }

@@ -49,7 +49,7 @@ entry_step stage before h done after next records operations r i f m id range la
     let known : nat_le (length (before ++ part h done ∷ after)) h.id ≡ false = not_le (length (before ++ part h done ∷ after)) h.id (omega arith) in
     let e : with_record h.id r (before ++ part h done ∷ after) ≡ before ++ part h (done ++ r ∷ []) ∷ after = rw got put in
     step_is (at stage (before ++ part h done ∷ after) next records operations) (entry_bytes h.id r) (line.Entry h.id r) (entry_is h.id r f)
-        (entry_kinds stage (before ++ part h done ∷ after) next records operations h.id r (part h done) i f m known got range (split_off_is (part h done) ∙ last) few (not_zero records room) (not_lt operations (ops_in r.kind) space))
+    (entry_kinds stage (before ++ part h done ∷ after) next records operations h.id r (part h done) i f m known got range (split_off_is (part h done) ∙ last) few (not_zero records room) (not_lt operations (ops_in r.kind) space))
     ∙ ap (λ ts. Ok (at Records ts next (records - 1) (operations - ops_in r.kind))) e
 
 -- what holds of a tablet whose records are printed
@@ -86,7 +86,7 @@ records_run all before h after done (r ∷ left) b stage next records operations
     (ap (split_on 10) (append_assoc (record_text h.id r) (flat_map (record_text h.id) left) rest) ∙ entry_line h.id r (flat_map (record_text h.id) left ++ rest) entry)
     (entry_step stage before h done after next records operations r i entry m p.number range last k.few room space)
     (records_run all before h after (done ++ r ∷ []) left b Records next (records - 1) (operations - ops_in r.kind) x y rest logs p q.1 (subst P whole ends) refl m (omega arith) (omega arith)
-        (λ later j. let Q : List Record → Type 0 = λ rs. Gives (at later (before ++ part h rs ∷ after) next x y) rest logs in subst Q whole (more later j)))
+    (λ later j. let Q : List Record → Type 0 = λ rs. Gives (at later (before ++ part h rs ∷ after) next x y) rest logs in subst Q whole (more later j)))
 
 -- ---- tablet by tablet
 
@@ -142,11 +142,11 @@ tablets_run all before (t ∷ left) n stage next records operations x y rest log
     let P : List ℕ → Type 0 = λ bytes. Gives (at stage (before ++ part t.header [] ∷ bares left) next records operations) bytes logs in
     subst P (sym (append_assoc (records_text t) (flat_map records_text left) rest))
     (records_run all before t.header (bares left) [] t.records (is_some (children all t.header.id)) stage next records operations (records_of left + x) (operations_of left + y) (flat_map records_text left ++ rest) logs prints g.0 g.1 i m (omega arith) (omega arith)
-        (λ later j.
-            let Q : List Tablet → Type 0 = λ ts. Gives (at later ts next (records_of left + x) (operations_of left + y)) (flat_map records_text left ++ rest) logs in
-            subst Q (sym wholes)
-            (tablets_run all (before ++ t ∷ []) left (n + 1) later next (records_of left + x) (operations_of left + y) x y rest logs longer d.1 all_same small s.1 f.1 j m refl refl
-                (λ last k. let R : List Tablet → Type 0 = λ ts. Gives (at last ts next x y) rest logs in subst R whole (more last k)))))
+    (λ later j.
+    let Q : List Tablet → Type 0 = λ ts. Gives (at later ts next (records_of left + x) (operations_of left + y)) (flat_map records_text left ++ rest) logs in
+    subst Q (sym wholes)
+    (tablets_run all (before ++ t ∷ []) left (n + 1) later next (records_of left + x) (operations_of left + y) x y rest logs longer d.1 all_same small s.1 f.1 j m refl refl
+    (λ last k. let R : List Tablet → Type 0 = λ ts. Gives (at last ts next x y) rest logs in subst R whole (more last k)))))
 
 -- ---- the end
 
@@ -154,14 +154,14 @@ ends_in_split : (rs : List Record) → ends_fit true rs ≡ true → ends_split 
 ends_in_split [] f = cc
 ends_in_split (r ∷ []) f = by (is_split r.kind) f
   where
-  by : (t : Bool) → (if t then true else false) ≡ true → t ≡ true
-  by true g = refl
-  by false g = g
+    by : (t : Bool) → (if t then true else false) ≡ true → t ≡ true
+    by true g = refl
+    by false g = g
 ends_in_split (r ∷ (x ∷ xs)) f = by (λ g. ends_in_split (x ∷ xs) g) (is_split r.kind) f
   where
-  by : (ends_fit true (x ∷ xs) ≡ true → ends_split (x ∷ xs) ≡ true) → (t : Bool) → (if t then (length (x ∷ xs) == 0) else ends_fit true (x ∷ xs)) ≡ true → ends_split (x ∷ xs) ≡ true
-  by more true g = let e = eq_of (length (x ∷ xs)) 0 g in absurd (omega arith)
-  by more false g = more g
+    by : (ends_fit true (x ∷ xs) ≡ true → ends_split (x ∷ xs) ≡ true) → (t : Bool) → (if t then (length (x ∷ xs) == 0) else ends_fit true (x ∷ xs)) ≡ true → ends_split (x ∷ xs) ≡ true
+    by more true g = let e = eq_of (length (x ∷ xs)) 0 g in absurd (omega arith)
+    by more false g = more g
 
 not_orphaned_by : (b : Bool) (rs : List Record) → ends_fit b rs ≡ true → (b && not (ends_split rs)) ≡ false
 not_orphaned_by false rs f = refl
@@ -226,13 +226,16 @@ printed_is_read logs v =
     let ids : numbered 0 hs ≡ true = fit_numbered [] (RootAt 0) hs 0 refl p.0 in
     let tail = flat_map records_text ts ++ codes "end\n" in
     let gives : Gives (at_headers [] (RootAt 0)) (flat_map header_text hs ++ tail) logs =
-        headers_run [] hs (RootAt 0) tail logs small p.0
-        (λ after m.
-            let P : List Tablet → Type 0 = λ us. Gives (at Headers us after (2 ^ 20) (2 ^ 22)) tail logs in
-            subst P (sym (bares_are ts))
-            (tablets_run hs [] ts 0 Headers after (2 ^ 20) (2 ^ 22) (2 ^ 20 - records_of ts) (2 ^ 22 - operations_of ts) (codes "end\n") logs refl ids refl small small q.0 refl m
-                (rest_of (records_of ts) (2 ^ 20) (le_of (records_of ts) (2 ^ 20) d.0)) (rest_of (operations_of ts) (2 ^ 22) (le_of (operations_of ts) (2 ^ 22) d.1))
-                (λ later i. end_gives later ts after (2 ^ 20 - records_of ts) (2 ^ 22 - operations_of ts) i m (none_orphaned hs ts q.0)))) in
+    headers_run [] hs (RootAt 0) tail logs small p.0
+    (λ after m.
+    let P : List Tablet → Type 0 = λ us. Gives (at Headers us after (2 ^ 20) (2 ^ 22)) tail logs in
+    subst P (sym (bares_are ts))
+    (tablets_run hs [] ts 0 Headers after (2 ^ 20) (2 ^ 22) (2 ^ 20 - records_of ts) (2 ^ 22 - operations_of ts) (codes "end\n") logs refl ids refl small small q.0 refl m
+    (rest_of (records_of ts) (2 ^ 20) (le_of (records_of ts) (2 ^ 20) d.0)) (rest_of (operations_of ts) (2 ^ 22) (le_of (operations_of ts) (2 ^ 22) d.1))
+    (λ later i. end_gives later ts after (2 ^ 20 - records_of ts) (2 ^ 22 - operations_of ts) i m (none_orphaned hs ts q.0)))) in
     back begun (at_headers [] (RootAt 0)) (codes "xclog 1") (flat_map (λ t. header_text t.header) ts ++ tail) (codes "xclog 1\n" ++ (flat_map (λ t. header_text t.header) ts ++ tail)) logs refl
     (step_is begun (codes "xclog 1") line.First first_line refl)
     (let Q : List ℕ → Type 0 = λ bytes. Gives (at_headers [] (RootAt 0)) (bytes ++ tail) logs in subst Q (sym (headers_text ts)) gives) 1
+
+pub text_is_read : (logs : Logs) (text : List ℕ) → is_valid logs ≡ true → text ≡ text_of logs → logs_of text ≡ Ok logs
+text_is_read logs text v e = ap logs_of e ∙ printed_is_read logs v

@@ -9,4 +9,6 @@ pub mod ValidLaws
 pub mod PrintedWords
 pub mod PrintedLines
 pub mod PrintedHeaders
+pub mod PrintedLaws
+pub mod PrintedRun
 mod WorkedTexts

@@ -12,16 +12,16 @@ use Rattle.xc_record.specs.declared.rules.Next.TheVariants.{RootAt, LeftChild, R
 use Rattle.xc_record.specs.declared.record.Header.{Header}
 use Rattle.xc_text.specs.Lines.{header_numbers_fit}
 
-eq_of : (a b : ℕ) → (a == b) ≡ true → a ≡ b
+pub eq_of : (a b : ℕ) → (a == b) ≡ true → a ≡ b
 eq_of a b h = grind (arith, nat_tests)
 
-le_of : (a b : ℕ) → nat_le a b ≡ true → a ≤ b
+pub le_of : (a b : ℕ) → nat_le a b ≡ true → a ≤ b
 le_of a b h = grind (arith, nat_tests)
 
-lt_of : (a b : ℕ) → nat_lt a b ≡ true → a < b
+pub lt_of : (a b : ℕ) → nat_lt a b ≡ true → a < b
 lt_of a b h = grind (arith, nat_tests)
 
-lt_test : (a b : ℕ) → a < b → nat_lt a b ≡ true
+pub lt_test : (a b : ℕ) → a < b → nat_lt a b ≡ true
 lt_test a b h = grind (arith, nat_tests)
 
 -- ---- what stands in a list
@@ -56,7 +56,7 @@ root_within before lo (h ∷ hs) f =
     let o = fits_order before (RootAt lo) h p.0 in
     root_cases before lo h hs o.1 h.parent o.2
     (λ none. let e : next_after before (RootAt lo) h h.parent ≡ RootAt (h.hi + 1) = rw none refl in
-        root_within (before ++ h ∷ []) (h.hi + 1) hs (ap (λ n. fit_from (before ++ h ∷ []) n hs) (sym e) ∙ p.1))
+    root_within (before ++ h ∷ []) (h.hi + 1) hs (ap (λ n. fit_from (before ++ h ∷ []) n hs) (sym e) ∙ p.1))
 
 -- ---- header by header
 
@@ -137,8 +137,9 @@ pub children_all : (p : Header → Bool) (hs : List Header) (id : ℕ) (pair : H
 children_all p [] id pair a e = cc
 children_all p (h ∷ hs) id pair a e = by (λ f. children_all p hs id pair q.1 f) (is_child_of id h) e
   where
-  q : (p h ≡ true) × (list_all p hs ≡ true)
-  q = and_parts (p h) (list_all p hs) a
-  by : (children hs id ≡ Some pair → (p pair.0 ≡ true) × (p pair.1 ≡ true)) → (b : Bool) → (if b then with_next h hs else children hs id) ≡ Some pair → (p pair.0 ≡ true) × (p pair.1 ≡ true)
-  by more true f = with_next_all p h hs pair q.0 q.1 f
-  by more false f = more f
+    q : (p h ≡ true) × (list_all p hs ≡ true)
+    q = and_parts (p h) (list_all p hs) a
+
+    by : (children hs id ≡ Some pair → (p pair.0 ≡ true) × (p pair.1 ≡ true)) → (b : Bool) → (if b then with_next h hs else children hs id) ≡ Some pair → (p pair.0 ≡ true) × (p pair.1 ≡ true)
+    by more true f = with_next_all p h hs pair q.0 q.1 f
+    by more false f = more f

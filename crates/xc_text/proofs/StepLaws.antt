@@ -69,13 +69,13 @@ header_in_place Headers h i = refl
 header_in_place Records h i = refl
 header_in_place Ended h i = cc
 
-entry_in_place : (stage : Stage) (id : ℕ) (r : Record) → is_inner stage ≡ true → misplaced stage (line.Entry id r) ≡ false
+pub entry_in_place : (stage : Stage) (id : ℕ) (r : Record) → is_inner stage ≡ true → misplaced stage (line.Entry id r) ≡ false
 entry_in_place Start id r i = cc
 entry_in_place Headers id r i = refl
 entry_in_place Records id r i = refl
 entry_in_place Ended id r i = cc
 
-end_in_place : (stage : Stage) → is_inner stage ≡ true → misplaced stage line.End ≡ false
+pub end_in_place : (stage : Stage) → is_inner stage ≡ true → misplaced stage line.End ≡ false
 end_in_place Start i = cc
 end_in_place Headers i = refl
 end_in_place Records i = refl

@@ -1,7 +1,9 @@
 -- Why a line of a log text is bad.
 --     kind_name kind      the word for it in what is printed
 --     first_kind rows      the kind of the first row whose test is true; None where none is
+-- The rest is what single functions answer; what a text spells doesn't rest on it.
 --     judge numbers names line      a line that has a form, if its numbers and its names fit
+--     after_numbers fit fail      a fail that was met behind numbers, which fit or don't
 --     Answers view result reading      a call answered what the reading gives, seen by view, or that memory ran out
 use Rattle.std.specs.Prelude.{◌≡◌, ℕ, Bool, true, false, List, [], ◌∷◌, Option, Some, None, Result, Ok, Err, if◌then◌else◌, codes}
 use Rattle.xc_text.specs.declared.kind.LogKind.{LogKind}

@@ -2,7 +2,7 @@
 --     line_of words      the line that the words spell, with its numbers and its names as they stand there; None where they have none of the forms
 --     numbers_fit line      each number is within the range of its place
 --     names_fit line      each key and each value is well formed
---     line_in words      the line that the words spell, or the first of form, number and key for which it is bad
+-- `judge` of a line or of a part of one, as in kind_in and line_in, is what single functions answer; what a text spells doesn't rest on it.
 use Rattle.std.specs.Prelude.{ℕ, ◌-◌, ◌^◌, min, Bool, true, false, ◌&&◌, ◌==◌, nat_lt, List, [], ◌∷◌, Option, Some, None, Result, if◌then◌else◌, option_and_then, option_map, codes}
 use Rattle.std.specs.List.{list_all, list_any, before_first, after_first}
 use Rattle.std.specs.Option.{option_map_or}

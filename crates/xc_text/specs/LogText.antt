@@ -3,6 +3,7 @@
 --     Reading      what the lines so far gave, and what may stand next
 --     kinds reading line      the rules for a line after those before, in their order: where a test is true, the line is bad for this kind
 --     step reading bytes      what the lines give with one more, or why that one is bad
+-- placed, starting, between and at_line are what single functions answer, each a part of step; what a text spells doesn't rest on them.
 use Rattle.std.specs.Prelude.{◌≡◌, ℕ, ◌+◌, ◌-◌, ◌^◌, Bool, true, false, ◌&&◌, ◌||◌, ◌==◌, nat_lt, nat_le, not, List, [], ◌∷◌, ◌++◌, length, Option, Some, None, Result, Ok, Err, if◌then◌else◌, slice_get, is_some, is_none}
 use Rattle.std.specs.List.{list_all, list_any}
 use Rattle.std.specs.Option.{option_map_or}

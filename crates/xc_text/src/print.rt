@@ -1,7 +1,7 @@
 // Printing logs.
 ghost use Rattle.std.specs.Prelude.{◌≡◌, ◌++◌, ◌∷◌, [], true, IfOk, OnOk, decimal, map, flat_map, codes};
-ghost use Rattle.std.specs.Option.{option_copied};
 ghost use Rattle.xc_record.specs.Valid.{is_valid};
+ghost use Rattle.xc_text.specs.LogText.{logs_of};
 ghost use Rattle.xc_text.specs.Printed.{spaced, op_word, kind_words, record_text, parent_words, header_text, records_text, text_of};
 
 use itoa::Buffer;
@@ -13,13 +13,22 @@ use xc_record::{Header, Kind, Logs, Op, Record, Tablet};
 /// so on. It takes time and memory in proportion to the text.
 pub fn print_logs(alloc: Global, logs: &Logs) -> Result<Bytes, NoMemory>
     requires { is_valid logs.now ≡ true }
+    ensures text { IfOk result (λ text. text ≡ text_of logs.now) }
+    // What is printed is read as these logs.
+    ensures read_back { IfOk result (λ text. logs_of text ≡ Ok logs.now) }
+{
+    match printed(alloc, logs) {
+        Ok(text) => Ok(text),
+        Err(_) => Err(NoMemory),
+    }
+}
+
+fn printed(alloc: Global, logs: &Logs) -> Result<Bytes, AllocError>
     ensures { IfOk result (λ text. text ≡ text_of logs.now) }
 {
     let mut out = Bytes::new(alloc);
-    match push_logs(&mut out, logs.tablets.as_slice()) {
-        Ok(()) => Ok(out),
-        Err(_) => Err(NoMemory),
-    }
+    push_logs(&mut out, logs.tablets.as_slice())?;
+    Ok(out)
 }
 
 #[tactic(auto, unfolding(crate::specs::Printed::text_of))]

@@ -5,3 +5,5 @@ pub mod OneLogs
 pub mod OneSteps
 pub mod Requests
 pub mod Statuses
+pub mod RowMaps
+pub mod Shown

@@ -14,6 +14,7 @@ use Rattle.xc_record.specs.Path.{puts}
 use Rattle.xc_record.specs.SafeTime.{floor_after}
 use Rattle.xc_record.proofs.RowLaws.{after_puts}
 use Rattle.std.proofs.lemmas.Grind.{flat_map-append}
+use Rattle.xc_record.proofs.SafeLaws.{break_of-floor}
 use Rattle.xc_record.proofs.OrderLaws.{accepted-append, accepted-rises, Rises}
 use Rattle.xc_tool.specs.OneTablet.{IsPulled, shown_ops, visible_ops, value_after}
 
@@ -124,7 +125,7 @@ pulled_low records place order p = rw p.stands (low_kept root_start (take place 
 
 -- ---- what is visible
 
-invisible : (t : ℕ) (after : ℕ) (rs : List Record) → t ≤ after → Rises after rs → visible_ops t rs ≡ []
+pub invisible : (t : ℕ) (after : ℕ) (rs : List Record) → t ≤ after → Rises after rs → visible_ops t rs ≡ []
 invisible t after [] h rises = refl
 invisible t after (r ∷ rs) h rises =
     let later : nat_le r.time t ≡ false = let lt : after < r.time = rises.0 in grind (arith, nat_tests) in
@@ -142,3 +143,9 @@ visible_pulled records place order p =
 pub value-puts : (v : Option (List ℕ)) (k : List ℕ) (ops : List Op) → value_after v k ops ≡ after_puts v (puts k ops)
 value-puts v k [] = refl
 value-puts v k (op ∷ ops) = elim (bytes_eq k op.key) as (λ b. value_after (if b then op.value else v) k ops ≡ after_puts v (if b then (op.value ∷ puts k ops) else puts k ops)) [ true ↦ value-puts op.value k ops | false ↦ value-puts v k ops ]
+
+-- a record that breaks no rule does not set the safe time back
+pub floor_later : (low : ℕ) (order next : Progress) (r : Record) → low ≤ order.floor → break_of order r ≡ None → next ≡ after order r → low ≤ next.floor
+floor_later low order next r h fine go =
+    let rises : order.floor ≤ (after order r).floor = break_of-floor order r (ap is_none fine) in
+    rw go (omega arith)

@@ -6,6 +6,7 @@ mod lines;
 mod quiet;
 mod refusal;
 mod replay;
+mod rows;
 mod script;
 mod session;
 mod steps;
@@ -49,7 +50,8 @@ mod tests {
     fn an_input_has_its_output_and_status(rt: HostRuntime) -> Result<(), Fail> {
         let alloc = rt.alloc();
         let broken = "xclog 1\ntablet 0 0 65535 root\n0 10 write +aaa=1\n0 10 write +aaa=2\nend\n";
-        let aborts = "xclog 1\ntablet 0 0 65535 root\n0 10 write +aaa=1\n0 11 abort 3\n0 12 safe 11\nend\n";
+        let aborts =
+            "xclog 1\ntablet 0 0 65535 root\n0 10 write +aaa=1\n0 11 abort 3\n0 12 safe 11\nend\n";
         let polls = "xcscript 1\ntarget 0\npoll 0 9\npoll 0 9\nend\n";
         let drain = "xcscript 1\ntarget 0\ndrain\nend\n";
         let halted = "polled 0 1\nhalt 0 2 time-back\n";
@@ -57,10 +59,28 @@ mod tests {
         for (asked, logs, script, status, output) in [
             (REPLAY, LOGS, SCRIPT, Status::Ok, OUTPUT),
             (REPLAY, broken, polls, Status::Halted, halted),
-            (REPLAY, aborts, SCRIPT, Status::BadLogs, "bad logs 0 later\n"),
-            (REPLAY, LOGS, drain, Status::BadScript, "bad script 0 later\n"),
+            (
+                REPLAY,
+                aborts,
+                SCRIPT,
+                Status::BadLogs,
+                "bad logs 0 later\n",
+            ),
+            (
+                REPLAY,
+                LOGS,
+                drain,
+                Status::BadScript,
+                "bad script 0 later\n",
+            ),
             (REPLAY, "", SCRIPT, Status::BadLogs, "bad logs 1 no-end\n"),
-            (["replay", "-x", "script"], LOGS, SCRIPT, Status::Usage, usage),
+            (
+                ["replay", "-x", "script"],
+                LOGS,
+                SCRIPT,
+                Status::Usage,
+                usage,
+            ),
         ] {
             let mut logs = QuietSource::new(bytes(alloc, logs)?);
             let mut script = QuietSource::new(bytes(alloc, script)?);

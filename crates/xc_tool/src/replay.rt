@@ -76,10 +76,12 @@ fn run_requests<O: Sink>(
     ensures { (logs : Logs) → IsTaken logs → HasRecords logs records.now
         → Wrote (lines_output (lines_from logs (start logs) (map asked requests.now))) ⊥ result (stream O.written O.faults out.old out.new) }
 {
-    let mut session = Session::start();
+    let mut session = Session::start(alloc);
     let mut halted = false;
     for request in requests {
-        let line = session.answer(records, *request);
+        let Ok(line) = session.answer(records, *request) else {
+            return Status::NoMemory;
+        };
         halted = halted | is_halt(&line);
         let Ok(text) = line_text(alloc, &line) else {
             return Status::NoMemory;

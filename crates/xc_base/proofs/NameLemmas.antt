@@ -1,11 +1,14 @@
--- A buffer that takes a key or a value.
-use Rattle.std.proofs.Common.{◌≡◌, ℕ, ◌≤◌, Bool, true, not, List, [], ◌∷◌, ◌++◌, drop, replicate, length, refl, ◌∙◌, arith, length-append, length-drop}
+-- Bytes without a fault are a name, and a buffer that takes them holds a key or a value.
+use Rattle.std.proofs.Common.{◌≡◌, ℕ, ◌≤◌, Bool, true, false, not, List, [], ◌∷◌, ◌++◌, drop, replicate, length, cond, nat_lt, nat_le, ◌&&◌, if◌then◌else◌, Option, Some, None, refl, ◌∙◌, arith, length-append, length-drop}
 use Rattle.std.proofs.lemmas.List.{take_at, drop-replicate, length-replicate}
 use Rattle.std.proofs.Math.Seq.{drop-append_seam}
 use Rattle.std.proofs.lemmas.Bool.Decides.{nat_tests}
-use Rattle.std.specs.List.{position_or_len, list_all}
+use Rattle.std.specs.List.{position_or_len, position, list_all}
+use Rattle.std.specs.Option.{option_map}
+use Rattle.xc_base.proofs.WordLaws.{and_parts}
+use Rattle.xc_base.specs.declared.name.BadName.TheVariants as bad_name
 use Rattle.xc_base.specs.Padded.{IsPadded}
-use Rattle.xc_base.specs.Names.{IsKeyIn, in_alphabet}
+use Rattle.xc_base.specs.Names.{within, IsKeyIn, IsValueIn, in_alphabet, is_key, is_value, name_fault, key_fault, value_fault}
 
 abbrev pub zeros : ℕ → List ℕ
 zeros n = replicate n 0
@@ -21,11 +24,75 @@ pub all_in : (p : ℕ → Bool) (xs : List ℕ) → length xs ≤ position_or_le
 all_in p [] h = refl
 all_in p (x ∷ xs) h = grind (arith, all_in p xs)
 
-pub key_in : (xs : List ℕ) → 1 ≤ length xs → length xs ≤ 32 → length xs ≤ position_or_len (λ x. not (in_alphabet x)) xs → IsKeyIn (length xs) (xs ++ drop (length xs) (zeros 32))
-key_in xs low high h = record {
-  padded = padded-by 32 xs high;
-  key = rw (take_at xs (drop (length xs) (zeros 32)) (length xs) refl) (let a : list_all in_alphabet xs ≡ true = all_in in_alphabet xs h in rw a (grind (arith, nat_tests)));
-}
+past_end : (place n : ℕ) → cond (nat_lt place n) (Some place) None ≡ None → n ≤ place
+past_end place n h = grind (arith, nat_tests)
 
-pub key_in_copied : (xs ys : List ℕ) → ys ≡ xs → 1 ≤ length xs → length xs ≤ 32 → length xs ≤ position_or_len (λ x. not (in_alphabet x)) xs → IsKeyIn (length xs) (ys ++ drop (length xs) (zeros 32))
-key_in_copied xs ys e low high h = rw e (key_in xs low high h)
+none_outside : (xs : List ℕ) → position (λ x. not (in_alphabet x)) xs ≡ None → list_all in_alphabet xs ≡ true
+none_outside xs h = all_in in_alphabet xs (past_end (position_or_len (λ x. not (in_alphabet x)) xs) (length xs) h)
+
+no_fault : (b : Bool) (place : Option ℕ) (n : ℕ) → (if b then option_map (λ i. bad_name.Byte i) place else Some (bad_name.Length n)) ≡ None → (b ≡ true) × (place ≡ None)
+no_fault true None n h = (refl, refl)
+no_fault true (Some i) n h = cc
+no_fault false place n h = cc
+
+length_in : (least most n : ℕ) → within least most n ≡ true → (least ≤ n) × (n ≤ most)
+length_in least most n h = (grind (arith, nat_tests), grind (arith, nat_tests))
+
+-- what no fault means
+pub record IsNameOf (least most : ℕ) (bytes : List ℕ) : Type 0 where
+  pub low : least ≤ length bytes
+  pub high : length bytes ≤ most
+  pub inside : list_all in_alphabet bytes ≡ true
+
+pub name-no_fault : (least most : ℕ) (bytes : List ℕ) → name_fault least most bytes ≡ None → IsNameOf least most bytes
+name-no_fault least most bytes h =
+    let parts = no_fault (within least most (length bytes)) (position (λ x. not (in_alphabet x)) bytes) (length bytes) h in
+    let limits = length_in least most (length bytes) parts.0 in
+    record { low = limits.0; high = limits.1; inside = none_outside bytes parts.1 }
+
+pub key-no_fault : (bytes : List ℕ) → key_fault bytes ≡ None → is_key bytes ≡ true
+key-no_fault bytes h = let name = name-no_fault 1 32 bytes h in rw name.inside (grind (arith, nat_tests))
+
+pub value-no_fault : (bytes : List ℕ) → value_fault bytes ≡ None → is_value bytes ≡ true
+value-no_fault bytes h = let name = name-no_fault 0 64 bytes h in rw name.inside (grind (arith, nat_tests))
+
+-- and what is a name has no fault
+inside_all : (xs : List ℕ) → list_all in_alphabet xs ≡ true → position_or_len (λ x. not (in_alphabet x)) xs ≡ length xs
+inside_all [] h = refl
+inside_all (x ∷ xs) h = grind (arith, inside_all xs)
+
+no_position : (place n : ℕ) → place ≡ n → cond (nat_lt place n) (Some place) None ≡ None
+no_position place n h = grind (arith, nat_tests)
+
+name-has_no_fault : (least most : ℕ) (bytes : List ℕ) → least ≤ length bytes → length bytes ≤ most → list_all in_alphabet bytes ≡ true → name_fault least most bytes ≡ None
+name-has_no_fault least most bytes low high inside =
+    let fits : within least most (length bytes) ≡ true = grind (arith, nat_tests) in
+    let none : position (λ x. not (in_alphabet x)) bytes ≡ None = no_position _ (length bytes) (inside_all bytes inside) in
+    rw (fits, none) refl
+
+name_parts : (least most : ℕ) (bytes : List ℕ) → nat_le least (length bytes) && (nat_le (length bytes) most && list_all in_alphabet bytes) ≡ true → name_fault least most bytes ≡ None
+name_parts least most bytes h =
+    let outer = and_parts (nat_le least (length bytes)) (nat_le (length bytes) most && list_all in_alphabet bytes) h in
+    let inner = and_parts (nat_le (length bytes) most) (list_all in_alphabet bytes) outer.1 in
+    name-has_no_fault least most bytes (grind (arith, nat_tests)) (grind (arith, nat_tests)) inner.1
+
+pub key-has_no_fault : (bytes : List ℕ) → is_key bytes ≡ true → key_fault bytes ≡ None
+key-has_no_fault bytes h = name_parts 1 32 bytes h
+
+pub value-has_no_fault : (bytes : List ℕ) → is_value bytes ≡ true → value_fault bytes ≡ None
+value-has_no_fault bytes h =
+    let parts = and_parts (nat_le (length bytes) 64) (list_all in_alphabet bytes) h in
+    name-has_no_fault 0 64 bytes (omega arith) (grind (arith, nat_tests)) parts.1
+
+-- the buffer of a new key, and of a new value
+pub key_in : (xs ys : List ℕ) → ys ≡ xs → key_fault xs ≡ None → IsKeyIn (length xs) (ys ++ drop (length xs) (zeros 32))
+key_in xs ys e h = rw e (record {
+  padded = padded-by 32 xs (name-no_fault 1 32 xs h).high;
+  key = rw (take_at xs (drop (length xs) (zeros 32)) (length xs) refl) (key-no_fault xs h);
+})
+
+pub value_in : (xs ys : List ℕ) → ys ≡ xs → value_fault xs ≡ None → IsValueIn (length xs) (ys ++ drop (length xs) (zeros 64))
+value_in xs ys e h = rw e (record {
+  padded = padded-by 64 xs (name-no_fault 0 64 xs h).high;
+  value = rw (take_at xs (drop (length xs) (zeros 64)) (length xs) refl) (value-no_fault xs h);
+})

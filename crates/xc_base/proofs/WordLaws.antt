@@ -14,7 +14,7 @@ use Rattle.xc_base.specs.Words.{split_on, number_of, is_number, no_leading_zero}
 
 -- ---- digit by digit
 
-and_parts : (a b : Bool) → a && b ≡ true → (a ≡ true) × (b ≡ true)
+pub and_parts : (a b : Bool) → a && b ≡ true → (a ≡ true) × (b ≡ true)
 and_parts true b h = (refl, h)
 and_parts false b h = cc
 

@@ -2,6 +2,7 @@ pub mod Padded
 pub mod Names
 pub mod Causes
 pub mod Told
+pub mod Calls
 pub mod Status
 pub mod Streams
 pub mod Ran

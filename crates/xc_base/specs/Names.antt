@@ -1,14 +1,19 @@
 -- The bytes that keys and values may have.
---     is_key bytes, is_value bytes      the length is within the limits, and each byte is a letter, a digit or one of _ . - / :
+--     in_alphabet byte      a letter, a digit or one of _ . - / :
+--     is_key bytes, is_value bytes      1 to 32 bytes, 0 to 64 bytes, all in the alphabet
+--     key_fault bytes, value_fault bytes      what is wrong with bytes that are no key, no value; None where they are one
 --     IsKeyIn, IsValueIn      a buffer holds a key, a value, with zeros behind it
-use Rattle.std.specs.Prelude.{◌≡◌, ℕ, Bool, true, List, ◌&&◌, ◌||◌, ◌==◌, nat_le, length, take}
+use Rattle.std.specs.Prelude.{◌≡◌, ℕ, Bool, true, List, ◌&&◌, ◌||◌, ◌==◌, nat_le, not, length, take, position, if◌then◌else◌, Option, Some}
+use Rattle.std.specs.Option.{option_map}
 use Rattle.std.specs.List.{list_all}
 use Rattle.xc_base.specs.Padded.{IsPadded}
+use Rattle.xc_base.specs.declared.name.BadName.{BadName}
+use Rattle.xc_base.specs.declared.name.BadName.TheVariants as bad_name
 
 abbrev pub within : ℕ → ℕ → ℕ → Bool
 within low high b = nat_le low b && nat_le b high
 
--- letters, digits, _ . - / :
+-- 48 to 57 are digits, and before them stand - . /, after them :
 abbrev pub in_alphabet : ℕ → Bool
 in_alphabet b = within 97 122 b || (within 65 90 b || (within 45 58 b || b == 95))
 
@@ -20,6 +25,18 @@ is_key bytes = nat_le 1 (length bytes) && is_name 32 bytes
 
 abbrev pub is_value : List ℕ → Bool
 is_value bytes = is_name 64 bytes
+
+-- the length, where it is out of the limits, and else the place of the first byte outside the alphabet
+abbrev pub name_fault : ℕ → ℕ → List ℕ → Option BadName
+name_fault least most bytes =
+    if within least most (length bytes) then option_map (λ place. bad_name.Byte place) (position (λ byte. not (in_alphabet byte)) bytes)
+    else Some (bad_name.Length (length bytes))
+
+abbrev pub key_fault : List ℕ → Option BadName
+key_fault bytes = name_fault 1 32 bytes
+
+abbrev pub value_fault : List ℕ → Option BadName
+value_fault bytes = name_fault 0 64 bytes
 
 pub record IsKeyIn (len : ℕ) (bytes : List ℕ) : Type 0 where
   pub padded : IsPadded 32 len bytes

@@ -1,7 +1,9 @@
-//! Streams that count their faults: what a source has left, what a sink holds, and two calls over them.
+//! What every crate stands on: streams that count their faults, bytes read and written whole, the names of rows, and
+//! numbers in decimal.
 #![tactic(auto)]
 
 mod bytes;
+mod calls;
 mod memory;
 mod name;
 mod number;
@@ -12,9 +14,93 @@ mod whole;
 
 pub use bytes::Bytes;
 pub use memory::{MemorySink, MemorySource};
-pub use name::{BadName, Key, Value};
+pub use name::{BadName, KEY_BYTES, Key, VALUE_BYTES, Value};
 pub use number::{NumberFail, read_number};
 pub use quiet::{QuietSink, QuietSource};
 pub use status::{Status, Stop};
 pub use streams::{Failed, NoMemory, Sink, SinkFail, Source};
 pub use whole::{ReadAllFail, read_all, write_all};
+
+#[cfg(test)]
+mod tests {
+    use super::*;
+    use std::alloc::{AllocError, Global};
+
+    #[test]
+    fn numbers_have_no_leading_zero_and_an_end(rt: HostRuntime) {
+        for (word, max, want) in [
+            ("0", 0, Ok(0)),
+            ("1", 0, Err(NumberFail::TooLarge)),
+            ("10", 10, Ok(10)),
+            ("11", 10, Err(NumberFail::TooLarge)),
+            ("18446744073709551615", u64::MAX, Ok(u64::MAX)),
+            ("18446744073709551616", u64::MAX, Err(NumberFail::TooLarge)),
+            ("100000000000000000000000", 7, Err(NumberFail::TooLarge)),
+            ("", 9, Err(NumberFail::Spelling)),
+            ("01", 9, Err(NumberFail::Spelling)),
+            ("00", 9, Err(NumberFail::Spelling)),
+            ("+1", 9, Err(NumberFail::Spelling)),
+            ("1x", 0, Err(NumberFail::Spelling)),
+        ] {
+            assert!(rt; read_number(word.as_bytes(), max) == want, "{word}");
+        }
+    }
+
+    #[test]
+    fn names_are_judged_by_length_and_then_by_byte(rt: HostRuntime) {
+        let long = "abcdefghijklmnopqrstuvwxyzABCDEFGHIJKLMNOPQRSTUVWXYZ0123456789_.-";
+        for (name, key, value) in [
+            ("aaa", None, None),
+            ("order/7:a_b.c-d", None, None),
+            ("", Some(BadName::Length(0)), None),
+            (&long[..32], None, None),
+            (&long[..33], Some(BadName::Length(33)), None),
+            (&long[..64], Some(BadName::Length(64)), None),
+            (long, Some(BadName::Length(65)), Some(BadName::Length(65))),
+            ("a b+", Some(BadName::Byte(1)), Some(BadName::Byte(1))),
+        ] {
+            assert!(rt; Key::new(name.as_bytes()).err() == key, "{name}");
+            assert!(rt; Value::new(name.as_bytes()).err() == value, "{name}");
+        }
+        assert!(rt;
+            Key::new(b"order/10").ok() < Key::new(b"order/2").ok(),
+            "by bytes"
+        );
+    }
+
+    // What five bytes give, with these limit and failing call: how many bytes, or how it failed.
+    fn read_five(
+        alloc: Global,
+        limit: u64,
+        failing: u64,
+    ) -> Result<Result<usize, ReadAllFail>, AllocError> {
+        let bytes = Bytes::from_vec(Vec::from_slice(alloc, b"12345")?);
+        let mut source = MemorySource::new(bytes, vec![in alloc; failing]?);
+        Ok(read_all(alloc, &mut source, limit).map(|bytes| bytes.len()))
+    }
+
+    #[test]
+    fn a_source_fails_at_each_listed_call(rt: HostRuntime) {
+        let alloc = rt.alloc();
+        assert!(rt; matches!(read_five(alloc, 5, 1), Ok(Err(ReadAllFail::Failed))));
+        assert!(rt; matches!(read_five(alloc, 5, 2), Ok(Err(ReadAllFail::Failed))));
+        assert!(rt; matches!(read_five(alloc, 5, 3), Ok(Ok(5))));
+        assert!(rt; matches!(read_five(alloc, 4, 3), Ok(Err(ReadAllFail::TooLong))));
+    }
+
+    #[test]
+    fn a_sink_fails_at_each_listed_call(rt: HostRuntime) {
+        let alloc = rt.alloc();
+        for (failing, want) in [(1, "34"), (2, "12"), (3, "1234")] {
+            let Ok(listed) = vec![in alloc; failing] else {
+                continue;
+            };
+            let mut sink = MemorySink::new(alloc, listed);
+            let first = write_all(&mut sink, b"12");
+            let second = write_all(&mut sink, b"34");
+            assert!(rt; first.is_ok() == (failing != 1));
+            assert!(rt; second.is_ok() == (failing != 2));
+            assert!(rt; sink.written() == want.as_bytes(), "{failing}");
+        }
+    }
+}

@@ -1,15 +1,26 @@
-// Keys and values, inline.
-ghost use Rattle.std.specs.Prelude.{◌≡◌, ◌≤◌, ◌<◌, ℕ, length, IsTrue, MatchResult, true, false, slice_get, Some, not};
-ghost use Rattle.xc_base.specs.Names.{is_key, is_value, in_alphabet};
+// Keys and values. Their bytes lie inline, so that an operation takes no memory of its own.
+ghost use Rattle.std.specs.Prelude.{◌≡◌, IsTrue, IfOk, not, bytes_eq, Some, refl};
+ghost use Rattle.std.specs.Cmp.{partial_equiv_from_equiv};
+ghost use Rattle.std.specs.Cmp.Lexicographic.{slice_cmp, nat_list_eq_equiv, nat_list_cmp_total, texts_ties, texts_po};
+ghost use Rattle.std.specs.Ordering.{nat_cmp};
+ghost use Rattle.std.specs.Result.{result_err};
+ghost use Rattle.xc_base.specs.Names.{is_key, is_value, in_alphabet, name_fault, key_fault, value_fault};
 ghost use Rattle.std.specs.List.{position_or_len};
 
+use std::cmp::Ordering;
 use std::marker::Model;
 
-/// A key: 1 to 32 bytes of the alphabet.
-#[derive(Clone, Copy, PartialEq, Eq, Debug)]
+/// The most bytes of a key.
+pub const KEY_BYTES: usize = 32;
+
+/// The most bytes of a value.
+pub const VALUE_BYTES: usize = 64;
+
+/// A key: 1 to 32 bytes, each a letter, a digit or one of `_ . - / :`. Keys are ordered by their bytes.
+#[derive(Clone, Copy, Debug)]
 pub struct Key {
     len: u8,
-    bytes: [u8; 32],
+    bytes: [u8; KEY_BYTES],
 }
 
 impl Model for Key {
@@ -34,18 +45,16 @@ impl Model for Key {
 /// Why bytes are no key or no value.
 #[derive(Clone, Copy, PartialEq, Eq, Debug)]
 pub enum BadName {
+    /// The length, where it is out of the limits. It is looked at first.
     Length(usize),
-    /// The first byte outside the alphabet.
+    /// The place of the first byte outside the alphabet, counted from 0.
     Byte(usize),
 }
 
 fn in_alphabet(byte: u8) -> bool
     ensures { result ≡ in_alphabet byte }
 {
-    (97 <= byte && byte <= 122)
-        || (65 <= byte && byte <= 90)
-        || (45 <= byte && byte <= 58)
-        || byte == 95
+    byte.is_ascii_alphanumeric() || matches!(byte, b'_' | b'.' | b'-' | b'/' | b':')
 }
 
 // The place of the first byte outside the alphabet, or the length.
@@ -60,18 +69,29 @@ fn first_bad(bytes: &[u8]) -> usize
     bytes.len()
 }
 
+// Whether bytes are a name of a length within the limits, and else what is wrong with them.
+fn check_name(bytes: &[u8], least: usize, most: usize) -> Result<(), BadName>
+    ensures { result_err result ≡ name_fault least most bytes.now }
+{
+    if bytes.len() < least || most < bytes.len() {
+        return Err(BadName::Length(bytes.len()));
+    }
+    let place = first_bad(bytes);
+    if place < bytes.len() {
+        return Err(BadName::Byte(place));
+    }
+    Ok(())
+}
+
 impl Key {
+    /// The key of these bytes. `Length` comes exactly where there are none or more than 32, and else `Byte` exactly
+    /// where a byte is outside the alphabet.
     pub fn new(bytes: &[u8]) -> Result<Key, BadName>
-        ensures { MatchResult result (λ key. key ≡ bytes.now) (λ bad. bad ≡ bad) }
+        ensures key { IfOk result (λ key. key ≡ bytes.now) }
+        ensures fault { result_err result ≡ key_fault bytes.now }
     {
-        if bytes.is_empty() || bytes.len() > 32 {
-            return Err(BadName::Length(bytes.len()));
-        }
-        let bad = first_bad(bytes);
-        if bad < bytes.len() {
-            return Err(BadName::Byte(bad));
-        }
-        let mut buffer = [0u8; 32];
+        check_name(bytes, 1, KEY_BYTES)?;
+        let mut buffer = [0u8; KEY_BYTES];
         buffer[..bytes.len()].copy_from_slice(bytes);
         Ok(Key {
             len: bytes.len() as u8,
@@ -79,6 +99,7 @@ impl Key {
         })
     }
 
+    /// The bytes that it was made of.
     pub fn bytes(&self) -> &[u8]
         ensures bytes { result.now ≡ self.now }
         ensures key { IsTrue (is_key self.now) }
@@ -87,11 +108,49 @@ impl Key {
     }
 }
 
-/// A value: 0 to 64 bytes of the alphabet.
+impl PartialEq for Key {
+    ghost eq = { bytes_eq };
+
+    ghost laws = { partial_equiv_from_equiv nat_list_eq_equiv };
+
+    fn eq(&self, other: &Key) -> bool {
+        self.bytes() == other.bytes()
+    }
+}
+
+impl Eq for Key {
+    ghost laws = { nat_list_eq_equiv };
+}
+
+impl PartialOrd for Key {
+    ghost partial_cmp = { λ x y. Some (slice_cmp nat_cmp x y) };
+
+    ghost laws = { texts_po };
+
+    fn partial_cmp(&self, other: &Key) -> Option<Ordering> {
+        Some(self.cmp(other))
+    }
+}
+
+impl Ord for Key {
+    ghost cmp = { slice_cmp nat_cmp };
+
+    ghost total = { nat_list_cmp_total };
+
+    ghost matches_partial_cmp = { λ x y. refl };
+
+    ghost matches_eq = { texts_ties };
+
+    fn cmp(&self, other: &Key) -> Ordering {
+        self.bytes().cmp(other.bytes())
+    }
+}
+
+/// A value: 0 to 64 bytes of the same alphabet as a key's.
 #[derive(Clone, Copy, PartialEq, Eq, Debug)]
 pub struct Value {
     len: u8,
-    bytes: [u8; 64],
+    bytes: [u8; VALUE_BYTES],
 }
 
 impl Model for Value {
@@ -114,6 +173,22 @@ impl Model for Value {
 }
 
 impl Value {
+    /// The value of these bytes. `Length` comes exactly where there are more than 64, and else `Byte` exactly where a
+    /// byte is outside the alphabet.
+    pub fn new(bytes: &[u8]) -> Result<Value, BadName>
+        ensures value { IfOk result (λ value. value ≡ bytes.now) }
+        ensures fault { result_err result ≡ value_fault bytes.now }
+    {
+        check_name(bytes, 0, VALUE_BYTES)?;
+        let mut buffer = [0u8; VALUE_BYTES];
+        buffer[..bytes.len()].copy_from_slice(bytes);
+        Ok(Value {
+            len: bytes.len() as u8,
+            bytes: buffer,
+        })
+    }
+
+    /// The bytes that it was made of.
     pub fn bytes(&self) -> &[u8]
         ensures bytes { result.now ≡ self.now }
         ensures value { IsTrue (is_value self.now) }

@@ -1,113 +1,93 @@
-// The order rules of one tablet.
+//! The order rules of one tablet: which of its records are accepted.
 #![tactic(auto)]
 
-ghost use Rattle.std.specs.Prelude.{◌≡◌, ◌↔◌, MatchResult, IsTrue, Some, None, false};
-ghost use Rattle.xc_record.specs.Order.{Progress, break_of, after};
-ghost use Rattle.xc_record.specs.Accepted.{root_start};
+mod order;
 
-use std::marker::Model;
-use xc_record::{Break, Kind, Record};
+pub use order::Order;
+pub use xc_record::Break;
 
-/// Where the records of a tablet stand.
-#[derive(Clone, Copy, PartialEq, Eq, Debug)]
-pub struct Order {
-    floor: u64,
-    last: u64,
-    split: bool,
-}
+#[cfg(test)]
+mod tests {
+    use super::*;
+    use xc_record::{HybridTime, Kind, Record};
 
-impl Model for Order {
-    ghost use Rattle.xc_record.specs.Order.{Progress};
+    fn apply(commit: u64) -> Option<Kind> {
+        Some(Kind::Apply {
+            txn: 7,
+            commit: HybridTime::new(commit)?,
+        })
+    }
 
-    ghost Value = { Progress };
+    fn safe(value: u64) -> Option<Kind> {
+        Some(Kind::Safe {
+            value: HybridTime::new(value)?,
+        })
+    }
 
-    ghost view = { λ o. record { floor = o.floor; last = o.last; split = o.split } };
+    // The break of a record, and the order after it.
+    fn taken(mut order: Order, time: u64, kind: Option<Kind>) -> Option<(Option<Break>, Order)> {
+        let rec = Record {
+            time: HybridTime::new(time)?,
+            kind: kind?,
+        };
+        let broken = order.take(&rec).err();
+        Some((broken, order))
+    }
 
-    ghost inverse = { λ p. record { floor = p.floor; last = p.last; split = p.split } };
-}
+    // A tablet that took a safe record of value 12 at time 13.
+    fn at_floor_12() -> Option<Order> {
+        Some(taken(Order::root(), 13, safe(12))?.1)
+    }
 
-impl Order {
-    pub fn root() -> Order
-        ensures { result ≡ root_start }
-    {
-        Order {
-            floor: 0,
-            last: 0,
-            split: false,
+    #[test]
+    fn each_rule_is_judged_at_its_edge(rt: HostRuntime) {
+        let Some(order) = at_floor_12() else {
+            panic!(rt; "times");
+        };
+        assert!(rt; (order.floor(), order.last(), order.has_split()) == (12, 13, false));
+        for (time, kind, want) in [
+            (13, Some(Kind::Abort { txn: 7 }), Some(Break::TimeBack)),
+            (14, Some(Kind::Abort { txn: 7 }), None),
+            (13, apply(99), Some(Break::TimeBack)),
+            (14, apply(15), Some(Break::CommitAhead)),
+            (14, apply(14), None),
+            (14, apply(13), None),
+            (14, apply(12), Some(Break::CommitBelow)),
+            (14, safe(11), Some(Break::SafeBack)),
+            (14, safe(12), None),
+            (14, safe(14), None),
+            (14, safe(15), Some(Break::SafeAhead)),
+        ] {
+            let Some((broken, after)) = taken(order, time, kind) else {
+                panic!(rt; "times");
+            };
+            assert!(rt; broken == want, "{time}");
+            assert!(rt; broken.is_none() || after == order, "{time}");
         }
     }
 
-    /// The order of a child of a tablet that took a split.
-    pub fn child(parent: &Order) -> Order
-        requires { IsTrue parent.now.split }
-        ensures { result ≡ record parent.now { split = false } }
-    {
-        Order {
-            floor: parent.floor,
-            last: parent.last,
-            split: false,
+    #[test]
+    fn after_a_split_only_a_child_goes_on(rt: HostRuntime) {
+        let split = Kind::Split {
+            at: 32768,
+            left: 1,
+            right: 2,
+        };
+        let Some((None, order)) = taken(Order::root(), 14, Some(split)) else {
+            panic!(rt; "a split is taken");
+        };
+        for (time, kind, want) in [
+            (15, Some(Kind::Abort { txn: 7 }), Break::AfterSplit),
+            (15, apply(16), Break::CommitAhead),
+            (14, apply(16), Break::TimeBack),
+        ] {
+            let Some((broken, _)) = taken(order, time, kind) else {
+                panic!(rt; "times");
+            };
+            assert!(rt; broken == Some(want), "{time}");
         }
-    }
-
-    pub fn floor(&self) -> u64
-        ensures { result ≡ self.now.floor }
-    {
-        self.floor
-    }
-
-    /// The time of the last record, or 0.
-    pub fn last(&self) -> u64
-        ensures { result ≡ self.now.last }
-    {
-        self.last
-    }
-
-    /// Whether a split came.
-    pub fn has_split(&self) -> bool
-        ensures { result ≡ self.now.split }
-    {
-        self.split
-    }
-
-    /// Takes the next record, or says which rule it breaks and stays as it was.
-    #[tactic(auto, unfolding(xc_record::specs::Order::break_of))]
-    pub fn take(&mut self, rec: &Record) -> Result<(), Break>
-        ensures { MatchResult result
-            (λ _. (break_of self.old rec.now ≡ None) × (self.new ≡ after self.old rec.now))
-            (λ violated. (break_of self.old rec.now ≡ Some violated) × (self.new ≡ self.old)) }
-    {
-        let time = rec.time.get();
-        if time <= self.last {
-            return Err(Break::TimeBack);
-        }
-        match &rec.kind {
-            Kind::Apply { commit, .. } => {
-                if commit.get() > time {
-                    return Err(Break::CommitAhead);
-                }
-                if commit.get() <= self.floor {
-                    return Err(Break::CommitBelow);
-                }
-            }
-            Kind::Safe { value } => {
-                if value.get() < self.floor {
-                    return Err(Break::SafeBack);
-                }
-                if value.get() > time {
-                    return Err(Break::SafeAhead);
-                }
-            }
-            _ => {}
-        }
-        if self.split {
-            return Err(Break::AfterSplit);
-        }
-        self.last = time;
-        match &rec.kind {
-            Kind::Safe { value } => self.floor = value.get(),
-            Kind::Split { .. } => self.split = true,
-            _ => {}
-        }
-        Ok(())
+        assert!(rt; order.has_split());
+        let child = Order::child(&order);
+        assert!(rt; (child.floor(), child.last(), child.has_split()) == (0, 14, false));
     }
 }

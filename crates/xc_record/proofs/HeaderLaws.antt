@@ -35,7 +35,7 @@ Numbered-snoc : (n : ℕ) (hs : List Header) (t : Header) → Numbered n hs → 
 Numbered-snoc n [] t h e = (omega arith, tt)
 Numbered-snoc n (x ∷ hs) t h e = (h.0, Numbered-snoc (n + 1) hs t h.1 (omega arith))
 
-Numbered-at : (n : ℕ) (hs : List Header) (i : ℕ) (b : Header) → Numbered n hs → slice_get hs i ≡ Some b → b.id ≡ n + i
+pub Numbered-at : (n : ℕ) (hs : List Header) (i : ℕ) (b : Header) → Numbered n hs → slice_get hs i ≡ Some b → b.id ≡ n + i
 Numbered-at n [] i b h e = cc
 Numbered-at n (x ∷ hs) zero b h e = grind arith
 Numbered-at n (x ∷ hs) (suc i) b h e = let k : b.id ≡ n + 1 + i = Numbered-at (n + 1) hs i b h.1 e in omega arith
@@ -80,7 +80,7 @@ Each-map : {P Q : Header → Type 0} (hs : List Header) → ((h : Header) → P 
 Each-map [] f e = tt
 Each-map (h ∷ hs) f e = (f h e.0, Each-map hs f e.1)
 
-slice_get-append : (hs ts : List Header) (i : ℕ) (b : Header) → slice_get hs i ≡ Some b → slice_get (hs ++ ts) i ≡ Some b
+pub slice_get-append : (hs ts : List Header) (i : ℕ) (b : Header) → slice_get hs i ≡ Some b → slice_get (hs ++ ts) i ≡ Some b
 slice_get-append [] ts i b e = cc
 slice_get-append (h ∷ hs) ts zero b e = e
 slice_get-append (h ∷ hs) ts (suc i) b e = slice_get-append hs ts i b e
@@ -163,14 +163,14 @@ Fits-right before id lo hi t f i p el eh =
     }
 
 -- what the test of a left child tells
-record SplitsOff (before : List Header) (id : ℕ) (t : Header) : Type 0 where
-  parent : Header
-  free : list_any (is_child_of id) before ≡ false
-  at : slice_get before id ≡ Some parent
-  lo : t.lo ≡ parent.lo
-  hi : t.hi < parent.hi
+pub record SplitsOff (before : List Header) (id : ℕ) (t : Header) : Type 0 where
+  pub parent : Header
+  pub free : list_any (is_child_of id) before ≡ false
+  pub at : slice_get before id ≡ Some parent
+  pub lo : t.lo ≡ parent.lo
+  pub hi : t.hi < parent.hi
 
-splits_off-parts : (before : List Header) (id : ℕ) (t : Header) → splits_off before id t ≡ true → SplitsOff before id t
+pub splits_off-parts : (before : List Header) (id : ℕ) (t : Header) → splits_off before id t ≡ true → SplitsOff before id t
 splits_off-parts before id t e = go (slice_get before id) refl (and_parts _ _ e).1
   where
     go : (o : Option Header) → slice_get before id ≡ o → option_map_or (λ parent. t.lo == parent.lo && nat_lt t.hi parent.hi) o false ≡ true → SplitsOff before id t

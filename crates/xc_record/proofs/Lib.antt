@@ -1,5 +1,6 @@
 pub mod WorkedLogs
 mod WorkedRows
+mod WorkedSteps
 pub mod OrderLaws
 pub mod AcceptedLaws
 pub mod SafeLaws

@@ -1,7 +1,8 @@
 -- Small logs, and the name that opens every definition on logs.
 use Rattle.xc_record.specs.Hash.{hash_of}
 use Rattle.xc_record.specs.Order.{break_of}
-use Rattle.xc_record.specs.Accepted.{accepted_tablets}
+use Rattle.xc_record.specs.Accepted.{accepted_tablets, halt}
+use Rattle.xc_record.specs.Step.{poll_answer, open_step, step}
 use Rattle.xc_record.specs.Path.{path, path_to, holders}
 use Rattle.xc_record.specs.Commits.{commit_of, applied, txn_ops, write_commits, txn_commits, commits}
 use Rattle.xc_record.specs.Rows.{ops_to, rows, row}
@@ -63,6 +64,16 @@ with_split split_time = record {
       ∷ [];
 }
 
+-- a transaction over both children of a split tablet; one of them removes a key
+abbrev pub with_both_children : Logs
+with_both_children = record {
+  tablets =
+      root 0 0 65535 (at 10 (Write (sets a (codes "1") ∷ sets z (codes "2") ∷ [])) ∷ at 12 (Intent 5 (sets a (codes "3") ∷ removes z ∷ [])) ∷ at 13 (Safe 12) ∷ at 14 (Split 32768 1 2) ∷ [])
+      ∷ child 1 0 32767 0 (at 18 (Apply 5 16) ∷ at 20 (Safe 19) ∷ [])
+      ∷ child 2 32768 65535 0 (at 21 (Apply 5 16) ∷ at 23 (Safe 22) ∷ [])
+      ∷ [];
+}
+
 -- an apply with this commit after a safe record of value 12
 abbrev pub with_late_apply : ℕ → Logs
 with_late_apply commit = record {
@@ -83,5 +94,5 @@ with_equal_commits = record {
 
 -- 'unfolding computed' opens each of these
 unfoldable pub computed : ℕ
-unfolding hash_of break_of accepted_tablets path path_to holders commit_of applied txn_ops write_commits txn_commits commits ops_to rows row safe_time last_safe is_closed straggler kind_at disagreement_on disagreement is_valid headers_fit
+unfolding halt poll_answer open_step step hash_of break_of accepted_tablets path path_to holders commit_of applied txn_ops write_commits txn_commits commits ops_to rows row safe_time last_safe is_closed straggler kind_at disagreement_on disagreement is_valid headers_fit
 computed = 0

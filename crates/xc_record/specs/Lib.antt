@@ -11,3 +11,4 @@ pub mod SafeTime
 pub mod Valid
 pub mod Session
 pub mod Step
+pub mod Grown

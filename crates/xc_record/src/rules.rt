@@ -11,12 +11,14 @@ use crate::key_hash::hash;
 use crate::record::{Header, Kind, Logs, Op, Record, Tablet};
 use xc_base::{Key, Value};
 
-/// What header may stand next.
+/// What header may stand next after those before.
 #[derive(Clone, Copy, PartialEq, Eq, Debug)]
 pub enum Next {
     /// A root that begins at this hash, or at 65536 a left child.
     RootAt(u32),
+    /// The left child of a tablet that has none.
     LeftChild,
+    /// The right child of this tablet, with this range.
     RightChild { parent: u32, lo: u32, hi: u32 },
 }
 
@@ -72,8 +74,8 @@ fn child_fits(before: &[Tablet], id: u32, next: Next, h: &Header) -> bool
     }
 }
 
-// Whether the header may stand next after those before.
-fn fits(before: &[Tablet], next: Next, h: &Header) -> bool
+/// Whether the header may stand next after those of the tablets before, where `next` says what may.
+pub fn fits(before: &[Tablet], next: Next, h: &Header) -> bool
     ensures { result ≡ fits (headers_of before.now) next h.now }
 {
     if h.id as usize != before.len() || h.lo > h.hi {
@@ -88,7 +90,8 @@ fn fits(before: &[Tablet], next: Next, h: &Header) -> bool
     }
 }
 
-fn next_after(before: &[Tablet], next: Next, h: &Header) -> Next
+/// What may stand after the header, which stands after those of the tablets before.
+pub fn next_after(before: &[Tablet], next: Next, h: &Header) -> Next
     ensures { result ≡ next_after (headers_of before.now) next h.now h.now.parent }
 {
     match h.parent {
@@ -107,7 +110,8 @@ fn next_after(before: &[Tablet], next: Next, h: &Header) -> Next
     }
 }
 
-fn may_end(next: Next) -> bool
+/// Whether the headers may end here: the roots reach 65535, and each left child has its right one.
+pub fn may_end(next: Next) -> bool
     ensures { result ≡ may_end next }
 {
     match next {
@@ -213,7 +217,8 @@ fn is_split(kind: &Kind) -> bool
     matches!(kind, Kind::Split { .. })
 }
 
-fn children(tablets: &[Tablet], id: u32) -> Option<(Header, Header)>
+/// The headers of the left and the right child of the tablet of this number. None where it has none.
+pub fn children(tablets: &[Tablet], id: u32) -> Option<(Header, Header)>
     ensures { result ≡ children (headers_of tablets.now) id }
 {
     for (i, t) in tablets.iter().enumerate() {
@@ -300,9 +305,10 @@ pub fn valid(logs: &Logs) -> bool
     ensures { result ≡ is_valid logs.now }
 {
     let tablets = logs.tablets.as_slice();
-    headers_fit(tablets)
+    // The rules on headers look at each pair of tablets, so their number is looked at first.
+    tablets.len() <= 64
+        && headers_fit(tablets)
         && all_tablets_fit(tablets)
-        && tablets.len() <= 64
         && records_fit(tablets)
         && operations_fit(tablets)
 }

@@ -1,0 +1,237 @@
+-- Well-formed logs make a feed, and their records keep their headers.
+use Rattle.std.proofs.Common.{◌≡◌, ℕ, zero, suc, ◌+◌, ◌-◌, ◌<◌, ◌≤◌, ◌++◌, Bool, true, false, List, [], ◌∷◌, length, get_or, inl, inr, take, drop, map, refl, sym, ap, ◌∙◌, subst, add-zero, zero-add, length-append, arith}
+use Rattle.std.specs.Prelude.{Option, Some, None, ◌⊎◌, IsTrue, IsSome, is_some, slice_get, slice_index, sum_by, ◌&&◌, ◌==◌, nat_le, if◌then◌else◌, option_map}
+use Rattle.std.specs.Option.{option_map_or}
+use Rattle.std.proofs.lemmas.List.{length-map}
+use Rattle.std.proofs.lemmas.List.Sums.{get_or-le-sum_by}
+use Rattle.std.proofs.lemmas.Option.{slice_get_cases}
+use Rattle.xc_base.specs.Names.{is_key, is_value}
+use Rattle.xc_record.specs.declared.rules.Next.{Next}
+use Rattle.xc_record.specs.declared.rules.Next.TheVariants.{RootAt}
+use Rattle.xc_record.specs.Accepted.{records}
+use Rattle.xc_record.proofs.HeaderLists.{get_of_headers}
+use Rattle.std.specs.List.{list_all}
+use Rattle.std.proofs.lemmas.Bool.{and_parts, both_ways, eqb-true, not-true}
+use Rattle.std.proofs.lemmas.Bool.Decides.{nat_tests}
+use Rattle.xc_record.specs.declared.record.Header.{Header}
+use Rattle.xc_record.specs.declared.record.Kind.{Kind}
+use Rattle.xc_record.specs.declared.record.Kind.TheVariants.{Write, Intent, Apply, Abort, Safe, Split}
+use Rattle.xc_record.specs.declared.record.Op.{Op}
+use Rattle.xc_record.specs.declared.record.Record.{Record}
+use Rattle.xc_record.specs.declared.record.Tablet.{Tablet}
+use Rattle.xc_record.specs.declared.record.Logs.{Logs}
+use Rattle.xc_record.specs.Hash.{hash_of, holds}
+use Rattle.xc_record.specs.Order.{is_split}
+use Rattle.xc_record.specs.Headers.{children, headers_fit, fits, fit_from, next_after, parent_fits}
+use Rattle.xc_record.specs.Valid.{is_valid, headers_of, tablet_fits, record_fits, kind_fits, op_fits, ops_fit, ends_fit, is_time, is_txn}
+use Rattle.xc_logs.specs.Feed.{IsFeed, KeepHeader, counts_of, fetched, ops_keep, kind_keeps, keep_from}
+use Rattle.xc_logs.proofs.ValidFacts.{valid_parts}
+
+both : (a b : Bool) → a ≡ true → b ≡ true → a && b ≡ true
+both true b e f = f
+both false b e f = e
+
+-- ---- records that fit keep the header
+
+all_hold : (header : Header) (ops : List Op) → list_all (op_fits header) ops ≡ true → list_all (λ op. holds header (hash_of op.key)) ops ≡ true
+all_hold header [] e = refl
+all_hold header (op ∷ ops) e =
+    let parts = and_parts (op_fits header op) (list_all (op_fits header) ops) e in
+    let key = and_parts (is_key op.key) (option_map_or is_value op.value true && holds header (hash_of op.key)) parts.0 in
+    let value = and_parts (option_map_or is_value op.value true) (holds header (hash_of op.key)) key.1 in
+    both _ _ value.1 (all_hold header ops parts.1)
+
+ops_fit-keep : (header : Header) (ops : List Op) → ops_fit header ops ≡ true → ops_keep header ops ≡ true
+ops_fit-keep header ops e =
+    let some = and_parts (nat_le 1 (length ops)) (nat_le (length ops) 64 && list_all (op_fits header) ops) e in
+    let few = and_parts (nat_le (length ops) 64) (list_all (op_fits header) ops) some.1 in
+    both _ _ few.0 (all_hold header ops few.1)
+
+-- a record that is no split, and doesn't end the tablet
+plain_keeps : (header : Header) (pair : Option (Header × Header)) (ends : Bool) (kind : Kind) → ends ≡ false → is_split kind ≡ false → kind_fits header pair kind ≡ true → kind_keeps header pair ends kind ≡ true
+plain_keeps header pair ends (Write ops) e s fit = rw e (ops_fit-keep header ops fit)
+plain_keeps header pair ends (Intent txn ops) e s fit = rw e (ops_fit-keep header ops (and_parts (is_txn txn) (ops_fit header ops) fit).1)
+plain_keeps header pair ends (Apply txn commit) e s fit = rw e refl
+plain_keeps header pair ends (Abort txn) e s fit = rw e refl
+plain_keeps header pair ends (Safe value) e s fit = rw e refl
+plain_keeps header pair ends (Split at left right) e s fit = cc
+
+-- the split that ends it
+split_keeps : (header : Header) (pair : Option (Header × Header)) (ends : Bool) (kind : Kind) → ends ≡ true → is_split kind ≡ true → kind_fits header pair kind ≡ true → kind_keeps header pair ends kind ≡ true
+split_keeps header pair ends (Write ops) e s fit = cc
+split_keeps header pair ends (Intent txn ops) e s fit = cc
+split_keeps header pair ends (Apply txn commit) e s fit = cc
+split_keeps header pair ends (Abort txn) e s fit = cc
+split_keeps header pair ends (Safe value) e s fit = cc
+split_keeps header pair ends (Split at left right) e s fit = rw e fit
+
+and_none : (b : Bool) → b && false ≡ false
+and_none true = refl
+and_none false = refl
+
+differs : (a b : ℕ) → a < b → a == b ≡ false
+differs a b h = grind (arith, nat_tests)
+
+same : (a b : ℕ) → a ≡ b → a == b ≡ true
+same a b h = grind (arith, nat_tests)
+
+no_end : (has : Bool) (number count : ℕ) (rs : List Record) → number + suc (length rs) ≡ count + 1 → ends_fit has rs ≡ true → number == count && has ≡ false
+no_end true number count [] size e = cc
+no_end false number count [] size e = and_none (number == count)
+no_end has number count (r ∷ rs) size e = let apart : number == count ≡ false = differs number count (omega arith) in rw apart refl
+
+keep_none : (header : Header) (pair : Option (Header × Header)) (count number : ℕ) (rs : List Record) → length rs ≡ 0 → keep_from header pair count number rs ≡ true
+keep_none header pair count number [] e = refl
+keep_none header pair count number (r ∷ rs) e = absurd (omega arith)
+
+keeps_all : (header : Header) (pair : Option (Header × Header)) (count number : ℕ) (rs : List Record) → number + length rs ≡ count + 1
+    → list_all (record_fits header pair) rs ≡ true → ends_fit (is_some pair) rs ≡ true → keep_from header pair count number rs ≡ true
+keeps_all header pair count number [] size fit ends = refl
+keeps_all header pair count number (r ∷ rs) size fit ends = go (is_split r.kind) refl ends (keeps_all header pair count (number + 1) rs (omega arith) parts.1)
+  where
+    parts : (record_fits header pair r ≡ true) × (list_all (record_fits header pair) rs ≡ true)
+    parts = and_parts _ _ fit
+
+    kind : kind_fits header pair r.kind ≡ true
+    kind = (and_parts (is_time r.time) (kind_fits header pair r.kind) parts.0).1
+
+    go : (b : Bool) → is_split r.kind ≡ b → (if b then (is_some pair && length rs == 0) else ends_fit (is_some pair) rs) ≡ true
+        → (ends_fit (is_some pair) rs ≡ true → keep_from header pair count (number + 1) rs ≡ true) → keep_from header pair count number (r ∷ rs) ≡ true
+    go true is last later =
+        let end = and_parts (is_some pair) (length rs == 0) last in
+        let none : length rs ≡ 0 = eqb-true (length rs) 0 end.1 in
+        both _ _ (split_keeps header pair _ r.kind (both _ _ (same number count (omega arith)) end.0) is kind) (keep_none header pair count (number + 1) rs none)
+    go false is rest later = both _ _ (plain_keeps header pair _ r.kind (no_end (is_some pair) number count rs size rest) is kind) (later rest)
+
+-- ---- the rest and the front of records that keep the header
+
+keep_from-drop : (header : Header) (pair : Option (Header × Header)) (count number k : ℕ) (rs : List Record) → keep_from header pair count number rs ≡ true → keep_from header pair count (number + k) (drop k rs) ≡ true
+keep_from-drop header pair count number zero rs e = subst (λ n. keep_from header pair count n rs ≡ true) (sym (add-zero number)) e
+keep_from-drop header pair count number (suc k) [] e = refl
+keep_from-drop header pair count number (suc k) (r ∷ rs) e =
+    let parts = and_parts (kind_keeps header pair (number == count && is_some pair) r.kind) (keep_from header pair count (number + 1) rs) e in
+    let on : number + 1 + k ≡ number + suc k = omega arith in
+    subst (λ n. keep_from header pair count n (drop k rs) ≡ true) on (keep_from-drop header pair count (number + 1) k rs parts.1)
+
+keep_from-take : (header : Header) (pair : Option (Header × Header)) (count number k : ℕ) (rs : List Record) → keep_from header pair count number rs ≡ true → keep_from header pair count number (take k rs) ≡ true
+keep_from-take header pair count number zero rs e = refl
+keep_from-take header pair count number (suc k) [] e = refl
+keep_from-take header pair count number (suc k) (r ∷ rs) e =
+    let parts = and_parts (kind_keeps header pair (number == count && is_some pair) r.kind) (keep_from header pair count (number + 1) rs) e in
+    both _ _ parts.0 (keep_from-take header pair count (number + 1) k rs parts.1)
+
+-- ---- a tablet by its number
+
+numbered : (before : List Header) (next : Next) (hs : List Header) → fit_from before next hs ≡ true → (i : ℕ) (h : Header) → slice_get hs i ≡ Some h → h.id ≡ length before + i
+numbered before next [] e i h there = cc
+numbered before next (x ∷ hs) e zero h there =
+    let fit = and_parts (fits before next x) (fit_from (before ++ x ∷ []) (next_after before next x x.parent) hs) e in
+    let id = eqb-true x.id (length before) (and_parts (x.id == length before) (nat_le x.lo x.hi && parent_fits before next x x.parent) fit.0).0 in
+    let same : x ≡ h = cc in
+    omega (arith, id, ap (λ (y : Header). y.id) same)
+numbered before next (x ∷ hs) e (suc i) h there =
+    let fit = and_parts (fits before next x) (fit_from (before ++ x ∷ []) (next_after before next x x.parent) hs) e in
+    let later = numbered (before ++ x ∷ []) (next_after before next x x.parent) hs fit.1 i h there in
+    omega (arith, later, length-append before (x ∷ []))
+
+number_is : (hs : List Header) (i : ℕ) (h : Header) → headers_fit hs ≡ true → slice_get hs i ≡ Some h → h.id ≡ i
+unfolding headers_fit
+number_is hs i h e there = numbered [] (RootAt 0) hs e i h there ∙ zero-add i
+
+all_at : (p : Tablet → Bool) (ts : List Tablet) (i : ℕ) (t : Tablet) → list_all p ts ≡ true → slice_get ts i ≡ Some t → p t ≡ true
+all_at p [] i t e there = cc
+all_at p (x ∷ ts) zero t e there = let same : x ≡ t = cc in ap p (sym same) ∙ (and_parts (p x) (list_all p ts) e).0
+all_at p (x ∷ ts) (suc i) t e there = all_at p ts i t (and_parts (p x) (list_all p ts) e).1 there
+
+count_at : (ts : List Tablet) (i : ℕ) (t : Tablet) → slice_get ts i ≡ Some t → slice_index (map (λ (t : Tablet). length t.records) ts) i ≡ length t.records
+count_at [] i t there = cc
+count_at (x ∷ ts) zero t there = let same : x ≡ t = cc in ap (λ (y : Tablet). length y.records) same
+count_at (x ∷ ts) (suc i) t there = count_at ts i t there
+
+past_count : (ts : List Tablet) (i : ℕ) → length ts ≤ i → slice_index (map (λ (t : Tablet). length t.records) ts) i ≡ 0
+past_count [] i past = refl
+past_count (x ∷ ts) zero past = absurd (omega arith)
+past_count (x ∷ ts) (suc i) past = past_count ts i (omega arith)
+
+count_small : (ts : List Tablet) (i : ℕ) → slice_index (map (λ (t : Tablet). length t.records) ts) i ≤ sum_by (λ (t : Tablet). length t.records) ts
+count_small ts i = go (slice_get_cases ts i).1
+  where
+    go : ((x : Tablet) × (i < length ts) × (slice_get ts i ≡ Some x) × (get_or ts i x ≡ x)) ⊎ ((length ts ≤ i) × (slice_get ts i ≡ None))
+        → slice_index (map (λ (t : Tablet). length t.records) ts) i ≤ sum_by (λ (t : Tablet). length t.records) ts
+    go (inl (t, within, there, here)) =
+        let least = get_or-le-sum_by (λ (t : Tablet). length t.records) ts i t within in
+        omega (arith, least, count_at ts i t there, ap (λ (y : Tablet). length y.records) here)
+    go (inr (past, none)) = omega (arith, past_count ts i past)
+
+-- what is known of a tablet of well-formed logs
+record IsTabletOf (logs : Logs) (id : ℕ) (t : Tablet) : Type 0 where
+  header : slice_get (headers_of logs.tablets) id ≡ Some t.header
+  number : t.header.id ≡ id
+  count : slice_index (counts_of logs) id ≡ length t.records
+  fit : list_all (record_fits t.header (children (headers_of logs.tablets) id)) t.records ≡ true
+  end : ends_fit (is_some (children (headers_of logs.tablets) id)) t.records ≡ true
+
+tablet_of : (logs : Logs) (id : ℕ) (t : Tablet) → IsTrue (is_valid logs) → slice_get logs.tablets id ≡ Some t → IsTabletOf logs id t
+tablet_of logs id t valid there =
+    let well = valid_parts logs valid in
+    let header : slice_get (headers_of logs.tablets) id ≡ Some t.header = get_of_headers logs.tablets id ∙ ap (option_map (λ (t : Tablet). t.header)) there in
+    let number : t.header.id ≡ id = number_is (headers_of logs.tablets) id t.header well.headers header in
+    let all = all_at (tablet_fits (headers_of logs.tablets)) logs.tablets id t well.tablets there in
+    let parts = and_parts (list_all (record_fits t.header (children (headers_of logs.tablets) t.header.id)) t.records) (ends_fit (is_some (children (headers_of logs.tablets) t.header.id)) t.records) all in
+    record {
+      header = header;
+      number = number;
+      count = count_at logs.tablets id t there;
+      fit = subst (λ n. list_all (record_fits t.header (children (headers_of logs.tablets) n)) t.records ≡ true) number parts.0;
+      end = subst (λ n. ends_fit (is_some (children (headers_of logs.tablets) n)) t.records ≡ true) number parts.1;
+    }
+
+-- ---- the feed
+
+some_records : (has : Bool) (rs : List Record) → has ≡ true → ends_fit has rs ≡ true → 1 ≤ length rs
+some_records has [] e end = absurd (both_ways has (not-true has end) e)
+some_records has (r ∷ rs) e end = omega arith
+
+parent_counts : (logs : Logs) (id : ℕ) → IsTrue (is_valid logs) → id < length logs.tablets → IsSome (children (headers_of logs.tablets) id)
+    → ((x : Tablet) × (id < length logs.tablets) × (slice_get logs.tablets id ≡ Some x) × (get_or logs.tablets id x ≡ x)) ⊎ ((length logs.tablets ≤ id) × (slice_get logs.tablets id ≡ None))
+    → 1 ≤ slice_index (counts_of logs) id
+parent_counts logs id valid within has (inl (t, small, there, here)) =
+    let tablet = tablet_of logs id t valid there in
+    let some = some_records (is_some (children (headers_of logs.tablets) id)) t.records has tablet.end in
+    let count : slice_index (counts_of logs) id ≡ length t.records = tablet.count in
+    omega (arith, some, count)
+parent_counts logs id valid within has (inr (past, none)) = absurd (omega arith)
+
+pub feed_of : (logs : Logs) → IsTrue (is_valid logs) → IsFeed (headers_of logs.tablets) (counts_of logs) (Some logs)
+feed_of logs valid =
+    let well = valid_parts logs valid in
+    record {
+      fit = well.headers;
+      each = length-map logs.tablets _ ∙ sym (length-map logs.tablets _);
+      small = λ id. let least = count_small logs.tablets id in let most = well.records in omega arith;
+      parents = λ id within has. parent_counts logs id valid (omega (arith, within, length-map logs.tablets (λ (t : Tablet). t.header))) has (slice_get_cases logs.tablets id).1;
+      told = record { valid = valid; headers_are = refl; counts_are = refl };
+    }
+
+kept : (logs : Logs) (id : ℕ) (t : Tablet) (from max : ℕ) → IsTrue (is_valid logs) → slice_get logs.tablets id ≡ Some t → 1 ≤ from
+    → KeepHeader (headers_of logs.tablets) (counts_of logs) id from (fetched t.records from max)
+kept logs id t from max valid there first =
+    let tablet = tablet_of logs id t valid there in
+    let pair = children (headers_of logs.tablets) id in
+    let whole : keep_from t.header pair (length t.records) 1 t.records ≡ true = keeps_all t.header pair (length t.records) 1 t.records (omega arith) tablet.fit tablet.end in
+    let on : 1 + (from - 1) ≡ from = omega arith in
+    let rest = subst (λ n. keep_from t.header pair (length t.records) n (drop (from - 1) t.records) ≡ true) on (keep_from-drop t.header pair (length t.records) 1 (from - 1) t.records whole) in
+    let front = keep_from-take t.header pair (length t.records) from max (drop (from - 1) t.records) rest in
+    rw tablet.header (subst (λ n. keep_from t.header pair n from (fetched t.records from max) ≡ true) (sym tablet.count) front)
+
+-- what a fetch of well-formed logs gives keeps the header
+pub kept_at : (logs : Logs) (id from max : ℕ) → IsTrue (is_valid logs) → id < length logs.tablets → 1 ≤ from
+    → KeepHeader (headers_of logs.tablets) (counts_of logs) id from (fetched (records logs id) from max)
+kept_at logs id from max valid within first = go (slice_get_cases logs.tablets id).1
+  where
+    go : ((x : Tablet) × (id < length logs.tablets) × (slice_get logs.tablets id ≡ Some x) × (get_or logs.tablets id x ≡ x)) ⊎ ((length logs.tablets ≤ id) × (slice_get logs.tablets id ≡ None))
+        → KeepHeader (headers_of logs.tablets) (counts_of logs) id from (fetched (records logs id) from max)
+    go (inl (t, small, there, here)) =
+        let same : records logs id ≡ t.records = ap (λ (o : Option Tablet). option_map_or (λ (t : Tablet). t.records) o []) there in
+        subst (λ rs. KeepHeader (headers_of logs.tablets) (counts_of logs) id from (fetched rs from max)) (sym same) (kept logs id t from max valid there first)
+    go (inr (past, none)) = absurd (omega arith)

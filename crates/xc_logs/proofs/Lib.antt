@@ -1,0 +1,3 @@
+pub mod HeaderFacts
+pub mod ValidFacts
+pub mod FeedFacts

@@ -1,0 +1,2 @@
+pub mod LogSet
+pub mod Feed

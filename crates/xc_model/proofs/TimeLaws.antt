@@ -1,0 +1,129 @@
+-- The times that a session names, along its commands.
+use Rattle.std.proofs.Common.{◌≡◌, ℕ, ◌≤◌, max, Bool, true, false, List, [], ◌∷◌, ◌++◌, map, Option, Some, None, refl, ap, sym, arith, subst, ◌⊎◌, inl, inr, ⊎_elim}
+use Rattle.std.specs.Prelude.{nat_lt, if◌then◌else◌}
+use Rattle.std.specs.Option.{option_map_or, option_map}
+use Rattle.std.specs.List.{filter_map, cons_option}
+use Rattle.std.proofs.lemmas.List.Elements.{filter_map-append}
+use Rattle.xc_record.specs.declared.record.Logs.{Logs}
+use Rattle.xc_record.specs.declared.record.Break.{Break}
+use Rattle.xc_record.specs.declared.session.Command.{Command}
+use Rattle.xc_record.specs.declared.session.Command.TheVariants as command
+use Rattle.xc_record.specs.declared.session.Line.{Line}
+use Rattle.xc_record.specs.declared.session.Line.TheVariants as line
+use Rattle.xc_record.specs.declared.session.PollAnswer.{PollAnswer}
+use Rattle.xc_record.specs.declared.session.PollAnswer.TheVariants as poll
+use Rattle.xc_record.specs.Accepted.{AcceptedTablet, accepted_tablets, halt}
+use Rattle.xc_record.specs.Session.{Session}
+use Rattle.xc_record.specs.Rows.{rows, row}
+use Rattle.xc_record.specs.Step.{safe_now, poll_answer, poll_step, stop_step, drained, read_at_line, prune_step, open_step, refuses, is_change, step, lines_from}
+use Rattle.xc_model.specs.Sessions.{named, named_times, IsRising}
+use Rattle.xc_model.specs.Laws.{FailoverCloses, NamedTimesRise, ClosedStays}
+use Rattle.xc_model.proofs.SessionLaws.{either, steps-keep, steps-rise}
+
+-- lines name no time, or t alone
+abbrev Names : ℕ → List Line → Type 0
+Names t ls = (named_times ls ≡ []) ⊎ (named_times ls ≡ t ∷ [])
+
+poll-names : (m : Session) (s t : ℕ) (a : PollAnswer) → Names t (poll_step m s a).1
+poll-names m s t (poll.Polled k) = inl refl
+poll-names m s t (poll.Waits parent) = inl refl
+poll-names m s t poll.AtEnd = inl refl
+poll-names m s t (poll.Halted number kind) = inl refl
+
+stop-names : (m : Session) (s t : ℕ) (a : PollAnswer) → Names t (stop_step m s a).1
+stop-names m s t (poll.Polled k) = inl refl
+stop-names m s t (poll.Waits parent) = inl refl
+stop-names m s t poll.AtEnd = inl refl
+stop-names m s t (poll.Halted number kind) = inl refl
+
+row-names : (rs : List (List ℕ × List ℕ)) → named_times (map (λ r. line.Row r.0 r.1) rs) ≡ []
+row-names [] = refl
+row-names (r ∷ rs) = row-names rs
+
+abbrev halts_of : Logs → List AcceptedTablet → List Line
+halts_of logs bs = filter_map (λ b. option_map (λ found. line.Halt b.header.id found.0 found.1) (halt logs b.header.id)) bs
+
+halt-names : (logs : Logs) (bs : List AcceptedTablet) → named_times (halts_of logs bs) ≡ []
+halt-names logs [] = refl
+halt-names logs (b ∷ bs) = go (halt-names logs bs) (halt logs b.header.id)
+  where
+    go : named_times (halts_of logs bs) ≡ [] → (o : Option (ℕ × Break)) → named_times (cons_option (option_map (λ found. line.Halt b.header.id found.0 found.1) o) (halts_of logs bs)) ≡ []
+    go ih None = ih
+    go ih (Some found) = ih
+
+read-names : (logs : Logs) (m : Session) (u : ℕ) (key : List ℕ) → named_times (read_at_line logs m u key ∷ []) ≡ []
+read-names logs m u key = go (nat_lt (safe_now logs m) u) (nat_lt u m.cutoff) (row logs u key)
+  where
+    go : (a b : Bool) (v : Option (List ℕ)) → named_times ((if a then line.Ahead u (safe_now logs m) else (if b then line.Pruned u m.cutoff else line.ReadAt u key v)) ∷ []) ≡ []
+    go true b v = refl
+    go false true v = refl
+    go false false v = refl
+
+prune-names : (logs : Logs) (m : Session) (u : ℕ) → named_times (prune_step logs m u).1 ≡ []
+prune-names logs m u = elim (nat_lt (safe_now logs m) u) as (λ b. named_times (either b (m, line.Ahead u (safe_now logs m) ∷ []) (record m { cutoff = max m.cutoff u }, line.Prune (max m.cutoff u) ∷ [])).1 ≡ []) [ true ↦ refl | false ↦ refl ]
+
+-- the lines of a command name the safe time after it, if any
+open-names : (logs : Logs) (m : Session) (c : Command) → Names (safe_now logs (open_step logs m c).0) (open_step logs m c).1
+unfolding open_step
+open-names logs m (command.Poll id n) = poll-names m id _ (poll_answer logs m id n)
+open-names logs m (command.Stop id n last) = stop-names m id _ (poll_answer logs m id n)
+open-names logs m (command.Ack id) = inl refl
+open-names logs m (command.Restart id) = inl refl
+open-names logs m command.Drain = inr (ap (λ w. safe_now logs (drained logs m) ∷ w) (halt-names logs (accepted_tablets logs)))
+open-names logs m command.Safe = inr refl
+open-names logs m (command.Read key) = inr refl
+open-names logs m (command.ReadAt t key) = inl (read-names logs m t key)
+open-names logs m command.Scan = inr (ap (λ w. safe_now logs m ∷ w) (row-names (rows logs (safe_now logs m))))
+open-names logs m (command.Prune t) = inl (prune-names logs m t)
+open-names logs m command.Failover = inr (ap (λ w. safe_now logs m ∷ w) (row-names (rows logs (safe_now logs m))))
+open-names logs m command.Report = inl refl
+
+step-names : (logs : Logs) (m : Session) (c : Command) → Names (safe_now logs (step logs m c).0) (step logs m c).1
+unfolding step
+step-names logs m c = go (refuses m c)
+  where
+    go : (o : Option ℕ) → Names (safe_now logs (option_map_or {T = ℕ} {U = Session × List Line} (λ t. (m, line.Closed t ∷ [])) o (open_step logs m c)).0) (option_map_or {T = ℕ} {U = Session × List Line} (λ t. (m, line.Closed t ∷ [])) o (open_step logs m c)).1
+    go None = open-names logs m c
+    go (Some t) = inl refl
+
+lower : (a b : ℕ) (ts : List ℕ) → a ≤ b → IsRising b ts → IsRising a ts
+lower a b [] h r = tt
+lower a b (t ∷ ts) h r = ((let q : b ≤ t = r.0 in omega arith), r.1)
+
+pub named-times-rise : NamedTimesRise
+named-times-rise logs m [] valid st = tt
+named-times-rise logs m (c ∷ commands) valid st =
+    let n = (step logs m c).0 in
+    let lines = (step logs m c).1 in
+    let up : safe_now logs m ≤ safe_now logs n = steps-rise logs m c valid st in
+    let rest : IsRising (safe_now logs n) (named_times (lines_from logs n commands)) = named-times-rise logs n commands valid (steps-keep logs m c valid st) in
+    subst (IsRising (safe_now logs m)) (sym (filter_map-append named lines (lines_from logs n commands)))
+    (⊎_elim
+    (λ e. subst (λ w. IsRising (safe_now logs m) (w ++ named_times (lines_from logs n commands))) (sym e) (lower (safe_now logs m) (safe_now logs n) (named_times (lines_from logs n commands)) up rest))
+    (λ e. subst (λ w. IsRising (safe_now logs m) (w ++ named_times (lines_from logs n commands))) (sym e) (up, rest)) (step-names logs m c))
+
+-- ---- a closed session
+
+asked : (logs : Logs) (m : Session) (c : Command) (t : ℕ) (o : Option ℕ) → o ≡ Some t → (option_map_or {T = ℕ} {U = Session × List Line} (λ t. (m, line.Closed t ∷ [])) (if is_change c then o else None) (open_step logs m c)).0 ≡ m
+unfolding open_step
+asked logs m c t None e = cc
+asked logs m (command.Poll id n) t (Some v) e = refl
+asked logs m (command.Stop id n last) t (Some v) e = refl
+asked logs m (command.Ack id) t (Some v) e = refl
+asked logs m (command.Restart id) t (Some v) e = refl
+asked logs m command.Drain t (Some v) e = refl
+asked logs m command.Safe t (Some v) e = refl
+asked logs m (command.Read key) t (Some v) e = refl
+asked logs m (command.ReadAt u key) t (Some v) e = refl
+asked logs m command.Scan t (Some v) e = refl
+asked logs m (command.Prune u) t (Some v) e = refl
+asked logs m command.Failover t (Some v) e = refl
+asked logs m command.Report t (Some v) e = refl
+
+pub closed-stays : ClosedStays
+unfolding step
+closed-stays logs m c t e = asked logs m c t m.closed e
+
+pub failover-closes : FailoverCloses
+unfolding step open_step
+failover-closes logs m e = ap (λ o. (option_map_or {T = ℕ} {U = Session × List Line} (λ t. (m, line.Closed t ∷ [])) o (open_step logs m command.Failover)).0) e

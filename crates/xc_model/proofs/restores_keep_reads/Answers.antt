@@ -1,0 +1,5 @@
+use Rattle.xc_model.proofs.KeepLaws.{restores-keep}
+use Rattle.xc_model.proofs.restores_keep_reads.Goals as goal
+
+pub returns : goal.returns
+returns c = restores-keep

@@ -1,0 +1,5 @@
+use Rattle.xc_model.proofs.KeepLaws.{safe-rises}
+use Rattle.xc_model.proofs.safe_time_rises.Goals as goal
+
+pub returns : goal.returns
+returns c = safe-rises

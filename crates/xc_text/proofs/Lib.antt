@@ -1,0 +1,14 @@
+pub mod CutLaws
+pub mod NameLaws
+pub mod OpsLaws
+pub mod LineLaws
+pub mod StepLaws
+pub mod ValidParts
+pub mod OpsHeld
+pub mod ValidLaws
+pub mod PrintedWords
+pub mod PrintedLines
+pub mod PrintedHeaders
+pub mod PrintedLaws
+pub mod PrintedRun
+mod WorkedTexts

@@ -1,0 +1,6 @@
+use Rattle.std.proofs.Common.{◌≡◌, ◌++◌, ◌∷◌, drop, flat_map}
+use Rattle.xc_text.specs.Printed.{header_text, record_text, records_text, op_word}
+use Rattle.xc_text.proofs.print.push_records.Given as goal
+
+abbrev pub invariant-loop-entry : goal.invariant-loop-entry
+invariant-loop-entry l = l.out ++ flat_map (record_text l.id) (drop l.entry-index l.records) ≡ l.fn.out ++ flat_map (record_text l.id) l.records

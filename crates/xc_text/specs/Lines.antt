@@ -1,0 +1,191 @@
+-- The lines of a log text, by their words. A word is a list of bytes.
+--     line_of words      the line that the words spell, with its numbers and its names as they stand there; None where they have none of the forms
+--     numbers_fit line      each number is within the range of its place
+--     names_fit line      each key and each value is well formed
+-- `judge` of a line or of a part of one, as in kind_in and line_in, is what single functions answer; what a text spells doesn't rest on it.
+use Rattle.std.specs.Prelude.{ℕ, ◌-◌, ◌^◌, min, Bool, true, false, ◌&&◌, ◌==◌, nat_lt, List, [], ◌∷◌, Option, Some, None, Result, if◌then◌else◌, option_and_then, option_map, codes}
+use Rattle.std.specs.List.{list_all, list_any, before_first, after_first}
+use Rattle.std.specs.Option.{option_map_or}
+use Rattle.std.specs.Str.{bytes_eq}
+use Rattle.xc_base.specs.Names.{is_key, is_value}
+use Rattle.xc_base.specs.Words.{number_of}
+use Rattle.xc_record.specs.Valid.{is_time, is_txn}
+use Rattle.xc_record.specs.declared.record.Op.{Op}
+use Rattle.xc_record.specs.declared.record.Kind.{Kind}
+use Rattle.xc_record.specs.declared.record.Kind.TheVariants.{Write, Intent, Apply, Abort, Safe, Split}
+use Rattle.xc_record.specs.declared.record.Record.{Record}
+use Rattle.xc_record.specs.declared.record.Header.{Header}
+use Rattle.xc_text.specs.declared.kind.LogKind.{LogKind}
+use Rattle.xc_text.specs.declared.line.LogLine.{LogLine}
+use Rattle.xc_text.specs.declared.line.LogLine.TheVariants as line
+use Rattle.xc_text.specs.Kinds.{judge}
+
+infixl 10 ◌>>=◌
+abbrev pub ◌>>=◌ : {A B : Type 0} → Option A → (A → Option B) → Option B
+o >>= f = option_and_then f o
+
+-- the number that a word spells; one past 64 bits stands as the greatest of 64 bits, which no place allows
+unfoldable pub number : List ℕ → Option ℕ
+number word = option_map (λ n. min n (2 ^ 64 - 1)) (number_of word)
+
+-- the number that the first word spells, and the words after it
+abbrev pub first_number : List (List ℕ) → Option (ℕ × List (List ℕ))
+first_number [] = None
+first_number (word ∷ words) = option_map (λ n. (n, words)) (number word)
+
+abbrev pub is_over : List (List ℕ) → Bool
+is_over [] = true
+is_over (word ∷ words) = false
+
+-- x, where no word is left
+abbrev pub at_end : {A : Type 0} → List (List ℕ) → A → Option A
+at_end words x = if is_over words then Some x else None
+
+-- ---- operations
+
+-- `key=value`: the first `=` ends the key
+abbrev pub set_of : List ℕ → Option Op
+set_of rest =
+    if list_any (λ b. b == 61) rest then Some (record { key = before_first (λ b. b == 61) rest; value = Some (after_first (λ b. b == 61) rest) }) else None
+
+-- `+key=value` sets a key, `-key` removes it
+abbrev pub op_of : List ℕ → Option Op
+op_of [] = None
+op_of (sign ∷ rest) = if sign == 43 then set_of rest else (if sign == 45 then Some (record { key = rest; value = None }) else None)
+
+abbrev pub all_ops : List (List ℕ) → Option (List Op)
+all_ops [] = Some []
+all_ops (word ∷ words) = do
+  op ← op_of word
+  ops ← all_ops words
+  Some (op ∷ ops)
+
+-- one operation at least, however many
+abbrev pub ops_of : List (List ℕ) → Option (List Op)
+ops_of [] = None
+ops_of (word ∷ words) = all_ops (word ∷ words)
+
+abbrev pub op_is_named : Op → Bool
+op_is_named op = is_key op.key && option_map_or is_value op.value true
+
+-- ---- records
+
+abbrev pub intent_of : List (List ℕ) → Option Kind
+intent_of words = do
+  txn ← first_number words
+  ops ← ops_of txn.1
+  Some (Intent txn.0 ops)
+
+abbrev pub apply_of : List (List ℕ) → Option Kind
+apply_of words = do
+  txn ← first_number words
+  commit ← first_number txn.1
+  at_end commit.1 (Apply txn.0 commit.0)
+
+abbrev pub abort_of : List (List ℕ) → Option Kind
+abort_of words = do
+  txn ← first_number words
+  at_end txn.1 (Abort txn.0)
+
+abbrev pub safe_of : List (List ℕ) → Option Kind
+safe_of words = do
+  value ← first_number words
+  at_end value.1 (Safe value.0)
+
+abbrev pub split_of : List (List ℕ) → Option Kind
+split_of words = do
+  place ← first_number words
+  left ← first_number place.1
+  right ← first_number left.1
+  at_end right.1 (Split place.0 left.0 right.0)
+
+abbrev pub kind_by : List ℕ → List (List ℕ) → Option Kind
+kind_by verb words =
+    if bytes_eq verb (codes "write") then option_map Write (ops_of words)
+    else (if bytes_eq verb (codes "intent") then intent_of words
+    else (if bytes_eq verb (codes "apply") then apply_of words
+    else (if bytes_eq verb (codes "abort") then abort_of words
+    else (if bytes_eq verb (codes "safe") then safe_of words
+    else (if bytes_eq verb (codes "split") then split_of words else None)))))
+
+-- `write ..`, `intent ..` and so on
+unfoldable pub kind_of : List (List ℕ) → Option Kind
+kind_of [] = None
+kind_of (verb ∷ words) = kind_by verb words
+
+abbrev pub kind_numbers_fit : Kind → Bool
+kind_numbers_fit (Write ops) = true
+kind_numbers_fit (Intent txn ops) = is_txn txn
+kind_numbers_fit (Apply txn commit) = is_txn txn && is_time commit
+kind_numbers_fit (Abort txn) = is_txn txn
+kind_numbers_fit (Safe value) = is_time value
+kind_numbers_fit (Split place left right) = nat_lt place 65536 && (nat_lt left 64 && nat_lt right 64)
+
+abbrev pub kind_names_fit : Kind → Bool
+kind_names_fit (Write ops) = list_all op_is_named ops
+kind_names_fit (Intent txn ops) = list_all op_is_named ops
+kind_names_fit _ = true
+
+-- the operations, where their names fit
+unfoldable pub ops_in : List (List ℕ) → Result (List Op) LogKind
+ops_in words = judge (λ ops. true) (list_all op_is_named) (ops_of words)
+
+unfoldable pub kind_in : List (List ℕ) → Result Kind LogKind
+kind_in words = judge kind_numbers_fit kind_names_fit (kind_of words)
+
+-- ---- lines
+
+-- `ID TIME ..`, after the ID
+abbrev pub entry_of : ℕ → List (List ℕ) → Option LogLine
+entry_of id words = do
+  time ← first_number words
+  kind ← kind_of time.1
+  Some (line.Entry id (record { time = time.0; kind = kind }))
+
+-- `root`, or `child PARENT`
+abbrev pub parent_of : List (List ℕ) → Option (Option ℕ)
+parent_of [] = None
+parent_of (word ∷ words) =
+    if bytes_eq word (codes "root") then at_end words None
+    else (if bytes_eq word (codes "child") then first_number words >>= (λ parent. at_end parent.1 (Some parent.0)) else None)
+
+-- `tablet ID LO HI ..`, after the first word
+abbrev pub header_of : List (List ℕ) → Option Header
+header_of words = do
+  id ← first_number words
+  lo ← first_number id.1
+  hi ← first_number lo.1
+  parent ← parent_of hi.1
+  Some (record { id = id.0; lo = lo.0; hi = hi.0; parent = parent })
+
+-- `xclog 1`, after the first word
+abbrev pub version_of : List (List ℕ) → Option LogLine
+version_of [] = None
+version_of (word ∷ words) = if bytes_eq word (codes "1") then at_end words line.First else None
+
+abbrev pub line_by : List ℕ → List (List ℕ) → Option LogLine
+line_by word words =
+    if bytes_eq word (codes "xclog") then version_of words
+    else (if bytes_eq word (codes "tablet") then option_map line.Tablet (header_of words)
+    else (if bytes_eq word (codes "end") then at_end words line.End
+    else (number word >>= (λ id. entry_of id words))))
+
+unfoldable pub line_of : List (List ℕ) → Option LogLine
+line_of [] = None
+line_of (word ∷ words) = line_by word words
+
+abbrev pub header_numbers_fit : Header → Bool
+header_numbers_fit h = nat_lt h.id 64 && (nat_lt h.lo 65536 && (nat_lt h.hi 65536 && option_map_or (λ parent. nat_lt parent 64) h.parent true))
+
+abbrev pub numbers_fit : LogLine → Bool
+numbers_fit line.First = true
+numbers_fit (line.Tablet h) = header_numbers_fit h
+numbers_fit (line.Entry id r) = nat_lt id 64 && (is_time r.time && kind_numbers_fit r.kind)
+numbers_fit line.End = true
+
+abbrev pub names_fit : LogLine → Bool
+names_fit (line.Entry id r) = kind_names_fit r.kind
+names_fit _ = true
+
+unfoldable pub line_in : List (List ℕ) → Result LogLine LogKind
+line_in words = judge numbers_fit names_fit (line_of words)

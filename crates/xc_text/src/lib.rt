@@ -1,0 +1,116 @@
+//! The log text, version 1: read exactly, and printed back.
+#![tactic(auto)]
+
+mod cut;
+mod kind;
+mod line;
+mod operations;
+mod print;
+mod read;
+mod reading;
+mod record_line;
+
+pub use kind::{LogKind, LogsFail};
+pub use print::print_logs;
+pub use read::read_logs;
+
+#[cfg(test)]
+mod tests {
+    use super::LogKind::{
+        AfterSplit, Form, Header, Key, Limit, NoEnd, Number, Orphan, Range, UnknownTablet,
+    };
+    use super::*;
+    use std::alloc::{AllocError, Global};
+
+    const FIRST: &str = "xclog 1\n";
+
+    const ONE: &str = "xclog 1\ntablet 0 0 65535 root\n";
+
+    const TWO: &str = "xclog 1\ntablet 0 0 32767 root\ntablet 1 32768 65535 root\n";
+
+    const SPLIT: &str =
+        "xclog 1\ntablet 0 0 65535 root\ntablet 1 0 32767 child 0\ntablet 2 32768 65535 child 0\n";
+
+    // The first bad line of the text of two parts, and why it is bad.
+    fn bad_line(
+        alloc: Global,
+        head: &str,
+        rest: &str,
+    ) -> Result<Option<(u64, LogKind)>, AllocError> {
+        let mut text = Vec::from_slice(alloc, head.as_bytes())?;
+        text.extend_from_slice(rest.as_bytes())?;
+        match read_logs(alloc, &text) {
+            Ok(_) => Ok(None),
+            Err(LogsFail::Bad { line, kind }) => Ok(Some((line, kind))),
+            Err(LogsFail::NoMemory) => Err(AllocError),
+        }
+    }
+
+    #[test]
+    fn each_text_is_bad_at_its_first_bad_line(rt: HostRuntime) {
+        let alloc = rt.alloc();
+        for (head, rest, want) in [
+            ("", "", Some((1, NoEnd))),
+            (ONE, "end\n", None),
+            (ONE, "end", Some((3, Form))),
+            (
+                ONE,
+                "0 4611686018427387903 write +aaaaaaaaaaaaaaaaaaaaaaaaaaaaaaaa=vvvvvvvvvvvvvvvvvvvvvvvvvvvvvvvvvvvvvvvvvvvvvvvvvvvvvvvvvvvvvvvv\nend\n",
+                None,
+            ),
+            (
+                ONE,
+                "0 4611686018427387904 write +aaaaaaaaaaaaaaaaaaaaaaaaaaaaaaaaa=\n",
+                Some((3, Number)),
+            ),
+            (
+                ONE,
+                "0 4611686018427387903 write +aaaaaaaaaaaaaaaaaaaaaaaaaaaaaaaaa=\n",
+                Some((3, Key)),
+            ),
+            (
+                ONE,
+                "0 1 write -a -a -a -a -a -a -a -a -a -a -a -a -a -a -a -a -a -a -a -a -a -a -a -a -a -a -a -a -a -a -a -a -a -a -a -a -a -a -a -a -a -a -a -a -a -a -a -a -a -a -a -a -a -a -a -a -a -a -a -a -a -a -a -a\nend\n",
+                None,
+            ),
+            (
+                ONE,
+                "0 1 write -a -a -a -a -a -a -a -a -a -a -a -a -a -a -a -a -a -a -a -a -a -a -a -a -a -a -a -a -a -a -a -a -a -a -a -a -a -a -a -a -a -a -a -a -a -a -a -a -a -a -a -a -a -a -a -a -a -a -a -a -a -a -a -a -a\nend\n",
+                Some((3, Limit)),
+            ),
+            (
+                FIRST,
+                "tablet 0 0 65534 root\n0 1 abort 1\n",
+                Some((3, Header)),
+            ),
+            (ONE, "63 1 abort 1\n", Some((3, UnknownTablet))),
+            (TWO, "0 10 write +zzz=1\n", Some((4, Range))),
+            (
+                SPLIT,
+                "0 14 split 32768 1 2\n0 15 abort 9\n",
+                Some((6, AfterSplit)),
+            ),
+            (SPLIT, "end\n", Some((5, Orphan))),
+            (ONE, "0 1 write -\0\n", Some((3, Key))),
+            (ONE, "0 1 write -é\n", Some((3, Key))),
+            (ONE, "0 1 write -a\r\n", Some((3, Key))),
+            (ONE, "end\r\n", Some((3, Form))),
+        ] {
+            assert!(rt; bad_line(alloc, head, rest) == Ok(want), "{head}{rest}");
+        }
+    }
+
+    #[test]
+    fn what_is_printed_is_read(rt: HostRuntime) {
+        let alloc = rt.alloc();
+        let text =
+            "xclog 1\ntablet 0 0 65535 root\ntablet 1 0 32767 child 0\ntablet 2 32768 65535 child 0\n0 10 write +aaa=1 -zzz +bbb=\n0 11 intent 5 +zzz=9\n0 12 abort 7\n0 13 safe 12\n0 14 split 32768 1 2\n2 18 apply 5 16\nend\n";
+        match read_logs(alloc, text.as_bytes()) {
+            Ok(logs) => match print_logs(alloc, &logs) {
+                Ok(printed) => assert!(rt; printed.as_slice() == text.as_bytes(), "another text"),
+                Err(_) => assert!(rt; false, "no memory"),
+            },
+            Err(_) => assert!(rt; false, "not read"),
+        }
+    }
+}

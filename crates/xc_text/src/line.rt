@@ -1,0 +1,129 @@
+// The lines of a log text.
+ghost use Rattle.std.specs.Prelude.{◌≡◌, true, false, MatchResult, option_map, nat_lt, ◌&&◌};
+ghost use Rattle.xc_record.specs.Valid.{is_time};
+ghost use Rattle.std.specs.Option.{option_map_or};
+ghost use Rattle.xc_base.specs.Words.{split_on};
+ghost use Rattle.xc_text.specs.Kinds.{Answers, judge};
+ghost use Rattle.xc_text.specs.Lines.{line_in, header_of, header_numbers_fit, parent_of, version_of, entry_of, number, numbers_fit, names_fit};
+ghost use Rattle.xc_text.specs.declared.kind.LogKind.TheVariants.{Form, Number};
+ghost use Rattle.xc_text.specs.declared.kind.Fail.TheVariants.{Bad};
+
+use crate::cut::{Words, number};
+use crate::kind::{Fail, LogKind, after_numbers};
+use crate::record_line::{hash_in, is_tablet, is_time, read_kind, tablet_in, time_in};
+use std::alloc::Global;
+use xc_record::{Header, Op, Record};
+
+// A line by itself.
+#[derive(Drop, Debug)]
+pub(crate) enum LogLine {
+    First,
+    Tablet(Header),
+    // A record of the tablet of this number.
+    Entry(u32, Record),
+    End,
+}
+
+fn read_version(mut words: Words<'_>) -> Result<LogLine, Fail>
+    ensures { Answers (λ line. line) result (judge numbers_fit names_fit (version_of words.entry)) }
+{
+    match words.next() {
+        Some(word) if word == b"1".as_slice() => {
+            words.end()?;
+            Ok(LogLine::First)
+        }
+        _ => Err(Fail::Bad(LogKind::Form)),
+    }
+}
+
+// `root`, or `child` and the parent's number.
+fn read_parent(mut words: Words<'_>) -> Result<Option<u64>, Fail>
+    ensures { MatchResult result (λ parent. parent_of words.entry ≡ Some parent) (λ e. (e ≡ Bad Form) × (parent_of words.entry ≡ None)) }
+{
+    let Some(word) = words.next() else {
+        return Err(Fail::Bad(LogKind::Form));
+    };
+    if word == b"root".as_slice() {
+        words.end()?;
+        return Ok(None);
+    }
+    if word == b"child".as_slice() {
+        let parent = words.number()?;
+        words.end()?;
+        return Ok(Some(parent));
+    }
+    Err(Fail::Bad(LogKind::Form))
+}
+
+fn parent_in(parent: Option<u64>) -> Result<Option<u32>, Fail>
+    ensures { MatchResult result (λ id. (id ≡ parent) × (option_map_or (λ p. nat_lt p 64) parent true ≡ true)) (λ e. (e ≡ Bad Number) × (option_map_or (λ p. nat_lt p 64) parent true ≡ false)) }
+{
+    match parent {
+        None => Ok(None),
+        Some(id) => Ok(Some(tablet_in(id)?)),
+    }
+}
+
+fn read_header(mut words: Words<'_>) -> Result<Header, Fail>
+    ensures { Answers (λ header. header) result (judge header_numbers_fit (λ header. true) (header_of words.entry)) }
+{
+    let id = words.number()?;
+    let lo = words.number()?;
+    let hi = words.number()?;
+    let parent = read_parent(words)?;
+    Ok(Header {
+        id: tablet_in(id)?,
+        lo: hash_in(lo)?,
+        hi: hash_in(hi)?,
+        parent: parent_in(parent)?,
+    })
+}
+
+fn numbers_fit(id: u64, time: u64) -> bool
+    ensures { result ≡ (nat_lt id 64 && is_time time) }
+{
+    is_tablet(id) && is_time(time)
+}
+
+fn read_entry(
+    alloc: Global,
+    id: u64,
+    mut words: Words<'_>,
+    ops: &mut Vec<Op>,
+) -> Result<LogLine, Fail>
+    ensures { Answers (λ line. line) result (judge numbers_fit names_fit (entry_of id words.entry)) }
+{
+    let time = words.number()?;
+    match read_kind(alloc, words, ops) {
+        Err(fail) => Err(after_numbers(fail, numbers_fit(id, time))),
+        Ok(kind) => Ok(LogLine::Entry(
+            tablet_in(id)?,
+            Record {
+                time: time_in(time)?,
+                kind,
+            },
+        )),
+    }
+}
+
+// The line that the bytes spell, without the byte that ends it. The list of operations is there to be used again.
+#[tactic(auto, unfolding(crate::specs::Lines::line_in, crate::specs::Lines::line_of))]
+pub(crate) fn read_line(alloc: Global, line: &[u8], ops: &mut Vec<Op>) -> Result<LogLine, Fail>
+    ensures { Answers (λ line. line) result (line_in (split_on 32 line.now)) }
+{
+    let mut words = Words::of(line);
+    let Some(word) = words.next() else {
+        return Err(Fail::Bad(LogKind::Form));
+    };
+    if word == b"xclog".as_slice() {
+        return read_version(words);
+    }
+    if word == b"tablet".as_slice() {
+        return Ok(LogLine::Tablet(read_header(words)?));
+    }
+    if word == b"end".as_slice() {
+        words.end()?;
+        return Ok(LogLine::End);
+    }
+    read_entry(alloc, number(word)?, words, ops)
+}

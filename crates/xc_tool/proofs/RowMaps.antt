@@ -1,0 +1,18 @@
+-- Rows in a map.
+use Rattle.std.proofs.Common.{◌≡◌, ℕ, Bool, List, [], ◌∷◌, refl, sym, ap, ◌∙◌, arith}
+use Rattle.std.specs.Prelude.{Option, Some, None, if◌then◌else◌, bytes_eq, cond}
+use Rattle.std.proofs.lemmas.Bool.Decides.{nat_tests}
+use Rattle.std.specs.Cmp.Lexicographic.{slice_cmp, texts_ties}
+use Rattle.std.specs.BTreeMap.{BTreeMap, UpdatesBy}
+use Rattle.std.specs.Ordering.{nat_cmp}
+use Rattle.xc_tool.specs.OneTablet.{value_in}
+
+bytes_eq-sym : (xs ys : List ℕ) → bytes_eq xs ys ≡ bytes_eq ys xs
+bytes_eq-sym [] [] = refl
+bytes_eq-sym [] (y ∷ ys) = refl
+bytes_eq-sym (x ∷ xs) [] = refl
+bytes_eq-sym (x ∷ xs) (y ∷ ys) = grind (arith, nat_tests, bytes_eq-sym xs ys)
+
+pub value_in-put : (old new : BTreeMap (List ℕ) (List ℕ)) (k : List ℕ) (w : Option (List ℕ)) → UpdatesBy (slice_cmp nat_cmp) (slice_cmp nat_cmp k) old new w
+    → (q : List ℕ) → value_in new q ≡ if bytes_eq q k then w else value_in old q
+value_in-put old new k w u q = u.0 q ∙ ap (λ b. cond b w (value_in old q)) (sym (texts_ties k q) ∙ bytes_eq-sym k q)

@@ -1,0 +1,141 @@
+-- The statuses that a run may end with, and the order in which it refuses.
+use Rattle.std.proofs.Common.{◌≡◌, ℕ, Bool, true, false, List, Option, Some, None, Result, Ok, Err, refl, sym, ap, ◌∙◌, subst, inl, inr, if◌then◌else◌}
+use Rattle.std.specs.Prelude.{nat_lt, length, ◌^◌}
+use Rattle.xc_base.specs.declared.status.Status.{Status}
+use Rattle.xc_base.specs.declared.status.Status.TheVariants as status
+use Rattle.xc_base.specs.declared.status.Stop.{Stop}
+use Rattle.xc_base.specs.declared.status.Stop.TheVariants as stop
+use Rattle.xc_base.specs.Streams.{Stream, IsUntouched}
+use Rattle.xc_base.specs.Ran.{Output, Reads, Took, Wrote, Ended, Ran, Is, Shows, IsEnded, ◌>>=◌, output_of}
+use Rattle.xc_record.specs.declared.record.Logs.{Logs}
+use Rattle.xc_record.specs.declared.session.Command.{Command}
+use Rattle.xc_text.specs.LogText.{BadLine, logs_of}
+use Rattle.xc_tool.specs.declared.refusal.Refusal.{Refusal}
+use Rattle.xc_tool.specs.declared.refusal.Refusal.TheVariants.{LogsTooLong, BadLogs, LaterLogs, ScriptTooLong, LaterScript}
+use Rattle.xc_tool.specs.declared.words.Form.{Form}
+use Rattle.xc_tool.specs.declared.words.Form.TheVariants.{Replay}
+use Rattle.xc_tool.specs.Later.{is_later}
+use Rattle.xc_tool.specs.Outcome.{refusal_output, refusal_status, output_for, replay_input, replay_output, reads_of, logs_input, logs_in, logs_spelled, logs_taken, script_input, script_taken, usage_output, InOrder, StopsInOrder, IsUsage}
+use Rattle.xc_tool.specs.Script.{script_of}
+
+-- a refusal's status isn't that of a run that came to its own end
+pub never_ended : (r : Refusal) → IsEnded (refusal_output r).status → ⊥
+never_ended LogsTooLong e = elim e [ inl h ↦ cc | inr h ↦ cc ]
+never_ended (BadLogs line kind) e = elim e [ inl h ↦ cc | inr h ↦ cc ]
+never_ended LaterLogs e = elim e [ inl h ↦ cc | inr h ↦ cc ]
+never_ended ScriptTooLong e = elim e [ inl h ↦ cc | inr h ↦ cc ]
+never_ended LaterScript e = elim e [ inl h ↦ cc | inr h ↦ cc ]
+
+-- ---- usage
+
+-- the status of a command is none that its refusals and its outputs don't have
+not_usage : {A : Type 0} (d : Result A Refusal) (output : A → Output) → ((x : A) → (output x).status ≡ status.Usage → ⊥) → (output_of refusal_output (d >>= (λ x. Ok (output x)))).status ≡ status.Usage → ⊥
+not_usage (Ok x) output never e = never x e
+not_usage (Err LogsTooLong) output never e = cc
+not_usage (Err (BadLogs line kind)) output never e = cc
+not_usage (Err LaterLogs) output never e = cc
+not_usage (Err ScriptTooLong) output never e = cc
+not_usage (Err LaterScript) output never e = cc
+
+-- a status that is neither that of a halt nor that of a whole run
+abbrev IsOther : Status → Type 0
+IsOther s = (status.Halted ≡ s → ⊥) × (status.Ok ≡ s → ⊥)
+
+not_end : (b : Bool) (s : Status) → IsOther s → (if b then status.Halted else status.Ok) ≡ s → ⊥
+not_end true s other e = other.0 e
+not_end false s other e = other.1 e
+
+usage_only : (form : Option Form) (a b : List ℕ) → (output_for form a b).status ≡ status.Usage → form ≡ None
+usage_only None a b e = refl
+usage_only (Some Replay) a b e = absurd (not_usage (replay_input a b) replay_output (λ x e. not_end _ status.Usage ((λ h. cc), (λ h. cc)) e) e)
+
+pub usage_ran : (form : Option Form) (reads : Reads) (result : Status) (logs script out : Stream)
+    → Ran (Is (output_for form)) reads result logs script out → result ≡ status.Usage → form ≡ None
+usage_ran form reads result logs script out ran e =
+    let shown = subst (λ s. Shows ran.output s out) e ran.shown in
+    usage_only form ran.from_logs ran.from_script (sym (shown.0 ∙ ap (λ o. o.status) ran.allowed))
+
+usage_status : (output : Output) (result : Status) (out : Stream) → output ≡ usage_output → (result ≡ status.ReadFault → ⊥) → Shows output result out → IsUsage result
+usage_status output status.Ok out e never shown = let s : status.Ok ≡ status.Usage = shown.0 ∙ ap (λ o. o.status) e in cc
+usage_status output status.Usage out e never shown = tt
+usage_status output status.BadLogs out e never shown = let s : status.BadLogs ≡ status.Usage = shown.0 ∙ ap (λ o. o.status) e in cc
+usage_status output status.Disagree out e never shown = let s : status.Disagree ≡ status.Usage = shown.0 ∙ ap (λ o. o.status) e in cc
+usage_status output status.BadScript out e never shown = let s : status.BadScript ≡ status.Usage = shown.0 ∙ ap (λ o. o.status) e in cc
+usage_status output status.ReadFault out e never shown = absurd (never refl)
+usage_status output status.WriteFault out e never shown = tt
+usage_status output status.NoMemory out e never shown = tt
+usage_status output status.Halted out e never shown = let s : status.Halted ≡ status.Usage = shown.0 ∙ ap (λ o. o.status) e in cc
+
+no_command_from : (result : Status) (logs script out : Stream) → Ran (Is (output_for None)) (reads_of None) result logs script out → IsUsage result
+no_command_from result logs script out ran = usage_status ran.output result out ran.allowed (λ e. elim (ran.read_fault e) [ inl h ↦ let b : false ≡ true = h.0 in cc | inr h ↦ let b : false ≡ true = h.0 in cc ]) ran.shown
+
+-- words that form no command end in the usage line, or in a fault or want of memory before it stood whole
+pub no_command : (form : Option Form) (result : Status) (logs script out : Stream) → Ran (Is (output_for form)) (reads_of form) result logs script out → form ≡ None → IsUsage result
+no_command form result logs script out ran e = no_command_from result logs script out (subst (λ f. Ran (Is (output_for f)) (reads_of f) result logs script out) e ran)
+
+-- ---- the order of refusals
+
+logs_status : (d : Result Logs BadLine) (r : Refusal) → (logs_spelled d >>= logs_taken) ≡ Err r → refusal_status r ≡ status.BadLogs
+logs_status (Ok logs) r e = elim (is_later logs) as (λ b. (if b then Err LaterLogs else Ok logs) ≡ Err r → refusal_status r ≡ status.BadLogs) [ true ↦ λ h. let s : LaterLogs ≡ r = cc in ap refusal_status (sym s) | false ↦ λ h. cc ] e
+logs_status (Err bad) r e = let s : BadLogs bad.line bad.kind ≡ r = cc in ap refusal_status (sym s)
+
+logs_refused : (text : List ℕ) (r : Refusal) → logs_input text ≡ Err r → refusal_status r ≡ status.BadLogs
+logs_refused text r e = elim (nat_lt (2 ^ 26) (length text)) as (λ b. (if b then Err LogsTooLong else logs_in text) ≡ Err r → refusal_status r ≡ status.BadLogs) [
+  | true ↦ λ h. let s : LogsTooLong ≡ r = cc in ap refusal_status (sym s)
+  | false ↦ λ h. logs_status (logs_of text) r h
+] e
+
+script_status : (o : Option (List Command)) (r : Refusal) → script_taken o ≡ Err r → refusal_status r ≡ status.BadScript
+script_status (Some commands) r e = cc
+script_status None r e = let s : LaterScript ≡ r = cc in ap refusal_status (sym s)
+
+script_refused : (text : List ℕ) (r : Refusal) → script_input text ≡ Err r → refusal_status r ≡ status.BadScript
+script_refused text r e = elim (nat_lt (2 ^ 20) (length text)) as (λ b. (if b then Err ScriptTooLong else script_taken (script_of text)) ≡ Err r → refusal_status r ≡ status.BadScript) [
+  | true ↦ λ h. let s : ScriptTooLong ≡ r = cc in ap refusal_status (sym s)
+  | false ↦ λ h. script_status (script_of text) r h
+] e
+
+abbrev both : Reads
+both = record { logs = true; script = true }
+
+-- the logs stopped, and the script was not asked for
+pub order_first : (s : Stop Refusal) (logs script : Stream) → Took logs_input (Err s) logs → IsUntouched script → StopsInOrder both s logs script
+order_first (stop.Refused r) logs script took same = record {
+  logs_first = λ e. same;
+  script_next = λ e. let bad : status.BadScript ≡ status.BadLogs = sym e ∙ logs_refused took.bytes r took.found in cc;
+}
+order_first stop.ReadFault logs script took same = tt
+order_first stop.NoMemory logs script took same = tt
+
+-- the logs were read, and the script stopped
+pub order_second : (x : Logs) (s : Stop Refusal) (logs script : Stream) → Took logs_input (Ok x) logs → Took script_input (Err s) script → StopsInOrder both s logs script
+order_second x (stop.Refused r) logs script first second = record {
+  logs_first = λ e. let bad : status.BadLogs ≡ status.BadScript = sym e ∙ script_refused second.bytes r second.found in cc;
+  script_next = λ e u. first.end;
+}
+order_second x stop.ReadFault logs script first second = tt
+order_second x stop.NoMemory logs script first second = tt
+
+shown_status : (output : Output) (s result : Status) (out : Stream) → ((o : Output) → Shows o s out → s ≡ o.status) → Shows output result out → result ≡ s → s ≡ output.status
+shown_status output s result out reads shown e = reads output (subst (λ r. Shows output r out) e shown)
+
+-- an output that is no refusal was written
+pub written_in_order : (output : Output) (reads : Reads) (result : Status) (logs script out : Stream) → (status.BadLogs ≡ output.status → ⊥) → (status.BadScript ≡ output.status → ⊥)
+    → Wrote output ⊥ result out → InOrder reads result logs script
+written_in_order output reads result logs script out no_logs no_script wrote = record {
+  logs_first = λ e. absurd (no_logs (shown_status output status.BadLogs result out (λ o h. h.0) wrote.shown e));
+  script_next = λ e. absurd (no_script (shown_status output status.BadScript result out (λ o h. h.0) wrote.shown e));
+}
+
+pub replay_in_order : (input : Logs × List Command) (reads : Reads) (result : Status) (logs script out : Stream) → Wrote (replay_output input) ⊥ result out → InOrder reads result logs script
+replay_in_order input reads result logs script out wrote =
+    written_in_order (replay_output input) reads result logs script out (λ e. not_end _ status.BadLogs ((λ h. cc), (λ h. cc)) (sym e)) (λ e. not_end _ status.BadScript ((λ h. cc), (λ h. cc)) (sym e)) wrote
+
+-- the input stopped, and its line was written
+pub ended_in_order : (reads : Reads) (s : Stop Refusal) (result : Status) (logs script out : Stream) → StopsInOrder reads s logs script → Ended refusal_output s result out → InOrder reads result logs script
+ended_in_order reads (stop.Refused r) result logs script out order wrote = record {
+  logs_first = λ e. order.logs_first (sym (shown_status (refusal_output r) status.BadLogs result out (λ o h. h.0) wrote.shown e));
+  script_next = λ e. order.script_next (sym (shown_status (refusal_output r) status.BadScript result out (λ o h. h.0) wrote.shown e));
+}
+ended_in_order reads stop.ReadFault result logs script out order ended = record { logs_first = λ e. cc (sym ended.0 ∙ e); script_next = λ e. cc (sym ended.0 ∙ e) }
+ended_in_order reads stop.NoMemory result logs script out order ended = record { logs_first = λ e. cc (sym ended.0 ∙ e); script_next = λ e. cc (sym ended.0 ∙ e) }

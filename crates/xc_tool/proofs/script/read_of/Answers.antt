@@ -1,0 +1,5 @@
+use Rattle.xc_tool.proofs.Scripts.{no_key}
+use Rattle.xc_tool.proofs.script.read_of.Goals as goal
+
+pub returns-in-Err : goal.returns-in-Err
+returns-in-Err c = no_key c.args.key.now _ c.in-Err.ensures.fault

@@ -1,0 +1,6 @@
+pub mod Words
+pub mod Later
+pub mod Lines
+pub mod Script
+pub mod OneTablet
+pub mod Outcome

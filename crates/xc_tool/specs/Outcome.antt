@@ -1,0 +1,137 @@
+-- What a run is to write and which status it ends with, by its words and by the bytes of its two sources.
+--     outcome words logs script      the whole output and the status
+--     run_of form logs script      the same of one command, or why the input is refused, in the order of work
+--     reads_of form      which sources the command reads
+--     line_of refusal, refusal_status refusal      the line that a refusal writes, and its status
+--     InOrder reads result logs script      a refusal came in the order of work
+use Rattle.std.specs.Prelude.{◌≡◌, ℕ, ◌^◌, true, false, if◌then◌else◌, List, ◌++◌, codes, decimal, Option, Some, None, Result, Ok, Err}
+use Rattle.std.specs.List.{list_any}
+use Rattle.xc_base.specs.declared.status.Status.{Status}
+use Rattle.xc_base.specs.declared.status.Status.TheVariants as status
+use Rattle.xc_base.specs.declared.status.Stop.{Stop}
+use Rattle.xc_base.specs.declared.status.Stop.TheVariants as stop
+use Rattle.xc_base.specs.Streams.{Stream, IsUntouched, Used}
+use Rattle.xc_base.specs.Ran.{Output, Reads, ◌>>=◌, output_of, within}
+use Rattle.xc_record.specs.declared.record.Logs.{Logs}
+use Rattle.xc_record.specs.declared.session.Command.{Command}
+use Rattle.xc_record.specs.declared.session.Line.{Line}
+use Rattle.xc_record.specs.Session.{start}
+use Rattle.xc_record.specs.Step.{lines_from}
+use Rattle.xc_text.specs.Kinds.{kind_name}
+use Rattle.xc_text.specs.LogText.{BadLine, logs_of}
+use Rattle.xc_tool.specs.declared.refusal.Refusal.{Refusal}
+use Rattle.xc_tool.specs.declared.refusal.Refusal.TheVariants.{LogsTooLong, BadLogs, LaterLogs, ScriptTooLong, LaterScript}
+use Rattle.xc_tool.specs.declared.words.Form.{Form}
+use Rattle.xc_tool.specs.declared.words.Form.TheVariants.{Replay}
+use Rattle.xc_tool.specs.Later.{is_later}
+use Rattle.xc_tool.specs.Lines.{lines_text, is_halt}
+use Rattle.xc_tool.specs.Script.{script_of}
+use Rattle.xc_tool.specs.Words.{form_of}
+
+-- an output, or why the input is refused
+abbrev pub Defined : Type 0
+Defined = Result Output Refusal
+
+-- ---- the inputs
+
+abbrev pub logs_spelled : Result Logs BadLine → Result Logs Refusal
+logs_spelled (Ok logs) = Ok logs
+logs_spelled (Err bad) = Err (BadLogs bad.line bad.kind)
+
+abbrev pub logs_taken : Logs → Result Logs Refusal
+logs_taken logs = if is_later logs then Err LaterLogs else Ok logs
+
+abbrev pub logs_in : List ℕ → Result Logs Refusal
+logs_in text = do
+  logs ← logs_spelled (logs_of text)
+  logs_taken logs
+
+-- the logs of a source
+abbrev pub logs_input : List ℕ → Result Logs Refusal
+logs_input = within (2 ^ 26) LogsTooLong logs_in
+
+abbrev pub script_taken : Option (List Command) → Result (List Command) Refusal
+script_taken (Some commands) = Ok commands
+script_taken None = Err LaterScript
+
+-- the commands of a source
+abbrev pub script_input : List ℕ → Result (List Command) Refusal
+script_input = within (2 ^ 20) ScriptTooLong (λ text. script_taken (script_of text))
+
+-- ---- the commands of the command line, each in its order of work
+
+abbrev pub replay_input : List ℕ → List ℕ → Result (Logs × List Command) Refusal
+replay_input logs script = do
+  l ← logs_input logs
+  commands ← script_input script
+  Ok (l, commands)
+
+-- halted where a pull met a break
+abbrev pub lines_output : List Line → Output
+lines_output lines = record { text = lines_text lines; status = if list_any is_halt lines then status.Halted else status.Ok }
+
+abbrev pub replay_output : Logs × List Command → Output
+replay_output input = lines_output (lines_from input.0 (start input.0) input.1)
+
+abbrev pub replay_of : List ℕ → List ℕ → Defined
+replay_of logs script = do
+  input ← replay_input logs script
+  Ok (replay_output input)
+
+abbrev pub usage_output : Output
+usage_output = record { text = codes "usage: the words after xcr do not form a command\n"; status = status.Usage }
+
+abbrev pub run_of : Option Form → List ℕ → List ℕ → Defined
+run_of None logs script = Ok usage_output
+run_of (Some Replay) logs script = replay_of logs script
+
+abbrev pub reads_of : Option Form → Reads
+reads_of None = record { logs = false; script = false }
+reads_of (Some Replay) = record { logs = true; script = true }
+
+-- ---- the line of a refusal, and the statuses
+
+abbrev pub line_of : Refusal → List ℕ
+line_of LogsTooLong = codes "logs too long\n"
+line_of (BadLogs line kind) = codes "bad logs " ++ decimal line ++ codes " " ++ kind_name kind ++ codes "\n"
+line_of LaterLogs = codes "bad logs 0 later\n"
+line_of ScriptTooLong = codes "script too long\n"
+line_of LaterScript = codes "bad script 0 later\n"
+
+abbrev pub refusal_status : Refusal → Status
+refusal_status LogsTooLong = status.BadLogs
+refusal_status (BadLogs line kind) = status.BadLogs
+refusal_status LaterLogs = status.BadLogs
+refusal_status ScriptTooLong = status.BadScript
+refusal_status LaterScript = status.BadScript
+
+abbrev pub refusal_output : Refusal → Output
+refusal_output refusal = record { text = line_of refusal; status = refusal_status refusal }
+
+-- what a run of this form is to write, and with which status it ends
+abbrev pub output_for : Option Form → List ℕ → List ℕ → Output
+output_for form logs script = output_of refusal_output (run_of form logs script)
+
+-- the same by its words
+abbrev pub outcome : List (List ℕ) → List ℕ → List ℕ → Output
+outcome words = output_for (form_of words)
+
+-- ---- what a refusal leaves, beside its line
+
+-- Where the logs are refused, the script is as it was. Where the script is, the logs were read to their end.
+pub record InOrder (reads : Reads) (result : Status) (logs script : Stream) : Type 0 where
+  pub logs_first : result ≡ status.BadLogs → IsUntouched script
+  pub script_next : result ≡ status.BadScript → Used reads.logs (Unit {0}) logs
+
+-- the same of an input that stopped
+abbrev pub StopsInOrder : Reads → Stop Refusal → Stream → Stream → Type 0
+StopsInOrder reads (stop.Refused refusal) logs script = InOrder reads (refusal_status refusal) logs script
+StopsInOrder reads stop.ReadFault logs script = Unit {0}
+StopsInOrder reads stop.NoMemory logs script = Unit {0}
+
+-- what words that form no command may end with
+abbrev pub IsUsage : Status → Type 0
+IsUsage status.Usage = Unit {0}
+IsUsage status.WriteFault = Unit {0}
+IsUsage status.NoMemory = Unit {0}
+IsUsage other = ⊥

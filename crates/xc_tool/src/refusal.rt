@@ -1,0 +1,55 @@
+// Why an input is refused.
+ghost use Rattle.std.specs.Prelude.{◌≡◌, IfOk, string_bytes};
+ghost use Rattle.xc_tool.specs.Outcome.{line_of, refusal_status};
+
+use std::alloc::{AllocError, Global};
+use xc_base::Status;
+use xc_text::LogKind;
+
+/// Why an input is refused.
+#[derive(Clone, Copy, Debug, PartialEq, Eq)]
+pub enum Refusal {
+    /// The logs have more than 2^26 bytes.
+    LogsTooLong,
+    /// The first bad line of the logs, counted from 1, and why it is bad.
+    BadLogs { line: u64, kind: LogKind },
+    /// The logs are well formed, but a replay doesn't take them yet.
+    LaterLogs,
+    /// The script has more than 2^20 bytes.
+    ScriptTooLong,
+    /// The script is none that a replay takes now.
+    LaterScript,
+}
+
+impl Refusal {
+    /// The status that a refused run ends with.
+    pub fn status(self) -> Status
+        ensures { result ≡ refusal_status self }
+    {
+        match self {
+            Refusal::LogsTooLong | Refusal::BadLogs { .. } | Refusal::LaterLogs => Status::BadLogs,
+            Refusal::ScriptTooLong | Refusal::LaterScript => Status::BadScript,
+        }
+    }
+
+    /// The line that a refused run writes, with its end.
+    pub fn line(self, alloc: Global) -> Result<String, AllocError>
+        ensures { IfOk result (λ line. string_bytes line ≡ line_of self) }
+    {
+        match self {
+            Refusal::LogsTooLong => String::from_str(alloc, "logs too long\n"),
+            Refusal::BadLogs { line, kind } => bad_logs(alloc, line, kind),
+            Refusal::LaterLogs => String::from_str(alloc, "bad logs 0 later\n"),
+            Refusal::ScriptTooLong => String::from_str(alloc, "script too long\n"),
+            Refusal::LaterScript => String::from_str(alloc, "bad script 0 later\n"),
+        }
+    }
+}
+
+fn bad_logs(alloc: Global, line: u64, kind: LogKind) -> Result<String, AllocError>
+    ensures { IfOk result (λ text. string_bytes text ≡ line_of (Refusal.BadLogs line kind)) }
+{
+    let name = kind.name();
+    let text = format!(in alloc; "bad logs {line} {name}\n")?;
+    Ok(text)
+}

@@ -1,0 +1,112 @@
+// What the commands of the tool are made of: reading a source whole, and writing a text.
+ghost use Rattle.std.specs.Prelude.{◌≡◌, IfOk, IfErr, IsErrOf, Ok};
+ghost use Rattle.xc_base.specs.Ran.{StopsAt, Took, Wrote, Ended};
+ghost use Rattle.xc_base.specs.Streams.{stream};
+ghost use Rattle.xc_tool.specs.Script.{script_of};
+ghost use Rattle.xc_tool.specs.Outcome.{logs_input, logs_in, script_input, script_taken, refusal_output, usage_output};
+ghost use Rattle.xc_tool.specs.Later.{IsTaken};
+
+use crate::later::is_later;
+use crate::refusal::Refusal;
+use crate::script::{Requests, read_script};
+use std::alloc::Global;
+use xc_base::{ReadAllFail, Sink, SinkFail, Source, Status, Stop, read_all, write_all};
+use xc_record::Logs;
+use xc_text::{LogsFail, read_logs};
+
+const LOGS_LIMIT: u64 = 1 << 26;
+
+const SCRIPT_LIMIT: u64 = 1 << 20;
+
+const USAGE: &str = "usage: the words after xcr do not form a command\n";
+
+/// The logs of a source.
+pub fn take_logs<L: Source>(alloc: Global, logs: &mut L) -> Result<Logs, Stop<Refusal>>
+    ensures took { Took logs_input result (stream L.left L.faults logs.old logs.new) }
+    ensures taken { IfOk result IsTaken }
+{
+    let text = match read_all(alloc, logs, LOGS_LIMIT) {
+        Ok(text) => text,
+        Err(ReadAllFail::TooLong) => return Err(Stop::Refused(Refusal::LogsTooLong)),
+        Err(ReadAllFail::Failed) => return Err(Stop::ReadFault),
+        Err(ReadAllFail::NoMemory) => return Err(Stop::NoMemory),
+    };
+    logs_in(alloc, text.as_slice())
+}
+
+// The logs that a text spells, where a replay takes them.
+fn logs_in(alloc: Global, text: &[u8]) -> Result<Logs, Stop<Refusal>>
+    ensures read { IfOk result (λ logs. logs_in text.now ≡ Ok logs) }
+    ensures refused { IfErr result (StopsAt (logs_in text.now)) }
+    ensures memory { IsErrOf result Stop.ReadFault → ⊥ }
+    ensures taken { IfOk result IsTaken }
+{
+    match read_logs(alloc, text) {
+        Ok(logs) if is_later(&logs) => Err(Stop::Refused(Refusal::LaterLogs)),
+        Ok(logs) => Ok(logs),
+        Err(LogsFail::Bad { line, kind }) => Err(Stop::Refused(Refusal::BadLogs { line, kind })),
+        Err(LogsFail::NoMemory) => Err(Stop::NoMemory),
+    }
+}
+
+/// The commands of a source.
+pub fn take_script<S: Source>(alloc: Global, script: &mut S) -> Result<Requests, Stop<Refusal>>
+    ensures { Took script_input result (stream S.left S.faults script.old script.new) }
+{
+    let text = match read_all(alloc, script, SCRIPT_LIMIT) {
+        Ok(text) => text,
+        Err(ReadAllFail::TooLong) => return Err(Stop::Refused(Refusal::ScriptTooLong)),
+        Err(ReadAllFail::Failed) => return Err(Stop::ReadFault),
+        Err(ReadAllFail::NoMemory) => return Err(Stop::NoMemory),
+    };
+    script_in(alloc, text.as_slice())
+}
+
+// The commands that a text spells, where a replay takes them.
+fn script_in(alloc: Global, text: &[u8]) -> Result<Requests, Stop<Refusal>>
+    ensures read { IfOk result (λ commands. script_taken (script_of text.now) ≡ Ok commands) }
+    ensures refused { IfErr result (StopsAt (script_taken (script_of text.now))) }
+    ensures memory { IsErrOf result Stop.ReadFault → ⊥ }
+{
+    match read_script(alloc, text) {
+        Ok(Some(requests)) => Ok(requests),
+        Ok(None) => Err(Stop::Refused(Refusal::LaterScript)),
+        Err(_) => Err(Stop::NoMemory),
+    }
+}
+
+/// Writes the line of a refusal.
+pub fn refuse<O: Sink>(alloc: Global, refusal: Refusal, out: &mut O) -> Status
+    ensures { Wrote (refusal_output refusal) ⊥ result (stream O.written O.faults out.old out.new) }
+{
+    let Ok(line) = refusal.line(alloc) else {
+        return Status::NoMemory;
+    };
+    match write_all(out, line.as_bytes()) {
+        Ok(()) => refusal.status(),
+        Err(SinkFail::Failed) => Status::WriteFault,
+        Err(SinkFail::NoMemory) => Status::NoMemory,
+    }
+}
+
+/// Writes the usage line.
+pub fn usage<O: Sink>(out: &mut O) -> Status
+    ensures { Wrote usage_output ⊥ result (stream O.written O.faults out.old out.new) }
+{
+    match write_all(out, USAGE.as_bytes()) {
+        Ok(()) => Status::Usage,
+        Err(SinkFail::Failed) => Status::WriteFault,
+        Err(SinkFail::NoMemory) => Status::NoMemory,
+    }
+}
+
+/// Ends a run whose input stopped.
+pub fn end<O: Sink>(alloc: Global, stop: Stop<Refusal>, out: &mut O) -> Status
+    ensures { Ended refusal_output stop result (stream O.written O.faults out.old out.new) }
+{
+    match stop {
+        Stop::Refused(refusal) => refuse(alloc, refusal, out),
+        Stop::ReadFault => Status::ReadFault,
+        Stop::NoMemory => Status::NoMemory,
+    }
+}

@@ -1,0 +1,32 @@
+// The words of the command line.
+ghost use Rattle.std.specs.Prelude.{◌≡◌, map, string_bytes};
+ghost use Rattle.xc_tool.specs.Words.{form_of, is_name};
+
+/// A command of the command line.
+#[derive(Clone, Copy, Debug, PartialEq, Eq)]
+pub enum Form {
+    /// `replay LOGS SCRIPT` pulls the logs as the script asks, and prints what it answers.
+    Replay,
+}
+
+fn is_name(word: &str) -> bool
+    ensures { result ≡ is_name word.now }
+{
+    match word.as_bytes() {
+        [] => false,
+        [first, ..] => *first != b'-',
+    }
+}
+
+/// The command that the words form, or None.
+pub fn form_of(words: &[String]) -> Option<Form>
+    ensures { result ≡ form_of (map string_bytes words.now) }
+{
+    match words {
+        [word, logs, script]
+            if word.as_str() == "replay" && is_name(logs.as_str()) && is_name(script.as_str()) => {
+            Some(Form::Replay)
+        }
+        _ => None,
+    }
+}

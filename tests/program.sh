@@ -1,0 +1,38 @@
+#!/bin/sh
+# Runs the program that was built where files and the standard output fail, which no stored run can show.
+set -u
+cd "$(dirname "$0")/../crates/xcr" || exit 1
+program=$PWD/out/xcr
+folder=$(mktemp -d) || exit 1
+trap 'rm -rf "$folder"' EXIT
+cp data/logs data/script "$folder" && cd "$folder" || exit 1
+failed=0
+
+# shows NAME STATUS OUTPUT WORD..: the run of the words ends with the status, and OUTPUT is what it wrote
+shows() {
+    name=$1 status=$2 output=$3
+    shift 3
+    found=$("$program" "$@")
+    code=$?
+    if [ "$code" -eq "$status" ] && [ "$found" = "$output" ]; then
+        echo "ok: $name"
+    else
+        echo "FAILED: $name: status $code for $status, output: $found"
+        failed=1
+    fi
+}
+
+shows 'logs that are not there fail at their first read' 5 '' replay none script
+shows 'a script that is not there fails at its first read' 5 '' replay logs none
+shows 'a folder cannot be read' 5 '' replay . script
+shows 'no words form no command' 1 'usage: the words after xcr do not form a command'
+
+"$program" replay logs script >/dev/full
+code=$?
+if [ "$code" -eq 6 ]; then
+    echo 'ok: a full device fails at the first write'
+else
+    echo "FAILED: a full device fails at the first write: status $code for 6"
+    failed=1
+fi
+exit "$failed"

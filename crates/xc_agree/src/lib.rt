@@ -1,7 +1,7 @@
 //! The audit of whole logs: what each tablet accepts, where it ends, and whether the tablets agree.
 #![tactic(auto)]
 
-mod agree;
+mod judgement;
 mod audit;
 mod cases;
 mod commits;
@@ -11,5 +11,5 @@ mod look;
 mod run;
 mod tablets;
 
-pub use agree::audit_logs;
+pub use judgement::agree;
 pub use audit::{AgreeFail, Audit, End, EndState, Ends};

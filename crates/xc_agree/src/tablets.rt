@@ -1,5 +1,5 @@
 // All tablets of logs within the rules, from the first to the last.
-ghost use Rattle.std.specs.Prelude.{◌≡◌, IfOk, [], true};
+ghost use Rattle.std.specs.Prelude.{IfOk, IsTrue, []};
 ghost use Rattle.xc_record.specs.Accepted.{accepted_tablets_after};
 ghost use Rattle.xc_record.specs.Valid.{is_valid};
 ghost use Rattle.xc_agree.specs.Runs.{IsRuns};
@@ -20,7 +20,7 @@ pub fn note_commits(
     runs: &[Run],
 ) -> Result<Commits, AllocError>
     requires runs { IsRuns runs.now (accepted_tablets_after [] tablets.now) tablets.now }
-    requires valid { is_valid (of_tablets tablets.now) ≡ true }
+    requires valid { IsTrue (is_valid (of_tablets tablets.now)) }
     ensures { IfOk result (λ commits. AreCommits commits (all_records (accepted_tablets_after [] tablets.now))) }
 {
     let mut commits = Commits::new(alloc);
@@ -38,7 +38,7 @@ pub fn first_case(
     commits: &Commits,
 ) -> Result<Option<Case>, AllocError>
     requires runs { IsRuns runs.now (accepted_tablets_after [] tablets.now) tablets.now }
-    requires valid { is_valid (of_tablets tablets.now) ≡ true }
+    requires valid { IsTrue (is_valid (of_tablets tablets.now)) }
     ensures { IfOk result (λ first. IsFirst first (cases_of (of_tablets tablets.now) commits.now (accepted_tablets_after [] tablets.now))) }
 {
     let mut lefts = Vec::with_capacity(alloc, tablets.len())?;

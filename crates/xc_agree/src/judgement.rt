@@ -1,7 +1,5 @@
 // The audit.
-ghost use Rattle.std.specs.Prelude.{◌≡◌, IfOk, IfErr, [], true, map};
-ghost use Rattle.xc_record.specs.Accepted.{accepted_tablets_after};
-ghost use Rattle.xc_record.specs.Valid.{is_valid};
+ghost use Rattle.std.specs.Prelude.{◌≡◌, IfOk, IfErr, map};
 ghost use Rattle.xc_agree.specs.Audit.{IsAudit, IsFail};
 ghost use Rattle.xc_agree.specs.Runs.{end_from};
 
@@ -9,7 +7,7 @@ use crate::audit::{AgreeFail, Audit, End, EndState, Ends};
 use crate::run::{Run, run_tablets};
 use crate::tablets::{first_case, note_commits};
 use std::alloc::{AllocError, Global};
-use xc_record::{Logs, Tablet};
+use xc_logs::LogSet;
 
 fn end_of(run: &Run) -> End
     ensures { result ≡ end_from run.now }
@@ -51,19 +49,20 @@ fn ends_of(alloc: Global, runs: &[Run]) -> Result<Ends, AllocError>
 /// Judges whole logs: whether the tablets agree on every transaction that was applied, and if so how far each tablet's
 /// log is accepted and how many writes and transactions commit.
 ///
-/// The logs are within the rules on tablets and records and within the limits, as `valid` says.
+/// For n records and m operations it takes time proportional to (n + m) log n.
 ///
 /// # Errors
 ///
 /// `Disagree` exactly where the logs disagree, with the case of the least transaction, then of the least tablet, then of
-/// the first kind; `NoMemory` where memory is short, whatever the logs say.
-pub fn audit_logs(alloc: Global, logs: &Logs) -> Result<Audit, AgreeFail>
-    requires { is_valid logs.now ≡ true }
+/// the first kind. `NoMemory` where memory is refused, whatever the logs say.
+pub fn agree(alloc: Global, logs: &LogSet) -> Result<Audit, AgreeFail>
     ensures audit { IfOk result (IsAudit logs.now) }
     ensures fail { IfErr result (IsFail logs.now) }
 {
-    let tablets = logs.tablets.as_slice();
-    let Ok(runs) = run_tablets(alloc, tablets) else { return Err(AgreeFail::NoMemory) };
+    let tablets = logs.tablets();
+    let Ok(runs) = run_tablets(alloc, tablets) else {
+        return Err(AgreeFail::NoMemory);
+    };
     let Ok(commits) = note_commits(alloc, tablets, runs.as_slice()) else {
         return Err(AgreeFail::NoMemory);
     };

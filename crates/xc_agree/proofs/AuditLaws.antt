@@ -1,9 +1,8 @@
 -- Laws of the audit.
 use Rattle.std.proofs.Common.{◌≡◌, ℕ, zero, suc, ◌+◌, ◌<◌, Bool, true, false, ◌||◌, List, [], ◌∷◌, ◌++◌, length, map, refl, ap, sym, ◌∙◌, subst, arith, length-append}
-use Rattle.std.proofs.lemmas.Bool.Decides.{nat_tests}
 use Rattle.std.proofs.lemmas.Bool.{eqb-true, eq-eqb}
-use Rattle.std.specs.Prelude.{Option, Some, None, ◌==◌, slice_get, flat_map, if◌then◌else◌, is_some, option_map, option_and_then}
-use Rattle.std.specs.List.{list_any, filter_map, cons_option}
+use Rattle.std.specs.Prelude.{Option, Some, None, ◌==◌, slice_get, flat_map, if◌then◌else◌, is_some, option_map}
+use Rattle.std.specs.List.{filter_map, cons_option}
 use Rattle.std.specs.Option.{option_map_or}
 use Rattle.std.specs.declared.cmp.Ordering.{Ordering}
 use Rattle.std.specs.Ordering.{is_gt}
@@ -12,21 +11,20 @@ use Rattle.xc_record.specs.declared.record.Op.{Op}
 use Rattle.xc_record.specs.declared.record.Record.{Record}
 use Rattle.xc_record.specs.declared.record.Tablet.{Tablet}
 use Rattle.xc_record.specs.declared.record.Logs.{Logs}
-use Rattle.xc_record.specs.Accepted.{AcceptedTablet, accepted_tablets, accepted_tablets_after, accepted_tablet, halt, halt_from}
+use Rattle.xc_record.specs.Accepted.{AcceptedTablet, accepted_tablets, accepted_tablets_after, accepted_tablet, halt}
 use Rattle.xc_record.specs.Commits.{Commit, commit_cmp, applies, applied_txn, distinct, write_ops, writes_in, write_commits, txn_ops, txn_commits, commits, commit_of, applied}
 use Rattle.xc_record.specs.Agreement.{Disagreement, disagreement, disagreement_on, kind_at}
 use Rattle.xc_record.specs.Lists.{first_some, or_else, sort_by, insert_by}
 use Rattle.xc_record.proofs.AgreementLaws.{commit-applied}
-use Rattle.xc_agree.specs.declared.audit.End.{End}
 use Rattle.xc_agree.specs.declared.audit.EndState.TheVariants.{Unreached}
 use Rattle.xc_agree.specs.declared.cases.Case.{Case}
 use Rattle.xc_agree.specs.declared.run.Halt.{Halt}
 use Rattle.xc_agree.specs.declared.run.Run.{Run}
 use Rattle.xc_agree.specs.declared.commits.Commits.{Commits}
 use Rattle.xc_agree.specs.Runs.{IsRun, IsRuns, end_from, halt_state, halt_at}
-use Rattle.xc_agree.specs.Tally.{time_of, first_commit, writes, applied_in, tally, AreCommits}
+use Rattle.xc_agree.specs.Tally.{time_of, first_commit, writes, applied_in, AreCommits}
 use Rattle.xc_agree.specs.declared.audit.Audit.{Audit}
-use Rattle.xc_agree.specs.Audit.{end_of, state_of, state_after, IsAudit}
+use Rattle.xc_agree.specs.Audit.{end_of, state_of, IsAudit}
 use Rattle.xc_agree.specs.Cases.{IsFirst, case_of, cases_of, of_tablets, all_records}
 use Rattle.xc_agree.proofs.TallyLaws.{has, has-distinct, has-applied, Rising, distinct-rising, first-append, filter_map-append}
 
@@ -59,7 +57,7 @@ accepted-of ts = refl
 pub ends-here : (ts : List Tablet) (runs : List Run) → IsRuns runs (accepted_tablets_after [] ts) ts → (s : ℕ) → slice_get (map end_from runs) s ≡ option_map (end_of (of_tablets ts) s) (accepted_tablet (of_tablets ts) s)
 ends-here ts runs h s =
     ends-from (of_tablets ts) runs (accepted_tablets_after [] ts) ts s s h (λ run b t e f r. end-same (of_tablets ts) s run b t r f (ap (λ bs. slice_get bs s) (accepted-of ts) ∙ e))
-        ∙ ap (λ bs. option_map (end_of (of_tablets ts) s) (slice_get bs s)) (sym (accepted-of ts))
+    ∙ ap (λ bs. option_map (end_of (of_tablets ts) s) (slice_get bs s)) (sym (accepted-of ts))
 
 -- ---- the commits
 
@@ -110,7 +108,7 @@ writes-flat : (bs : List AcceptedTablet) → length (flat_map (λ b. writes_in b
 writes-flat [] = refl
 writes-flat (b ∷ bs) =
     length-append (writes_in b.header.id b.records) (flat_map (λ b. writes_in b.header.id b.records) bs) ∙ ap (λ k. k + length (flat_map (λ (b : AcceptedTablet). writes_in b.header.id b.records) bs)) (writes-in b.header.id b.records)
-        ∙ ap (λ k. writes b.records + k) (writes-flat bs) ∙ sym (writes-append b.records (all_records bs))
+    ∙ ap (λ k. writes b.records + k) (writes-flat bs) ∙ sym (writes-append b.records (all_records bs))
 
 writes-here : (ts : List Tablet) → length (write_commits (of_tablets ts)) ≡ writes (all_records (accepted_tablets_after [] ts))
 unfolding write_commits
@@ -136,8 +134,8 @@ txns-here : (ts : List Tablet) → length (txn_commits (of_tablets ts)) ≡ leng
 unfolding txn_commits
 txns-here ts =
     each-one (commit_of (of_tablets ts)) (λ n c. record { time = c; txn = n; tablet = 0; ops = txn_ops (of_tablets ts) n }) (applied (of_tablets ts))
-        (λ n h. ap (λ o. is_some o) (sym (commit-here ts n)) ∙ sym (has-applied n (all_records (accepted_tablets_after [] ts))) ∙ sym (has-distinct n (applied_in (all_records (accepted_tablets_after [] ts)))) ∙ ap (has n) (sym (applied-here ts)) ∙ h)
-        ∙ ap length (applied-here ts)
+    (λ n h. ap (λ o. is_some o) (sym (commit-here ts n)) ∙ sym (has-applied n (all_records (accepted_tablets_after [] ts))) ∙ sym (has-distinct n (applied_in (all_records (accepted_tablets_after [] ts)))) ∙ ap (has n) (sym (applied-here ts)) ∙ h)
+    ∙ ap length (applied-here ts)
 
 pub commits-here : (ts : List Tablet) (found : Commits) → AreCommits found (all_records (accepted_tablets_after [] ts)) → found.count ≡ length (commits (of_tablets ts))
 unfolding commits
@@ -191,7 +189,7 @@ unfolding disagreement
 disagrees-here ts commits d h f =
     let here : case_at (of_tablets ts) d.txn ≡ Some (case_of d.txn d.tablet d.kind) = cases-here ts commits h d.txn ∙ f.0 in
     first-of-rising (case_at (of_tablets ts)) (case_of d.txn d.tablet d.kind) d.txn (applied (of_tablets ts))
-        (subst Rising (sym (applied-here ts)) (distinct-rising (applied_in (all_records (accepted_tablets_after [] ts))))) (has-case (of_tablets ts) d.txn (case_of d.txn d.tablet d.kind) here) here (λ m below. cases-here ts commits h m ∙ f.1 m below)
+    (subst Rising (sym (applied-here ts)) (distinct-rising (applied_in (all_records (accepted_tablets_after [] ts))))) (has-case (of_tablets ts) d.txn (case_of d.txn d.tablet d.kind) here) here (λ m below. cases-here ts commits h m ∙ f.1 m below)
 
 -- ---- the whole audit
 

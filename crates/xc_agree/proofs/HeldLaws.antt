@@ -1,15 +1,13 @@
 -- Laws of what is held.
-use Rattle.std.proofs.Common.{◌≡◌, ℕ, zero, suc, ◌+◌, ◌-◌, ◌<◌, ◌≤◌, Bool, true, false, ◌||◌, List, [], ◌∷◌, ◌++◌, length, take, drop, get_or, refl, ap, sym, ◌∙◌, subst, arith, length-append}
+use Rattle.std.proofs.Common.{◌≡◌, ℕ, zero, suc, ◌+◌, ◌-◌, ◌<◌, ◌≤◌, Bool, true, false, ◌||◌, List, [], ◌∷◌, ◌++◌, length, take, drop, get_or, refl, ap, sym, ◌∙◌, arith, length-append}
 use Rattle.std.proofs.lemmas.Bool.Decides.{nat_tests}
 use Rattle.std.proofs.lemmas.Bool.{eqb-true}
 use Rattle.std.proofs.lemmas.List.{take_more}
 use Rattle.std.proofs.lemmas.List.Folds.{list_any-append}
 use Rattle.std.specs.Prelude.{Option, Some, None, ◌&&◌, ◌==◌, nat_le}
-use Rattle.std.specs.List.{list_any}
-use Rattle.std.specs.Option.{option_map_or}
 use Rattle.xc_record.specs.declared.record.Record.{Record}
 use Rattle.xc_agree.specs.declared.held.Held.{Held}
-use Rattle.xc_agree.specs.Held.{is_held, intends_kind, intends, intends_since, is_start, is_since}
+use Rattle.xc_agree.specs.Held.{is_held, intends_kind, intends, intends_since, is_since}
 
 or-false : (b : Bool) → (b || false) ≡ b
 or-false true = refl
@@ -24,8 +22,8 @@ pub keep-more : (stays : ℕ → ℕ → Bool) (old new : ℕ → ℕ → Bool) 
     → (n h : ℕ) → new n h ≡ (is_held (take (i + 1) held) n h && stays n h)
 keep-more stays old new held i x d below is was step n h =
     let one : is_held (take (i + 1) held) n h ≡ (is_held (take i held) n h || (x.txn == n && x.hash == h)) =
-        ap (λ xs. is_held xs n h) (take_more held i d below ∙ ap (λ y. take i held ++ y ∷ []) (sym is)) ∙ list_any-append (λ y. y.txn == n && y.hash == h) (take i held) (x ∷ [])
-            ∙ ap (λ b. is_held (take i held) n h || b) (or-false (x.txn == n && x.hash == h)) in
+    ap (λ xs. is_held xs n h) (take_more held i d below ∙ ap (λ y. take i held ++ y ∷ []) (sym is)) ∙ list_any-append (λ y. y.txn == n && y.hash == h) (take i held) (x ∷ [])
+    ∙ ap (λ b. is_held (take i held) n h || b) (or-false (x.txn == n && x.hash == h)) in
     step n h ∙ ap (λ b. b || (stays x.txn x.hash && (x.txn == n && x.hash == h))) (was n h) ∙ same (x.txn == n) (x.hash == h) refl refl ∙ sym (ap (λ b. b && stays n h) one)
   where
     same : (p q : Bool) → x.txn == n ≡ p → x.hash == h ≡ q → ((is_held (take i held) n h && stays n h) || (stays x.txn x.hash && (p && q))) ≡ ((is_held (take i held) n h || (p && q)) && stays n h)
@@ -54,7 +52,7 @@ since-snoc n h (Some place) rs r = go (nat_le place (length rs + 1)) refl
     go true e =
         let low : place - 1 ≤ length rs = grind (arith, nat_tests) in
         ap (intends n h) (drop-more (place - 1) rs r low) ∙ list_any-append (λ x. intends_kind n h x.kind) (drop (place - 1) rs) (r ∷ [])
-            ∙ ap (λ b. intends n h (drop (place - 1) rs) || b) (or-false (intends_kind n h r.kind))
+        ∙ ap (λ b. intends n h (drop (place - 1) rs) || b) (or-false (intends_kind n h r.kind))
     go false e =
         let high : length (rs ++ r ∷ []) ≤ place - 1 = grind (arith, nat_tests, length-append {A = Record}) in
         let past : length rs ≤ place - 1 = grind (arith, nat_tests) in
@@ -65,7 +63,7 @@ pub since-more : (n h : ℕ) (since : Option ℕ) (rs : List Record) (i : ℕ) (
     → intends_since n h since (take (i + 1) rs) ≡ (intends_since n h since (take i rs) || (is_since (i + 1) since && intends_kind n h r.kind))
 since-more n h since rs i r below is =
     ap (intends_since n h since) (take_more rs i r below ∙ ap (λ y. take i rs ++ y ∷ []) (sym is)) ∙ since-snoc n h since (take i rs) r
-        ∙ ap (λ k. intends_since n h since (take i rs) || (is_since (k + 1) since && intends_kind n h r.kind)) (length-take i rs below)
+    ∙ ap (λ k. intends_since n h since (take i rs) || (is_since (k + 1) since && intends_kind n h r.kind)) (length-take i rs below)
   where
     length-take : (i : ℕ) (rs : List Record) → i < length rs → length (take i rs) ≡ i
     length-take zero rs h = refl
@@ -80,4 +78,4 @@ pub hold-more : (n h : ℕ) (since : Option ℕ) (rs : List Record) (i : ℕ) (r
     → old ≡ (base || intends_since n h since (take i rs)) → new ≡ (old || (is_since (i + 1) since && intends_kind n h r.kind)) → new ≡ (base || intends_since n h since (take (i + 1) rs))
 hold-more n h since rs i r old new base below is was step =
     step ∙ ap (λ b. b || (is_since (i + 1) since && intends_kind n h r.kind)) was ∙ or-assoc base (intends_since n h since (take i rs)) (is_since (i + 1) since && intends_kind n h r.kind)
-        ∙ ap (λ b. base || b) (sym (since-more n h since rs i r below is))
+    ∙ ap (λ b. base || b) (sym (since-more n h since rs i r below is))

@@ -1,20 +1,18 @@
 -- Laws of the operations of a transaction: those of its accepted intents.
-use Rattle.std.proofs.Common.{◌≡◌, ℕ, zero, suc, ◌+◌, Bool, true, false, ◌||◌, List, [], ◌∷◌, ◌++◌, refl, ap, sym, ◌∙◌, subst, arith}
+use Rattle.std.proofs.Common.{◌≡◌, ℕ, zero, suc, Bool, true, false, ◌||◌, List, [], ◌∷◌, ◌++◌, refl, ap, ◌∙◌, arith}
 use Rattle.std.proofs.lemmas.List.Folds.{list_any-append}
-use Rattle.std.specs.Prelude.{Option, Some, None, ◌&&◌, ◌==◌, if◌then◌else◌, flat_map, filter, slice_get}
+use Rattle.std.specs.Prelude.{Option, Some, None, if◌then◌else◌, flat_map, slice_get}
 use Rattle.std.specs.List.{list_any}
 use Rattle.std.specs.Option.{option_map_or}
 use Rattle.std.specs.declared.cmp.Ordering.{Ordering}
 use Rattle.std.specs.Ordering.{is_gt}
-use Rattle.xc_record.specs.declared.record.Kind.{Kind}
-use Rattle.xc_record.specs.declared.record.Kind.TheVariants.{Write, Intent, Apply, Abort, Safe, Split}
 use Rattle.xc_record.specs.declared.record.Op.{Op}
 use Rattle.xc_record.specs.declared.record.Record.{Record}
 use Rattle.xc_record.specs.declared.record.Logs.{Logs}
 use Rattle.xc_record.specs.Accepted.{AcceptedTablet, accepted_tablets}
 use Rattle.xc_record.specs.Commits.{Provisional, provisional_cmp, intent_ops, intents_in, txn_ops}
 use Rattle.xc_record.specs.Lists.{insert_by, sort_by}
-use Rattle.xc_record.proofs.AcceptedLaws.{Each, Each-append, Each-filter}
+use Rattle.xc_record.proofs.AcceptedLaws.{Each, Each-append}
 
 any-insert : {X : Type 0} (q : X → Bool) (cmp : X → X → Ordering) (x : X) (ys : List X) → list_any q (insert_by cmp x ys) ≡ (q x || list_any q ys)
 any-insert q cmp x [] = refl
@@ -60,7 +58,7 @@ unfolding txn_ops
 any-txn_ops logs n q =
     let all : List Provisional = flat_map (λ (b : AcceptedTablet). intents_in n b.header.id b.records) (accepted_tablets logs) in
     any-flat q (λ (i : Provisional). i.ops) (sort_by provisional_cmp all) ∙ any-sort (λ (i : Provisional). list_any q i.ops) provisional_cmp all
-        ∙ any-flat (λ (i : Provisional). list_any q i.ops) (λ (b : AcceptedTablet). intents_in n b.header.id b.records) (accepted_tablets logs) ∙ any-tablets n q (accepted_tablets logs)
+    ∙ any-flat (λ (i : Provisional). list_any q i.ops) (λ (b : AcceptedTablet). intents_in n b.header.id b.records) (accepted_tablets logs) ∙ any-tablets n q (accepted_tablets logs)
 
 -- the operations of the record, where it is an intent of n, are among those of n
 pub record OpsIn (logs : Logs) (n : ℕ) (r : Record) : Type 0 where

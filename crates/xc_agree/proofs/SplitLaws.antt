@@ -1,19 +1,18 @@
 -- Laws of the tablets around one of them.
-use Rattle.std.proofs.Common.{◌≡◌, ℕ, zero, suc, ◌+◌, ◌<◌, ◌≤◌, ◌^◌, Bool, true, false, List, [], ◌∷◌, ◌++◌, length, take, drop, get_or, sum_by, refl, ap, sym, ◌∙◌, subst, arith, append_assoc, length-append}
+use Rattle.std.proofs.Common.{◌≡◌, ℕ, zero, suc, ◌+◌, ◌<◌, ◌≤◌, ◌^◌, Bool, true, List, [], ◌∷◌, ◌++◌, length, take, drop, get_or, sum_by, refl, ap, sym, ◌∙◌, subst, arith, append_assoc, length-append}
 use Rattle.std.proofs.lemmas.Bool.Decides.{nat_tests}
-use Rattle.std.proofs.lemmas.Bool.{and_parts, leb-true, eq-eqb}
-use Rattle.std.proofs.lemmas.List.{append-nil, take_more}
+use Rattle.std.proofs.lemmas.Bool.{and_parts, leb-true}
+use Rattle.std.proofs.lemmas.List.{append-nil}
 use Rattle.std.proofs.lemmas.List.Sums.{sum_by-cons}
-use Rattle.std.specs.Prelude.{Option, Some, None, ◌&&◌, slice_get, flat_map, nat_le, if◌then◌else◌, map, is_some}
+use Rattle.std.specs.Prelude.{Option, Some, ◌&&◌, slice_get, nat_le, is_some}
 use Rattle.std.specs.List.{list_all, list_any}
 use Rattle.std.specs.Option.{option_map_or}
 use Rattle.xc_record.specs.declared.record.Kind.{Kind}
-use Rattle.xc_record.specs.declared.record.Kind.TheVariants.{Write, Intent, Apply, Abort, Safe, Split}
+use Rattle.xc_record.specs.declared.record.Kind.TheVariants.{Intent}
 use Rattle.xc_record.specs.declared.record.Header.{Header}
 use Rattle.xc_record.specs.declared.record.Op.{Op}
 use Rattle.xc_record.specs.declared.record.Record.{Record}
 use Rattle.xc_record.specs.declared.record.Tablet.{Tablet}
-use Rattle.xc_record.specs.declared.record.Logs.{Logs}
 use Rattle.xc_record.specs.Hash.{hash_of, holds}
 use Rattle.xc_record.specs.Headers.{headers_fit, children}
 use Rattle.xc_record.specs.Valid.{headers_of, is_valid, tablet_fits, record_fits, ends_fit, kind_fits, ops_fit, op_fits, ops_in, is_txn, is_time}
@@ -46,7 +45,7 @@ split_at (y ∷ ys) (suc i) x h e = ap (λ zs. y ∷ zs) (split_at ys i x (omega
 -- the tablet at i, with those before and after it
 pub around : (ts : List Tablet) (i : ℕ) (t : Tablet) → i < length ts → t ≡ get_or ts i t
     → accepted_tablets_after [] ts ≡ accepted_tablets_after [] (take i ts) ++ accepted_tablet_after (accepted_tablets_after [] (take i ts)) t
-        ∷ more (accepted_tablets_after [] (take i ts) ++ accepted_tablet_after (accepted_tablets_after [] (take i ts)) t ∷ []) (drop (suc i) ts)
+    ∷ more (accepted_tablets_after [] (take i ts) ++ accepted_tablet_after (accepted_tablets_after [] (take i ts)) t ∷ []) (drop (suc i) ts)
 around ts i t h e =
     ap (accepted_tablets_after []) (split_at ts i t h e) ∙ after-append [] (take i ts) (t ∷ drop (suc i) ts) ∙ after-more (accepted_tablets_after [] (take i ts)) (t ∷ drop (suc i) ts)
 
@@ -99,7 +98,7 @@ run-here runs ts i run t h below is at =
     let n : length (accepted_tablets_after [] (take i ts)) ≡ i = count-after [] (take i ts) ∙ ap (λ k. 0 + k) (take-count i ts (omega arith)) ∙ omega arith in
     let all : accepted_tablets_after [] ts ≡ accepted_tablets_after [] (take i ts) ++ b ∷ more (bs ++ b ∷ []) (drop (suc i) ts) = around ts i t below is in
     run-is runs (accepted_tablets_after [] ts) ts i run b t h (get-at runs i run (let k = runs-count runs (accepted_tablets_after [] ts) ts h in omega arith) at)
-        (ap (λ xs. slice_get xs i) all ∙ get-middle bs b (more (bs ++ b ∷ []) (drop (suc i) ts)) i n) (get-at ts i t below is)
+    (ap (λ xs. slice_get xs i) all ∙ get-middle bs b (more (bs ++ b ∷ []) (drop (suc i) ts)) i n) (get-at ts i t below is)
 
 take-within : {X : Type 0} (k : ℕ) (xs : List X) → length (take k xs) ≡ k → k ≤ length xs
 take-within zero xs e = omega arith

@@ -1,41 +1,37 @@
 -- Laws of the tablets one by one: the commits so far, what was left waiting, and the first case so far.
-use Rattle.std.proofs.Common.{◌≡◌, ℕ, zero, suc, ◌+◌, ◌<◌, ◌≤◌, ◌^◌, Bool, true, false, ◌||◌, List, [], ◌∷◌, ◌++◌, length, take, drop, get_or, sum_by, refl, ap, sym, ◌∙◌, subst, arith, append_assoc, length-append}
-use Rattle.std.proofs.lemmas.Bool.Decides.{nat_tests}
-use Rattle.std.proofs.lemmas.Bool.{and_parts, eqb-true}
+use Rattle.std.proofs.Common.{◌≡◌, ℕ, zero, suc, ◌+◌, ◌<◌, ◌≤◌, ◌^◌, Bool, true, false, List, [], ◌∷◌, ◌++◌, length, take, drop, get_or, sum_by, refl, ap, sym, ◌∙◌, subst, arith, append_assoc, length-append}
 use Rattle.std.proofs.lemmas.List.{append-nil, take_more}
-use Rattle.std.specs.Prelude.{Option, Some, None, ◌&&◌, ◌==◌, slice_get, flat_map, filter, nat_le, nat_lt, not, if◌then◌else◌, is_some, option_map, option_and_then, fold}
-use Rattle.std.specs.List.{list_all, list_any}
+use Rattle.std.specs.Prelude.{Option, Some, None, ◌&&◌, slice_get, flat_map, if◌then◌else◌, is_some, option_map, option_and_then, fold}
 use Rattle.std.specs.Option.{option_map_or}
 use Rattle.std.specs.declared.vec.Vec.{Vec}
 use Rattle.std.specs.declared.alloc.Global.{Global}
 use Rattle.xc_record.specs.declared.record.AgreeKind.{AgreeKind}
-use Rattle.xc_record.specs.declared.record.Header.{Header}
 use Rattle.xc_record.specs.declared.record.Record.{Record}
 use Rattle.xc_record.specs.declared.record.Tablet.{Tablet}
 use Rattle.xc_record.specs.declared.record.Logs.{Logs}
-use Rattle.xc_record.specs.Hash.{hash_of, holds}
+use Rattle.xc_record.specs.Hash.{holds}
 use Rattle.xc_record.specs.Order.{Progress, accepted_from}
 use Rattle.xc_record.specs.Accepted.{AcceptedTablet, accepted_tablets, accepted_tablets_after, accepted_tablet_after}
 use Rattle.xc_record.specs.Agreement.{Disagreement, kind_at, straggler}
 use Rattle.xc_record.specs.Lists.{first_some, or_else}
-use Rattle.xc_record.proofs.AcceptedLaws.{Each, IsGrown, accepted_tablet_after-grown}
+use Rattle.xc_record.proofs.AcceptedLaws.{Each, accepted_tablet_after-grown}
 use Rattle.xc_agree.specs.declared.run.Run.{Run}
 use Rattle.xc_agree.specs.declared.held.Held.{Held}
 use Rattle.xc_agree.specs.declared.cases.Case.{Case}
 use Rattle.xc_agree.specs.declared.look.Found.{Found}
 use Rattle.xc_agree.specs.declared.commits.Commits.{Commits}
-use Rattle.xc_agree.specs.Runs.{IsRun, IsRuns}
+use Rattle.xc_agree.specs.Runs.{IsRun}
 use Rattle.xc_agree.specs.Tally.{time_of, AreCommits}
-use Rattle.xc_agree.specs.Seen.{Seen, unseen, see, waits_from, kind_of, kind_at_end, pends, IsLeast, IsEnd}
+use Rattle.xc_agree.specs.Seen.{unseen, see, waits_from, kind_at_end, IsLeast, IsEnd}
 use Rattle.xc_agree.specs.Held.{is_held, writes_at, waits_by, IsLeft, HoldsCommits, seen_at_end}
 use Rattle.xc_agree.specs.Cases.{IsFirst, with_cases, case_of, held_from, items_of, line_through, AreLeft, cases_of, of_tablets, all_records}
 use Rattle.xc_agree.proofs.RunLaws.{accepted_tablets-snoc}
 use Rattle.xc_agree.proofs.TallyLaws.{first-append}
 use Rattle.xc_agree.proofs.WaitLaws.{waits-append}
-use Rattle.xc_agree.proofs.EndLaws.{differs-all, late-all, aborted-all, straggles, any_op, stands, Sound, stands-all}
-use Rattle.xc_agree.proofs.TreeLaws.{IsTree, at_hash, EndsAt, Before, Within, above_root, above_child, valid-tree, number-before}
+use Rattle.xc_agree.proofs.EndLaws.{differs-all, late-all, aborted-all, straggles, any_op, stands, stands-all}
+use Rattle.xc_agree.proofs.TreeLaws.{IsTree, at_hash, EndsAt, Before, Within, above_root, above_child, valid-tree}
 use Rattle.xc_agree.proofs.StragglerLaws.{OwnIn, line_above, straggler-held, nothing-waits}
-use Rattle.xc_agree.proofs.SplitLaws.{around, count-after, take-count, get-middle, IsSound, more, sum-at, sum-cons, own-here}
+use Rattle.xc_agree.proofs.SplitLaws.{around, get-middle, IsSound, more, sum-at, sum-cons, own-here}
 use Rattle.xc_agree.proofs.Steps.{take_past}
 
 -- ---- the kind at a tablet
@@ -243,13 +239,13 @@ cases-next ts commits bs b rest lefts all tree a own order n = go (time_of commi
   where
     go : (o : Option ℕ) → time_of commits n ≡ o
         → option_and_then (λ c. first_some (λ b. option_map (case_of n b.header.id) (kind_at (of_tablets ts) n c b)) (bs ++ b ∷ [])) o
-            ≡ or_else (option_and_then (λ c. first_some (λ b. option_map (case_of n b.header.id) (kind_at (of_tablets ts) n c b)) bs) o)
-                (option_map (case_of n b.header.id) (option_and_then (λ c. kind_at_end c (seen_at_end b.header (held_from lefts b.header.parent) b.records n c)) o))
+        ≡ or_else (option_and_then (λ c. first_some (λ b. option_map (case_of n b.header.id) (kind_at (of_tablets ts) n c b)) bs) o)
+        (option_map (case_of n b.header.id) (option_and_then (λ c. kind_at_end c (seen_at_end b.header (held_from lefts b.header.parent) b.records n c)) o))
     go None e = refl
     go (Some c) e =
         let k = kind-here (of_tablets ts) bs b rest all tree n c (held_from lefts b.header.parent) (λ h s. start-here lefts commits bs b rest a tree n c h e s b.header.parent refl) own order in
         first-append (λ (b : AcceptedTablet). option_map (case_of n b.header.id) (kind_at (of_tablets ts) n c b)) bs (b ∷ [])
-            ∙ ap (or_else (first_some (λ (b : AcceptedTablet). option_map (case_of n b.header.id) (kind_at (of_tablets ts) n c b)) bs)) (or-none (option_map (case_of n b.header.id) (kind_at (of_tablets ts) n c b)) ∙ ap (option_map (case_of n b.header.id)) (sym k))
+        ∙ ap (or_else (first_some (λ (b : AcceptedTablet). option_map (case_of n b.header.id) (kind_at (of_tablets ts) n c b)) bs)) (or-none (option_map (case_of n b.header.id) (kind_at (of_tablets ts) n c b)) ∙ ap (option_map (case_of n b.header.id)) (sym k))
 
 tree-of : (ts : List Tablet) → IsSound ts → accepted_tablets (of_tablets ts) ≡ accepted_tablets_after [] ts
 unfolding accepted_tablets
@@ -278,8 +274,8 @@ tablet-more ts i t run commits lefts after left found first next s below is r a 
     let one : accepted_tablets_after [] (take (i + 1) ts) ≡ accepted_tablets_after [] (take i ts) ++ accepted_tablet_after (accepted_tablets_after [] (take i ts)) t ∷ [] = tablets-more ts i t below is in
     let lefts_now : AreLeft (lefts ++ left ∷ []) commits (bs ++ b ∷ []) = lefts-more lefts left commits bs b a (left-next lefts left commits bs b rest a tree own leaves) in
     let first_now : IsFirst next (cases_of (of_tablets ts) commits (bs ++ b ∷ [])) =
-        first-same next _ (cases_of (of_tablets ts) commits (bs ++ b ∷ [])) (cases-next ts commits bs b rest lefts all tree a own order)
-            (step (cases_of (of_tablets ts) commits bs) (λ n. option_and_then (λ c. kind_at_end c (seen_at_end b.header (held_from lefts b.header.parent) b.records n c)) (time_of commits n)) f ends) in
+    first-same next _ (cases_of (of_tablets ts) commits (bs ++ b ∷ [])) (cases-next ts commits bs b rest lefts all tree a own order)
+    (step (cases_of (of_tablets ts) commits bs) (λ n. option_and_then (λ c. kind_at_end c (seen_at_end b.header (held_from lefts b.header.parent) b.records n c)) (time_of commits n)) f ends) in
     (subst (λ xs. AreLeft after commits xs) (sym one) (subst (λ xs. AreLeft xs commits (bs ++ b ∷ [])) (sym more_left) lefts_now), subst (λ xs. IsFirst next (cases_of (of_tablets ts) commits xs)) (sym one) first_now)
 
 -- the same, where what the tablets before left is seen as a slice
@@ -292,6 +288,6 @@ pub tablet-next : (ts : List Tablet) (i : ℕ) (t : Tablet) (run : Run) (commits
     → AreLeft after commits (accepted_tablets_after [] (take (i + 1) ts)) × IsFirst next (cases_of (of_tablets ts) commits (accepted_tablets_after [] (take (i + 1) ts)))
 tablet-next ts i t run commits lefts now after left found first next same s below is r a f is_end is_left step more_left =
     tablet-more ts i t run commits lefts after left found first next s below is r a f
-        (subst (λ xs. HoldsCommits (held_from xs t.header.parent) commits → IsEnd found commits (seen_at_end t.header (held_from xs t.header.parent) (take run.walk.accepted t.records))) same is_end)
-        (subst (λ xs. HoldsCommits (held_from xs t.header.parent) commits → IsLeft left.items commits t.header (held_from xs t.header.parent) (take run.walk.accepted t.records)) same is_left)
-        step more_left
+    (subst (λ xs. HoldsCommits (held_from xs t.header.parent) commits → IsEnd found commits (seen_at_end t.header (held_from xs t.header.parent) (take run.walk.accepted t.records))) same is_end)
+    (subst (λ xs. HoldsCommits (held_from xs t.header.parent) commits → IsLeft left.items commits t.header (held_from xs t.header.parent) (take run.walk.accepted t.records)) same is_left)
+    step more_left

@@ -1,19 +1,16 @@
 -- Laws of the accepted tablets' headers: what stands above a tablet on the path of a hash ends with its parent.
-use Rattle.std.proofs.Common.{◌≡◌, ℕ, zero, suc, ◌+◌, ◌-◌, ◌<◌, ◌≤◌, Bool, true, false, cond, List, [], ◌∷◌, ◌++◌, length, take, drop, map, refl, ap, sym, ◌∙◌, subst, arith, append_assoc, zero-add}
+use Rattle.std.proofs.Common.{◌≡◌, ℕ, suc, ◌+◌, ◌≤◌, Bool, true, false, cond, List, [], ◌∷◌, ◌++◌, length, take, map, refl, ap, sym, ◌∙◌, subst, arith, append_assoc}
 use Rattle.std.proofs.lemmas.Bool.Decides.{nat_tests}
 use Rattle.std.proofs.lemmas.Bool.{and_parts}
 use Rattle.std.proofs.lemmas.List.{append-nil}
-use Rattle.std.specs.Prelude.{Option, Some, None, ◌&&◌, filter, flat_map, slice_get, if◌then◌else◌, nat_lt, nat_le}
-use Rattle.std.specs.List.{list_all}
+use Rattle.std.specs.Prelude.{Option, Some, None, ◌&&◌, filter, slice_get, nat_lt}
 use Rattle.xc_record.specs.declared.record.Header.{Header}
 use Rattle.xc_record.specs.declared.record.Tablet.{Tablet}
-use Rattle.xc_record.specs.declared.record.Logs.{Logs}
-use Rattle.xc_record.specs.declared.record.Record.{Record}
 use Rattle.xc_record.specs.declared.rules.Next.{Next}
 use Rattle.xc_record.specs.declared.rules.Next.TheVariants.{RootAt}
 use Rattle.xc_record.specs.Hash.{holds}
 use Rattle.xc_record.specs.Headers.{fit_from, headers_fit, next_after}
-use Rattle.xc_record.specs.Valid.{headers_of, is_valid, tablet_fits}
+use Rattle.xc_record.specs.Valid.{headers_of}
 use Rattle.xc_record.specs.Accepted.{AcceptedTablet, accepted_tablets_after, accepted_tablet_after}
 use Rattle.xc_record.proofs.HeaderLaws.{Line, line_end, Numbered, Fits, Fits-snoc, Fits-none}
 
@@ -109,7 +106,7 @@ parent-line : (h : ℕ) (before : List AcceptedTablet) (b : AcceptedTablet) (res
     → b.header.parent ≡ line_end None (headers (at_hash h before))
 parent-line h before b rest l s =
     let whole : headers (at_hash h (before ++ b ∷ rest)) ≡ headers (at_hash h before) ++ b.header ∷ headers (at_hash h rest) =
-        ap headers (at_hash-append h before (b ∷ rest) ∙ ap (λ xs. at_hash h before ++ xs) (rw s refl)) ∙ map-append (at_hash h before) (b ∷ at_hash h rest) in
+    ap headers (at_hash-append h before (b ∷ rest) ∙ ap (λ xs. at_hash h before ++ xs) (rw s refl)) ∙ map-append (at_hash h before) (b ∷ at_hash h rest) in
     line-split None (headers (at_hash h before)) b.header (headers (at_hash h rest)) (subst (Line None) whole l)
 
 numbered-before : (m : ℕ) (before rest : List AcceptedTablet) → Numbered m (headers (before ++ rest)) → Numbered m (headers before)
@@ -176,6 +173,6 @@ pub below_number : (h : ℕ) (before : List AcceptedTablet) (b : AcceptedTablet)
 below_number h before b rest t =
     let i : b.header.id ≡ length before = number-before before b rest t in
     below-append h b.header.id before (b ∷ rest)
-        ∙ ap (λ xs. below h b.header.id before ++ xs) (none-below h b.header.id (0 + length before) (b ∷ rest) (numbered-after 0 before (b ∷ rest) t.numbered) (omega arith))
-        ∙ append-nil (below h b.header.id before)
-        ∙ all-below h b.header.id 0 before (numbered-before 0 before (b ∷ rest) t.numbered) (omega arith)
+    ∙ ap (λ xs. below h b.header.id before ++ xs) (none-below h b.header.id (0 + length before) (b ∷ rest) (numbered-after 0 before (b ∷ rest) t.numbered) (omega arith))
+    ∙ append-nil (below h b.header.id before)
+    ∙ all-below h b.header.id 0 before (numbered-before 0 before (b ∷ rest) t.numbered) (omega arith)

@@ -1,24 +1,23 @@
 -- Laws of waiting.
-use Rattle.std.proofs.Common.{◌≡◌, ℕ, zero, suc, ◌+◌, ◌-◌, ◌<◌, ◌≤◌, Bool, true, false, ◌||◌, List, [], ◌∷◌, ◌++◌, length, take, drop, get_or, refl, ap, sym, ◌∙◌, subst, arith, length-append, append_assoc}
+use Rattle.std.proofs.Common.{◌≡◌, ℕ, ◌+◌, ◌-◌, Bool, true, false, ◌||◌, List, [], ◌∷◌, ◌++◌, length, refl, ap, sym, ◌∙◌, subst, arith, length-append, append_assoc}
 use Rattle.std.proofs.lemmas.Bool.Decides.{nat_tests}
 use Rattle.std.proofs.lemmas.Bool.{eqb-true, eq-eqb}
 use Rattle.std.proofs.lemmas.List.{append-nil}
-use Rattle.std.specs.Prelude.{Option, Some, None, ◌&&◌, ◌==◌, nat_le, nat_lt, if◌then◌else◌, fold, is_some, option_and_then, not}
-use Rattle.std.specs.List.{list_any}
+use Rattle.std.specs.Prelude.{Option, Some, None, ◌&&◌, ◌==◌, nat_le, if◌then◌else◌, fold, is_some, option_and_then, not}
 use Rattle.std.specs.Option.{option_map_or}
 use Rattle.xc_record.specs.declared.record.Kind.{Kind}
 use Rattle.xc_record.specs.declared.record.Kind.TheVariants.{Write, Intent, Apply, Abort, Safe, Split}
 use Rattle.xc_record.specs.declared.record.Op.{Op}
 use Rattle.xc_record.specs.declared.record.Header.{Header}
 use Rattle.xc_record.specs.declared.record.Record.{Record}
-use Rattle.xc_record.specs.Hash.{holds, hash_of}
+use Rattle.xc_record.specs.Hash.{holds}
 use Rattle.xc_record.specs.Lists.{or_else}
 use Rattle.xc_agree.specs.declared.held.Held.{Held}
 use Rattle.xc_agree.specs.declared.look.Look.{Look}
 use Rattle.xc_agree.specs.declared.commits.Commits.{Commits}
 use Rattle.xc_agree.specs.Tally.{time_of}
 use Rattle.xc_agree.specs.Seen.{Seen, see, see_kind, settles, passes, unseen, waits_from, since_in, IsLook}
-use Rattle.xc_agree.specs.Held.{is_held, writes_at, intends_kind, intends, intends_since, is_start, is_since, wait_kind, waits_by, IsLeft, HoldsCommits, seen_at_end}
+use Rattle.xc_agree.specs.Held.{is_held, writes_at, intends, intends_since, is_start, wait_kind, waits_by, IsLeft, HoldsCommits, seen_at_end}
 use Rattle.xc_agree.proofs.HeldLaws.{since-snoc, drop-past}
 
 pub waits-append : (n : ℕ) (p : List Op → Bool) (w : Bool) (xs ys : List Record) → waits_by n p w (xs ++ ys) ≡ waits_by n p (waits_by n p w xs) ys
@@ -54,8 +53,8 @@ step-waits n c h held s done r time (Intent txn ops) e k = go (txn == n) refl s.
   where
     go : (b : Bool) → txn == n ≡ b → (o : Option ℕ) → s.since ≡ o
         → (if b && writes_at h ops then true else waits_by n (writes_at h) held done)
-            ≡ ((held && is_start (if b then record s { place = s.place + 1; since = or_else o (Some (s.place + 1)); late = s.late || nat_le c time } else record s { place = s.place + 1 }).since)
-                || intends_since n h (if b then record s { place = s.place + 1; since = or_else o (Some (s.place + 1)); late = s.late || nat_le c time } else record s { place = s.place + 1 }).since (done ++ r ∷ []))
+        ≡ ((held && is_start (if b then record s { place = s.place + 1; since = or_else o (Some (s.place + 1)); late = s.late || nat_le c time } else record s { place = s.place + 1 }).since)
+        || intends_since n h (if b then record s { place = s.place + 1; since = or_else o (Some (s.place + 1)); late = s.late || nat_le c time } else record s { place = s.place + 1 }).since (done ++ r ∷ []))
     go false f o g = grind (arith, k.waits, since-snoc n h s.since done r)
     go true f None g = grind (arith, k.waits, k.place, since-snoc n h (Some (s.place + 1)) done r, empty-since n h done)
     go true f (Some place) g = grind (arith, nat_tests, k.waits, k.place, k.below, since-snoc n h (Some place) done r)
@@ -77,14 +76,14 @@ below-see n c s time (Safe value) h = below-later s.place s.since h
 below-see n c s time (Split at left right) h = below-later s.place s.since h
 below-see n c s time (Apply txn commit) h =
     elim (txn == n) as (λ b. Below (if b then record (settles c s) { differs = s.differs || not (commit == c) } else passes s).place (if b then record (settles c s) { differs = s.differs || not (commit == c) } else passes s).since)
-        [ true ↦ refl | false ↦ below-later s.place s.since h ]
+    [ true ↦ refl | false ↦ below-later s.place s.since h ]
 below-see n c s time (Abort txn) h =
     elim (txn == n) as (λ b. Below (if b then record (settles c s) { aborted = true } else passes s).place (if b then record (settles c s) { aborted = true } else passes s).since)
-        [ true ↦ refl | false ↦ below-later s.place s.since h ]
+    [ true ↦ refl | false ↦ below-later s.place s.since h ]
 below-see n c s time (Intent txn ops) h =
     elim (txn == n) as (λ b. Below (if b then record s { place = s.place + 1; since = or_else s.since (Some (s.place + 1)); late = s.late || nat_le c time } else passes s).place
-            (if b then record s { place = s.place + 1; since = or_else s.since (Some (s.place + 1)); late = s.late || nat_le c time } else passes s).since)
-        [ true ↦ below-or s.place s.since h | false ↦ below-later s.place s.since h ]
+    (if b then record s { place = s.place + 1; since = or_else s.since (Some (s.place + 1)); late = s.late || nat_le c time } else passes s).since)
+    [ true ↦ below-or s.place s.since h | false ↦ below-later s.place s.since h ]
 
 pub place-see : (n c : ℕ) (s : Seen) (time : ℕ) (kind : Kind) → (see_kind n c s time kind).place ≡ s.place + 1
 place-see n c s time (Write ops) = refl
@@ -155,5 +154,5 @@ left-at-end look commits header held left rs k is n h = is n h ∙ go (time_of c
     go (Some c) e =
         let since : since_in look n ≡ (seen_at_end header held rs n c).since = k.since n ∙ ap (option_and_then (λ c. (seen_at_end header held rs n c).since)) e in
         let still : Still n h (is_held held n h && holds header h) (seen_at_end header held rs n c) rs =
-            still-all n c h (is_held held n h && holds header h) (unseen (waits_from header held n)) [] rs (still-begin n h (is_held held n h && holds header h) (waits_from header held n) (held-waits n h header held)) in
+        still-all n c h (is_held held n h && holds header h) (unseen (waits_from header held n)) [] rs (still-begin n h (is_held held n h && holds header h) (waits_from header held n) (held-waits n h header held)) in
         rw since (ap (λ b. b || intends_since n h (seen_at_end header held rs n c).since rs) (and-assoc (is_held held n h) (holds header h) (is_start (seen_at_end header held rs n c).since)) ∙ sym still.waits)

@@ -3,10 +3,9 @@
 --     end_of logs s b      the end of the tablet s, whose accepted tablet is b
 --     IsAudit logs a      the logs agree, and a has the ends of all tablets and counts the commits
 --     IsFail logs e      e is the first case of disagreement, or want of memory
-use Rattle.std.specs.Prelude.{◌≡◌, slice_get, option_map, ℕ, Bool, true, false, List, Option, Some, None, if◌then◌else◌, length, map}
+use Rattle.std.specs.Prelude.{◌≡◌, slice_get, option_map, ℕ, Option, Some, None, if◌then◌else◌, length}
 use Rattle.xc_record.specs.declared.record.Break.{Break}
 use Rattle.xc_record.specs.declared.record.Logs.{Logs}
-use Rattle.xc_record.specs.declared.record.Tablet.{Tablet}
 use Rattle.xc_record.specs.Accepted.{AcceptedTablet, accepted_tablet, halt}
 use Rattle.xc_record.specs.Agreement.{disagreement}
 use Rattle.xc_record.specs.Commits.{commits}

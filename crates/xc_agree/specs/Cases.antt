@@ -1,7 +1,7 @@
 -- The first case of disagreement, tablet by tablet.
 --     IsFirst first cases      first has the least transaction with a case, and that case
 --     held_from lefts parent      what the parent's records left waiting; nothing for a root
-use Rattle.std.specs.Prelude.{◌≡◌, ℕ, ◌+◌, ◌<◌, Bool, true, false, List, [], ◌∷◌, Option, Some, None, ◌&&◌, MatchOption, slice_get, length, option_map, option_and_then, is_some, take, flat_map, filter}
+use Rattle.std.specs.Prelude.{◌≡◌, ℕ, ◌+◌, ◌<◌, false, List, [], Option, Some, None, ◌&&◌, MatchOption, slice_get, length, option_map, option_and_then, is_some, take, flat_map, filter}
 use Rattle.std.specs.Option.{option_map_or}
 use Rattle.std.specs.declared.vec.Vec.{Vec}
 use Rattle.std.specs.declared.alloc.Global.{Global}
@@ -10,7 +10,7 @@ use Rattle.xc_record.specs.declared.record.Record.{Record}
 use Rattle.xc_record.specs.declared.record.Logs.{Logs}
 use Rattle.xc_record.specs.declared.record.Tablet.{Tablet}
 use Rattle.xc_record.specs.Hash.{holds}
-use Rattle.xc_record.specs.Accepted.{AcceptedTablet, accepted_tablets_after}
+use Rattle.xc_record.specs.Accepted.{AcceptedTablet}
 use Rattle.xc_record.specs.Agreement.{Disagreement, kind_at}
 use Rattle.xc_record.specs.Lists.{first_some, or_else}
 use Rattle.xc_agree.specs.declared.cases.Case.{Case}

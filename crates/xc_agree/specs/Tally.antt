@@ -2,7 +2,7 @@
 --     time_of commits n      the commit of the transaction n
 --     tally rs      how many writes and transactions commit by the records rs
 --     AreCommits commits rs      commits has the commits of the records rs
-use Rattle.std.specs.Prelude.{◌≡◌, ℕ, ◌+◌, ◌≤◌, List, Option, length}
+use Rattle.std.specs.Prelude.{◌≡◌, ℕ, ◌+◌, List, Option, length}
 use Rattle.std.specs.List.{filter_map}
 use Rattle.std.specs.Ordering.{nat_cmp}
 use Rattle.std.specs.BTreeMap.{get}

@@ -1,4 +1,4 @@
-use Rattle.std.proofs.Common.{◌≡◌, ℕ, take}
+use Rattle.std.proofs.Common.{ℕ, take}
 use Rattle.std.specs.Prelude.{option_and_then}
 use Rattle.xc_agree.specs.Tally.{time_of}
 use Rattle.xc_agree.specs.Seen.{Seen, IsLook, IsLeast, kind_tried, is_among}

@@ -1,0 +1,214 @@
+-- Laws of the audit.
+use Rattle.std.proofs.Common.{◌≡◌, ℕ, zero, suc, ◌+◌, ◌<◌, Bool, true, false, ◌||◌, List, [], ◌∷◌, ◌++◌, length, map, refl, ap, sym, ◌∙◌, subst, arith, length-append}
+use Rattle.std.proofs.lemmas.Bool.Decides.{nat_tests}
+use Rattle.std.proofs.lemmas.Bool.{eqb-true, eq-eqb}
+use Rattle.std.specs.Prelude.{Option, Some, None, ◌==◌, slice_get, flat_map, if◌then◌else◌, is_some, option_map, option_and_then}
+use Rattle.std.specs.List.{list_any, filter_map, cons_option}
+use Rattle.std.specs.Option.{option_map_or}
+use Rattle.std.specs.declared.cmp.Ordering.{Ordering}
+use Rattle.std.specs.Ordering.{is_gt}
+use Rattle.xc_record.specs.declared.record.Break.{Break}
+use Rattle.xc_record.specs.declared.record.Op.{Op}
+use Rattle.xc_record.specs.declared.record.Record.{Record}
+use Rattle.xc_record.specs.declared.record.Tablet.{Tablet}
+use Rattle.xc_record.specs.declared.record.Logs.{Logs}
+use Rattle.xc_record.specs.Accepted.{AcceptedTablet, accepted_tablets, accepted_tablets_after, accepted_tablet, halt, halt_from}
+use Rattle.xc_record.specs.Commits.{Commit, commit_cmp, applies, applied_txn, distinct, write_ops, writes_in, write_commits, txn_ops, txn_commits, commits, commit_of, applied}
+use Rattle.xc_record.specs.Agreement.{Disagreement, disagreement, disagreement_on, kind_at}
+use Rattle.xc_record.specs.Lists.{first_some, or_else, sort_by, insert_by}
+use Rattle.xc_record.proofs.AgreementLaws.{commit-applied}
+use Rattle.xc_agree.specs.declared.audit.End.{End}
+use Rattle.xc_agree.specs.declared.audit.EndState.TheVariants.{Unreached}
+use Rattle.xc_agree.specs.declared.cases.Case.{Case}
+use Rattle.xc_agree.specs.declared.run.Halt.{Halt}
+use Rattle.xc_agree.specs.declared.run.Run.{Run}
+use Rattle.xc_agree.specs.declared.commits.Commits.{Commits}
+use Rattle.xc_agree.specs.Runs.{IsRun, IsRuns, end_from, halt_state, halt_at}
+use Rattle.xc_agree.specs.Tally.{time_of, first_commit, writes, applied_in, tally, AreCommits}
+use Rattle.xc_agree.specs.declared.audit.Audit.{Audit}
+use Rattle.xc_agree.specs.Audit.{end_of, state_of, state_after, IsAudit}
+use Rattle.xc_agree.specs.Cases.{IsFirst, case_of, cases_of, of_tablets, all_records}
+use Rattle.xc_agree.proofs.TallyLaws.{has, has-distinct, has-applied, Rising, distinct-rising, first-append, filter_map-append}
+
+-- ---- the ends
+
+state-same : (reached : Bool) (b : AcceptedTablet) (h : Option Halt) (at : Option (ℕ × Break)) → reached ≡ b.reached → option_map halt_at h ≡ at → (if reached then halt_state b.end h else Unreached) ≡ state_of b at
+state-same reached b None at e f = rw (e, ← f) refl
+state-same reached b (Some h) at e f = rw (e, ← f) refl
+
+end-same : (logs : Logs) (s : ℕ) (run : Run) (b : AcceptedTablet) (t : Tablet) → IsRun run b t → slice_get logs.tablets s ≡ Some t → accepted_tablet logs s ≡ Some b → end_from run ≡ end_of logs s b
+unfolding halt
+end-same logs s run b t r e f =
+    let at : option_map halt_at run.walk.halt ≡ halt logs s = r.halt ∙ rw (f, e) refl in
+    rw (r.accepted, r.order, state-same run.reached b run.walk.halt (halt logs s) r.reached at) refl
+
+ends-from : (logs : Logs) (runs : List Run) (bs : List AcceptedTablet) (ts : List Tablet) (s i : ℕ) → IsRuns runs bs ts → ((run : Run) (b : AcceptedTablet) (t : Tablet) → slice_get bs i ≡ Some b → slice_get ts i ≡ Some t → IsRun run b t → end_from run ≡ end_of logs s b)
+    → slice_get (map end_from runs) i ≡ option_map (end_of logs s) (slice_get bs i)
+ends-from logs [] [] [] s i h k = refl
+ends-from logs (run ∷ runs) (b ∷ bs) (t ∷ ts) s zero h k = ap (λ x. Some x) (k run b t refl refl h.0)
+ends-from logs (run ∷ runs) (b ∷ bs) (t ∷ ts) s (suc i) h k = ends-from logs runs bs ts s i h.1 k
+ends-from logs [] [] (u ∷ ts) s i h k = absurd h
+ends-from logs [] (c ∷ bs) ts s i h k = absurd h
+ends-from logs (x ∷ runs) [] ts s i h k = absurd h
+ends-from logs (x ∷ runs) (c ∷ bs) [] s i h k = absurd h
+
+accepted-of : (ts : List Tablet) → accepted_tablets (of_tablets ts) ≡ accepted_tablets_after [] ts
+unfolding accepted_tablets
+accepted-of ts = refl
+
+pub ends-here : (ts : List Tablet) (runs : List Run) → IsRuns runs (accepted_tablets_after [] ts) ts → (s : ℕ) → slice_get (map end_from runs) s ≡ option_map (end_of (of_tablets ts) s) (accepted_tablet (of_tablets ts) s)
+ends-here ts runs h s =
+    ends-from (of_tablets ts) runs (accepted_tablets_after [] ts) ts s s h (λ run b t e f r. end-same (of_tablets ts) s run b t r f (ap (λ bs. slice_get bs s) (accepted-of ts) ∙ e))
+        ∙ ap (λ bs. option_map (end_of (of_tablets ts) s) (slice_get bs s)) (sym (accepted-of ts))
+
+-- ---- the commits
+
+first-flat : (n : ℕ) (bs : List AcceptedTablet) → first_commit n (all_records bs) ≡ first_some (λ b. first_some (λ r. applies n r.kind) b.records) bs
+first-flat n [] = refl
+first-flat n (b ∷ bs) = first-append (λ (r : Record). applies n r.kind) b.records (all_records bs) ∙ ap (or_else (first_some (λ r. applies n r.kind) b.records)) (first-flat n bs)
+
+-- the commit of a transaction is that of its first apply along all tablets
+pub commit-here : (ts : List Tablet) (n : ℕ) → first_commit n (all_records (accepted_tablets_after [] ts)) ≡ commit_of (of_tablets ts) n
+unfolding commit_of
+commit-here ts n = first-flat n (accepted_tablets_after [] ts) ∙ ap (first_some (λ (b : AcceptedTablet). first_some (λ r. applies n r.kind) b.records)) (sym (accepted-of ts))
+
+applied-flat : (bs : List AcceptedTablet) → applied_in (all_records bs) ≡ flat_map (λ b. filter_map (λ r. applied_txn r.kind) b.records) bs
+applied-flat [] = refl
+applied-flat (b ∷ bs) = filter_map-append (λ (r : Record). applied_txn r.kind) b.records (all_records bs) ∙ ap (λ xs. applied_in b.records ++ xs) (applied-flat bs)
+
+applied-here : (ts : List Tablet) → applied (of_tablets ts) ≡ distinct (applied_in (all_records (accepted_tablets_after [] ts)))
+unfolding applied
+applied-here ts = ap (λ bs. distinct (flat_map (λ (b : AcceptedTablet). filter_map (λ r. applied_txn r.kind) b.records) bs)) (accepted-of ts) ∙ ap distinct (sym (applied-flat (accepted_tablets_after [] ts)))
+
+length-insert : {X : Type 0} (cmp : X → X → Ordering) (x : X) (xs : List X) → length (insert_by cmp x xs) ≡ 1 + length xs
+length-insert cmp x [] = refl
+length-insert {X = X} cmp x (y ∷ ys) = go (length-insert cmp x ys) (is_gt (cmp x y))
+  where
+    go : length (insert_by cmp x ys) ≡ 1 + length ys → (b : Bool) → length (if b then (y ∷ insert_by cmp x ys) else (x ∷ y ∷ ys)) ≡ 1 + length (y ∷ ys)
+    go ih true = omega arith
+    go ih false = omega arith
+
+length-sort : {X : Type 0} (cmp : X → X → Ordering) (xs : List X) → length (sort_by cmp xs) ≡ length xs
+length-sort cmp [] = refl
+length-sort cmp (x ∷ xs) = let e = length-insert cmp x (sort_by cmp xs) in let f = length-sort cmp xs in omega arith
+
+writes-cons : (r : Record) (rs : List Record) (tablet : ℕ) → length (writes_in tablet rs) ≡ writes rs → length (writes_in tablet (r ∷ rs)) ≡ writes (r ∷ rs)
+writes-cons r rs tablet ih = go (write_ops r.kind)
+  where
+    go : (o : Option (List Op)) → length (option_map_or (λ ops. record { time = r.time; txn = 0; tablet = tablet; ops = ops } ∷ []) o [] ++ writes_in tablet rs) ≡ length (cons_option o (filter_map (λ r. write_ops r.kind) rs))
+    go None = ih
+    go (Some ops) = omega (arith, ih)
+
+writes-in : (tablet : ℕ) (rs : List Record) → length (writes_in tablet rs) ≡ writes rs
+writes-in tablet [] = refl
+writes-in tablet (r ∷ rs) = writes-cons r rs tablet (writes-in tablet rs)
+
+writes-append : (xs ys : List Record) → writes (xs ++ ys) ≡ writes xs + writes ys
+writes-append xs ys = ap length (filter_map-append (λ (r : Record). write_ops r.kind) xs ys) ∙ length-append (filter_map (λ r. write_ops r.kind) xs) (filter_map (λ r. write_ops r.kind) ys)
+
+writes-flat : (bs : List AcceptedTablet) → length (flat_map (λ b. writes_in b.header.id b.records) bs) ≡ writes (all_records bs)
+writes-flat [] = refl
+writes-flat (b ∷ bs) =
+    length-append (writes_in b.header.id b.records) (flat_map (λ b. writes_in b.header.id b.records) bs) ∙ ap (λ k. k + length (flat_map (λ (b : AcceptedTablet). writes_in b.header.id b.records) bs)) (writes-in b.header.id b.records)
+        ∙ ap (λ k. writes b.records + k) (writes-flat bs) ∙ sym (writes-append b.records (all_records bs))
+
+writes-here : (ts : List Tablet) → length (write_commits (of_tablets ts)) ≡ writes (all_records (accepted_tablets_after [] ts))
+unfolding write_commits
+writes-here ts = ap (λ bs. length (flat_map (λ (b : AcceptedTablet). writes_in b.header.id b.records) bs)) (accepted-of ts) ∙ writes-flat (accepted_tablets_after [] ts)
+
+each-one : (f : ℕ → Option ℕ) (g : ℕ → ℕ → Commit) (ns : List ℕ) → ((n : ℕ) → has n ns ≡ true → is_some (f n) ≡ true) → length (flat_map (λ n. option_map_or (λ c. g n c ∷ []) (f n) []) ns) ≡ length ns
+each-one f g [] k = refl
+each-one f g (n ∷ ns) k = go (f n) refl (k n (rw (eq-eqb n n refl) refl)) (each-one f g ns (λ m h. k m (or-right (n == m) h)))
+  where
+    or-right : (a : Bool) {b : Bool} → b ≡ true → (a || b) ≡ true
+    or-right true e = refl
+    or-right false e = e
+
+    go : (o : Option ℕ) → f n ≡ o → is_some (f n) ≡ true → length (flat_map (λ n. option_map_or (λ c. g n c ∷ []) (f n) []) ns) ≡ length ns
+        → length (option_map_or (λ c. g n c ∷ []) o [] ++ flat_map (λ n. option_map_or (λ c. g n c ∷ []) (f n) []) ns) ≡ length (n ∷ ns)
+    go None e h ih = absurd (no (sym h ∙ ap (λ o. is_some o) e))
+      where
+        no : true ≡ false → ⊥
+        no e = cc
+    go (Some c) e h ih = omega arith
+
+txns-here : (ts : List Tablet) → length (txn_commits (of_tablets ts)) ≡ length (distinct (applied_in (all_records (accepted_tablets_after [] ts))))
+unfolding txn_commits
+txns-here ts =
+    each-one (commit_of (of_tablets ts)) (λ n c. record { time = c; txn = n; tablet = 0; ops = txn_ops (of_tablets ts) n }) (applied (of_tablets ts))
+        (λ n h. ap (λ o. is_some o) (sym (commit-here ts n)) ∙ sym (has-applied n (all_records (accepted_tablets_after [] ts))) ∙ sym (has-distinct n (applied_in (all_records (accepted_tablets_after [] ts)))) ∙ ap (has n) (sym (applied-here ts)) ∙ h)
+        ∙ ap length (applied-here ts)
+
+pub commits-here : (ts : List Tablet) (found : Commits) → AreCommits found (all_records (accepted_tablets_after [] ts)) → found.count ≡ length (commits (of_tablets ts))
+unfolding commits
+commits-here ts found h =
+    let a = length-sort commit_cmp (write_commits (of_tablets ts) ++ txn_commits (of_tablets ts)) in
+    let b = length-append (write_commits (of_tablets ts)) (txn_commits (of_tablets ts)) in
+    let c = writes-here ts in
+    let d = txns-here ts in
+    let e = h.count in
+    omega arith
+
+-- ---- the first case
+
+first-of-rising : {Y : Type 0} (f : ℕ → Option Y) (y : Y) (n : ℕ) (ns : List ℕ) → Rising ns → has n ns ≡ true → f n ≡ Some y → ((m : ℕ) → m < n → f m ≡ None) → first_some f ns ≡ Some y
+first-of-rising f y n [] r h e k = cc
+first-of-rising f y n (m ∷ ns) r h e k = go (m == n) refl h (λ h. first-of-rising f y n ns r.1 h e k)
+  where
+    go : (b : Bool) → m == n ≡ b → (b || has n ns) ≡ true → (has n ns ≡ true → first_some f ns ≡ Some y) → or_else (f m) (first_some f ns) ≡ Some y
+    go true same h ih = rw (ap f (eqb-true m n same) ∙ e) refl
+    go false apart h ih = rw (k m (r.0 n h)) (ih h)
+
+none-first : {Y : Type 0} (f : ℕ → Option Y) (ns : List ℕ) → ((n : ℕ) → f n ≡ None) → first_some f ns ≡ None
+none-first f [] k = refl
+none-first f (n ∷ ns) k = rw (k n) (none-first f ns k)
+
+abbrev case_at : Logs → ℕ → Option Disagreement
+case_at logs n = option_map_or (disagreement_on logs n) (commit_of logs n) None
+
+cases-here : (ts : List Tablet) (commits : Commits) → AreCommits commits (all_records (accepted_tablets_after [] ts)) → (n : ℕ) → case_at (of_tablets ts) n ≡ cases_of (of_tablets ts) commits (accepted_tablets_after [] ts) n
+unfolding disagreement_on
+cases-here ts commits h n = go (commit_of (of_tablets ts) n) (h.times n ∙ commit-here ts n)
+  where
+    go : (o : Option ℕ) → time_of commits n ≡ o → option_map_or (disagreement_on (of_tablets ts) n) o None ≡ cases_of (of_tablets ts) commits (accepted_tablets_after [] ts) n
+    go None e = rw e refl
+    go (Some c) e = rw e (ap (first_some (λ (b : AcceptedTablet). option_map (case_of n b.header.id) (kind_at (of_tablets ts) n c b))) (accepted-of ts))
+
+pub agrees-here : (ts : List Tablet) (commits : Commits) → AreCommits commits (all_records (accepted_tablets_after [] ts)) → IsFirst None (cases_of (of_tablets ts) commits (accepted_tablets_after [] ts)) → disagreement (of_tablets ts) ≡ None
+unfolding disagreement
+agrees-here ts commits h f = none-first (case_at (of_tablets ts)) (applied (of_tablets ts)) (λ n. cases-here ts commits h n ∙ f n)
+
+has-case : (logs : Logs) (n : ℕ) (y : Disagreement) → case_at logs n ≡ Some y → has n (applied logs) ≡ true
+has-case logs n y e = go (commit_of logs n) refl e
+  where
+    go : (o : Option ℕ) → commit_of logs n ≡ o → option_map_or (disagreement_on logs n) o None ≡ Some y → has n (applied logs) ≡ true
+    go None f e = cc
+    go (Some c) f e = commit-applied logs n c f
+
+pub disagrees-here : (ts : List Tablet) (commits : Commits) (d : Case) → AreCommits commits (all_records (accepted_tablets_after [] ts)) → IsFirst (Some d) (cases_of (of_tablets ts) commits (accepted_tablets_after [] ts))
+    → disagreement (of_tablets ts) ≡ Some (case_of d.txn d.tablet d.kind)
+unfolding disagreement
+disagrees-here ts commits d h f =
+    let here : case_at (of_tablets ts) d.txn ≡ Some (case_of d.txn d.tablet d.kind) = cases-here ts commits h d.txn ∙ f.0 in
+    first-of-rising (case_at (of_tablets ts)) (case_of d.txn d.tablet d.kind) d.txn (applied (of_tablets ts))
+        (subst Rising (sym (applied-here ts)) (distinct-rising (applied_in (all_records (accepted_tablets_after [] ts))))) (has-case (of_tablets ts) d.txn (case_of d.txn d.tablet d.kind) here) here (λ m below. cases-here ts commits h m ∙ f.1 m below)
+
+-- ---- the whole audit
+
+pub fails : (ts : List Tablet) (logs : Logs) (commits : Commits) (first : Option Case) (d : Case) → ts ≡ logs.tablets → AreCommits commits (all_records (accepted_tablets_after [] ts))
+    → IsFirst first (cases_of (of_tablets ts) commits (accepted_tablets_after [] ts)) → first ≡ Some d → disagreement logs ≡ Some (case_of d.txn d.tablet d.kind)
+fails ts logs commits first d same h f is =
+    subst (λ l. disagreement l ≡ Some (case_of d.txn d.tablet d.kind)) (ap of_tablets same) (disagrees-here ts commits d h (subst (λ o. IsFirst o (cases_of (of_tablets ts) commits (accepted_tablets_after [] ts))) is f))
+
+audits-tablets : (ts : List Tablet) (runs : List Run) (found : Commits) (first : Option Case) (a : Audit) → IsRuns runs (accepted_tablets_after [] ts) ts → AreCommits found (all_records (accepted_tablets_after [] ts))
+    → IsFirst first (cases_of (of_tablets ts) found (accepted_tablets_after [] ts)) → first ≡ None → a.ends ≡ map end_from runs → a.commits ≡ found.count → IsAudit (of_tablets ts) a
+audits-tablets ts runs found first a r h f is ends count = record {
+  agrees = agrees-here ts found h (subst (λ o. IsFirst o (cases_of (of_tablets ts) found (accepted_tablets_after [] ts))) is f);
+  ends = λ s. ap (λ es. slice_get es s) ends ∙ ends-here ts runs r s;
+  commits = count ∙ commits-here ts found h;
+}
+
+pub audits : (ts : List Tablet) (logs : Logs) (runs now : List Run) (found : Commits) (first : Option Case) (a : Audit) → ts ≡ logs.tablets → now ≡ runs → IsRuns runs (accepted_tablets_after [] ts) ts → AreCommits found (all_records (accepted_tablets_after [] ts))
+    → IsFirst first (cases_of (of_tablets ts) found (accepted_tablets_after [] ts)) → first ≡ None → a.ends ≡ map end_from now → a.commits ≡ found.count → IsAudit logs a
+audits ts logs runs now found first a same slice r h f is ends count =
+    subst (λ l. IsAudit l a) (ap of_tablets same) (audits-tablets ts runs found first a r h f is (ends ∙ ap (map end_from) slice) count)

@@ -1,0 +1,83 @@
+-- Laws of what is held.
+use Rattle.std.proofs.Common.{◌≡◌, ℕ, zero, suc, ◌+◌, ◌-◌, ◌<◌, ◌≤◌, Bool, true, false, ◌||◌, List, [], ◌∷◌, ◌++◌, length, take, drop, get_or, refl, ap, sym, ◌∙◌, subst, arith, length-append}
+use Rattle.std.proofs.lemmas.Bool.Decides.{nat_tests}
+use Rattle.std.proofs.lemmas.Bool.{eqb-true}
+use Rattle.std.proofs.lemmas.List.{take_more}
+use Rattle.std.proofs.lemmas.List.Folds.{list_any-append}
+use Rattle.std.specs.Prelude.{Option, Some, None, ◌&&◌, ◌==◌, nat_le}
+use Rattle.std.specs.List.{list_any}
+use Rattle.std.specs.Option.{option_map_or}
+use Rattle.xc_record.specs.declared.record.Record.{Record}
+use Rattle.xc_agree.specs.declared.held.Held.{Held}
+use Rattle.xc_agree.specs.Held.{is_held, intends_kind, intends, intends_since, is_start, is_since}
+
+or-false : (b : Bool) → (b || false) ≡ b
+or-false true = refl
+or-false false = refl
+
+stay : (a p q : Bool) → ((a && q) || (q && p)) ≡ ((a || p) && q)
+stay a p q = grind arith
+
+-- one of what was held more
+pub keep-more : (stays : ℕ → ℕ → Bool) (old new : ℕ → ℕ → Bool) (held : List Held) (i : ℕ) (x d : Held) → i < length held → x ≡ get_or held i d
+    → ((n h : ℕ) → old n h ≡ (is_held (take i held) n h && stays n h)) → ((n h : ℕ) → new n h ≡ (old n h || (stays x.txn x.hash && (x.txn == n && x.hash == h))))
+    → (n h : ℕ) → new n h ≡ (is_held (take (i + 1) held) n h && stays n h)
+keep-more stays old new held i x d below is was step n h =
+    let one : is_held (take (i + 1) held) n h ≡ (is_held (take i held) n h || (x.txn == n && x.hash == h)) =
+        ap (λ xs. is_held xs n h) (take_more held i d below ∙ ap (λ y. take i held ++ y ∷ []) (sym is)) ∙ list_any-append (λ y. y.txn == n && y.hash == h) (take i held) (x ∷ [])
+            ∙ ap (λ b. is_held (take i held) n h || b) (or-false (x.txn == n && x.hash == h)) in
+    step n h ∙ ap (λ b. b || (stays x.txn x.hash && (x.txn == n && x.hash == h))) (was n h) ∙ same (x.txn == n) (x.hash == h) refl refl ∙ sym (ap (λ b. b && stays n h) one)
+  where
+    same : (p q : Bool) → x.txn == n ≡ p → x.hash == h ≡ q → ((is_held (take i held) n h && stays n h) || (stays x.txn x.hash && (p && q))) ≡ ((is_held (take i held) n h || (p && q)) && stays n h)
+    same true true e f = rw (eqb-true x.txn n e, eqb-true x.hash h f) (stay (is_held (take i held) n h) true (stays n h))
+    same true false e f = grind arith
+    same false q e f = grind arith
+
+drop-more : (k : ℕ) (rs : List Record) (r : Record) → k ≤ length rs → drop k (rs ++ r ∷ []) ≡ drop k rs ++ r ∷ []
+drop-more zero [] r h = refl
+drop-more zero (x ∷ rs) r h = refl
+drop-more (suc k) [] r h = absurd (omega arith)
+drop-more (suc k) (x ∷ rs) r h = drop-more k rs r (omega arith)
+
+pub drop-past : (k : ℕ) (rs : List Record) → length rs ≤ k → drop k rs ≡ []
+drop-past zero [] h = refl
+drop-past zero (x ∷ rs) h = absurd (omega arith)
+drop-past (suc k) [] h = refl
+drop-past (suc k) (x ∷ rs) h = drop-past k rs (omega arith)
+
+-- one record more
+pub since-snoc : (n h : ℕ) (since : Option ℕ) (rs : List Record) (r : Record) → intends_since n h since (rs ++ r ∷ []) ≡ (intends_since n h since rs || (is_since (length rs + 1) since && intends_kind n h r.kind))
+since-snoc n h None rs r = refl
+since-snoc n h (Some place) rs r = go (nat_le place (length rs + 1)) refl
+  where
+    go : (b : Bool) → nat_le place (length rs + 1) ≡ b → intends n h (drop (place - 1) (rs ++ r ∷ [])) ≡ (intends n h (drop (place - 1) rs) || (b && intends_kind n h r.kind))
+    go true e =
+        let low : place - 1 ≤ length rs = grind (arith, nat_tests) in
+        ap (intends n h) (drop-more (place - 1) rs r low) ∙ list_any-append (λ x. intends_kind n h x.kind) (drop (place - 1) rs) (r ∷ [])
+            ∙ ap (λ b. intends n h (drop (place - 1) rs) || b) (or-false (intends_kind n h r.kind))
+    go false e =
+        let high : length (rs ++ r ∷ []) ≤ place - 1 = grind (arith, nat_tests, length-append {A = Record}) in
+        let past : length rs ≤ place - 1 = grind (arith, nat_tests) in
+        ap (intends n h) (drop-past (place - 1) (rs ++ r ∷ []) high) ∙ sym (ap (λ xs. intends n h xs || false) (drop-past (place - 1) rs past))
+
+-- with the record at i
+pub since-more : (n h : ℕ) (since : Option ℕ) (rs : List Record) (i : ℕ) (r : Record) → i < length rs → r ≡ get_or rs i r
+    → intends_since n h since (take (i + 1) rs) ≡ (intends_since n h since (take i rs) || (is_since (i + 1) since && intends_kind n h r.kind))
+since-more n h since rs i r below is =
+    ap (intends_since n h since) (take_more rs i r below ∙ ap (λ y. take i rs ++ y ∷ []) (sym is)) ∙ since-snoc n h since (take i rs) r
+        ∙ ap (λ k. intends_since n h since (take i rs) || (is_since (k + 1) since && intends_kind n h r.kind)) (length-take i rs below)
+  where
+    length-take : (i : ℕ) (rs : List Record) → i < length rs → length (take i rs) ≡ i
+    length-take zero rs h = refl
+    length-take (suc i) [] h = absurd (omega arith)
+    length-take (suc i) (x ∷ rs) h = let k = length-take i rs (omega arith) in omega arith
+
+or-assoc : (a b c : Bool) → ((a || b) || c) ≡ (a || (b || c))
+or-assoc true b c = refl
+or-assoc false b c = refl
+
+pub hold-more : (n h : ℕ) (since : Option ℕ) (rs : List Record) (i : ℕ) (r : Record) (old new base : Bool) → i < length rs → r ≡ get_or rs i r
+    → old ≡ (base || intends_since n h since (take i rs)) → new ≡ (old || (is_since (i + 1) since && intends_kind n h r.kind)) → new ≡ (base || intends_since n h since (take (i + 1) rs))
+hold-more n h since rs i r old new base below is was step =
+    step ∙ ap (λ b. b || (is_since (i + 1) since && intends_kind n h r.kind)) was ∙ or-assoc base (intends_since n h since (take i rs)) (is_since (i + 1) since && intends_kind n h r.kind)
+        ∙ ap (λ b. base || b) (sym (since-more n h since rs i r below is))

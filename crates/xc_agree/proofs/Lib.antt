@@ -1,0 +1,14 @@
+pub mod Steps
+pub mod RunLaws
+pub mod TallyLaws
+pub mod LookLaws
+pub mod HeldLaws
+pub mod WaitLaws
+pub mod TreeLaws
+pub mod EndLaws
+pub mod KeyLaws
+pub mod OpLaws
+pub mod StragglerLaws
+pub mod SplitLaws
+pub mod TabletLaws
+pub mod AuditLaws

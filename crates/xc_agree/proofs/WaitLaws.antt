@@ -1,0 +1,159 @@
+-- Laws of waiting.
+use Rattle.std.proofs.Common.{◌≡◌, ℕ, zero, suc, ◌+◌, ◌-◌, ◌<◌, ◌≤◌, Bool, true, false, ◌||◌, List, [], ◌∷◌, ◌++◌, length, take, drop, get_or, refl, ap, sym, ◌∙◌, subst, arith, length-append, append_assoc}
+use Rattle.std.proofs.lemmas.Bool.Decides.{nat_tests}
+use Rattle.std.proofs.lemmas.Bool.{eqb-true, eq-eqb}
+use Rattle.std.proofs.lemmas.List.{append-nil}
+use Rattle.std.specs.Prelude.{Option, Some, None, ◌&&◌, ◌==◌, nat_le, nat_lt, if◌then◌else◌, fold, is_some, option_and_then, not}
+use Rattle.std.specs.List.{list_any}
+use Rattle.std.specs.Option.{option_map_or}
+use Rattle.xc_record.specs.declared.record.Kind.{Kind}
+use Rattle.xc_record.specs.declared.record.Kind.TheVariants.{Write, Intent, Apply, Abort, Safe, Split}
+use Rattle.xc_record.specs.declared.record.Op.{Op}
+use Rattle.xc_record.specs.declared.record.Header.{Header}
+use Rattle.xc_record.specs.declared.record.Record.{Record}
+use Rattle.xc_record.specs.Hash.{holds, hash_of}
+use Rattle.xc_record.specs.Lists.{or_else}
+use Rattle.xc_agree.specs.declared.held.Held.{Held}
+use Rattle.xc_agree.specs.declared.look.Look.{Look}
+use Rattle.xc_agree.specs.declared.commits.Commits.{Commits}
+use Rattle.xc_agree.specs.Tally.{time_of}
+use Rattle.xc_agree.specs.Seen.{Seen, see, see_kind, settles, passes, unseen, waits_from, since_in, IsLook}
+use Rattle.xc_agree.specs.Held.{is_held, writes_at, intends_kind, intends, intends_since, is_start, is_since, wait_kind, waits_by, IsLeft, HoldsCommits, seen_at_end}
+use Rattle.xc_agree.proofs.HeldLaws.{since-snoc, drop-past}
+
+pub waits-append : (n : ℕ) (p : List Op → Bool) (w : Bool) (xs ys : List Record) → waits_by n p w (xs ++ ys) ≡ waits_by n p (waits_by n p w xs) ys
+waits-append n p w [] ys = refl
+waits-append n p w (x ∷ xs) ys = waits-append n p (wait_kind n p w x.kind) xs ys
+
+-- what is seen after some records says what waits at a hash
+pub record Still (n h : ℕ) (held : Bool) (s : Seen) (done : List Record) : Type 0 where
+  pub place : s.place ≡ length done
+  pub below : option_map_or (λ place. nat_le place s.place) s.since true ≡ true
+  pub waits : waits_by n (writes_at h) held done ≡ ((held && is_start s.since) || intends_since n h s.since done)
+
+still-begin : (n h : ℕ) (held waits : Bool) → (held ≡ true → waits ≡ true) → Still n h held (unseen waits) []
+still-begin n h true true k = record { place = refl; below = refl; waits = refl }
+still-begin n h true false k = absurd (no (k refl))
+  where
+    no : false ≡ true → ⊥
+    no e = cc
+still-begin n h false true k = record { place = refl; below = refl; waits = refl }
+still-begin n h false false k = record { place = refl; below = refl; waits = refl }
+
+empty-since : (n h : ℕ) (done : List Record) → intends_since n h (Some (length done + 1)) done ≡ false
+empty-since n h done = ap (intends n h) (drop-past (length done + 1 - 1) done (omega arith))
+
+step-waits : (n c h : ℕ) (held : Bool) (s : Seen) (done : List Record) (r : Record) (time : ℕ) (kind : Kind) → r.kind ≡ kind → Still n h held s done
+    → wait_kind n (writes_at h) (waits_by n (writes_at h) held done) kind ≡ ((held && is_start (see_kind n c s time kind).since) || intends_since n h (see_kind n c s time kind).since (done ++ r ∷ []))
+step-waits n c h held s done r time (Write ops) e k = grind (arith, k.waits, since-snoc n h s.since done r)
+step-waits n c h held s done r time (Safe value) e k = grind (arith, k.waits, since-snoc n h s.since done r)
+step-waits n c h held s done r time (Split at left right) e k = grind (arith, k.waits, since-snoc n h s.since done r)
+step-waits n c h held s done r time (Apply txn commit) e k = grind (arith, k.waits, since-snoc n h s.since done r)
+step-waits n c h held s done r time (Abort txn) e k = grind (arith, k.waits, since-snoc n h s.since done r)
+step-waits n c h held s done r time (Intent txn ops) e k = go (txn == n) refl s.since refl
+  where
+    go : (b : Bool) → txn == n ≡ b → (o : Option ℕ) → s.since ≡ o
+        → (if b && writes_at h ops then true else waits_by n (writes_at h) held done)
+            ≡ ((held && is_start (if b then record s { place = s.place + 1; since = or_else o (Some (s.place + 1)); late = s.late || nat_le c time } else record s { place = s.place + 1 }).since)
+                || intends_since n h (if b then record s { place = s.place + 1; since = or_else o (Some (s.place + 1)); late = s.late || nat_le c time } else record s { place = s.place + 1 }).since (done ++ r ∷ []))
+    go false f o g = grind (arith, k.waits, since-snoc n h s.since done r)
+    go true f None g = grind (arith, k.waits, k.place, since-snoc n h (Some (s.place + 1)) done r, empty-since n h done)
+    go true f (Some place) g = grind (arith, nat_tests, k.waits, k.place, k.below, since-snoc n h (Some place) done r)
+
+abbrev pub Below : ℕ → Option ℕ → Type 0
+Below k o = option_map_or (λ place. nat_le place k) o true ≡ true
+
+below-later : (k : ℕ) (o : Option ℕ) → Below k o → Below (k + 1) o
+below-later k None h = refl
+below-later k (Some x) h = grind (arith, nat_tests)
+
+below-or : (k : ℕ) (o : Option ℕ) → Below k o → Below (k + 1) (or_else o (Some (k + 1)))
+below-or k None h = grind (arith, nat_tests)
+below-or k (Some x) h = grind (arith, nat_tests)
+
+pub below-see : (n c : ℕ) (s : Seen) (time : ℕ) (kind : Kind) → Below s.place s.since → Below (see_kind n c s time kind).place (see_kind n c s time kind).since
+below-see n c s time (Write ops) h = below-later s.place s.since h
+below-see n c s time (Safe value) h = below-later s.place s.since h
+below-see n c s time (Split at left right) h = below-later s.place s.since h
+below-see n c s time (Apply txn commit) h =
+    elim (txn == n) as (λ b. Below (if b then record (settles c s) { differs = s.differs || not (commit == c) } else passes s).place (if b then record (settles c s) { differs = s.differs || not (commit == c) } else passes s).since)
+        [ true ↦ refl | false ↦ below-later s.place s.since h ]
+below-see n c s time (Abort txn) h =
+    elim (txn == n) as (λ b. Below (if b then record (settles c s) { aborted = true } else passes s).place (if b then record (settles c s) { aborted = true } else passes s).since)
+        [ true ↦ refl | false ↦ below-later s.place s.since h ]
+below-see n c s time (Intent txn ops) h =
+    elim (txn == n) as (λ b. Below (if b then record s { place = s.place + 1; since = or_else s.since (Some (s.place + 1)); late = s.late || nat_le c time } else passes s).place
+            (if b then record s { place = s.place + 1; since = or_else s.since (Some (s.place + 1)); late = s.late || nat_le c time } else passes s).since)
+        [ true ↦ below-or s.place s.since h | false ↦ below-later s.place s.since h ]
+
+pub place-see : (n c : ℕ) (s : Seen) (time : ℕ) (kind : Kind) → (see_kind n c s time kind).place ≡ s.place + 1
+place-see n c s time (Write ops) = refl
+place-see n c s time (Safe value) = refl
+place-see n c s time (Split at left right) = refl
+place-see n c s time (Apply txn commit) = elim (txn == n) as (λ b. (if b then record (settles c s) { differs = s.differs || not (commit == c) } else passes s).place ≡ s.place + 1) [ true ↦ refl | false ↦ refl ]
+place-see n c s time (Abort txn) = elim (txn == n) as (λ b. (if b then record (settles c s) { aborted = true } else passes s).place ≡ s.place + 1) [ true ↦ refl | false ↦ refl ]
+place-see n c s time (Intent txn ops) =
+    elim (txn == n) as (λ b. (if b then record s { place = s.place + 1; since = or_else s.since (Some (s.place + 1)); late = s.late || nat_le c time } else passes s).place ≡ s.place + 1) [ true ↦ refl | false ↦ refl ]
+
+still-step : (n c h : ℕ) (held : Bool) (s : Seen) (done : List Record) (r : Record) → Still n h held s done → Still n h held (see n c s r) (done ++ r ∷ [])
+still-step n c h held s done r k = record {
+  place = place-see n c s r.time r.kind ∙ ap (λ x. x + 1) k.place ∙ sym (length-append done (r ∷ []));
+  below = below-see n c s r.time r.kind k.below;
+  waits = waits-append n (writes_at h) held done (r ∷ []) ∙ step-waits n c h held s done r r.time r.kind refl k;
+}
+
+still-all : (n c h : ℕ) (held : Bool) (s : Seen) (done rs : List Record) → Still n h held s done → Still n h held (fold (see n c) s rs) (done ++ rs)
+still-all n c h held s done [] k = rw append-nil k
+still-all n c h held s done (r ∷ rs) k = subst (λ xs. Still n h held (fold (see n c) (see n c s r) rs) xs) (append_assoc done (r ∷ []) rs) (still-all n c h held (see n c s r) (done ++ r ∷ []) rs (still-step n c h held s done r k))
+
+-- what is held waits
+pub held-waits : (n h : ℕ) (header : Header) (held : List Held) → (is_held held n h && holds header h) ≡ true → waits_from header held n ≡ true
+held-waits n h header [] e = cc
+held-waits n h header (x ∷ held) e = go (held-waits n h header held) (x.txn == n) (x.hash == h) refl e
+  where
+    go : ((is_held held n h && holds header h) ≡ true → waits_from header held n ≡ true) → (p q : Bool) → x.hash == h ≡ q → (((p && q) || is_held held n h) && holds header h) ≡ true → ((p && holds header x.hash) || waits_from header held n) ≡ true
+    go ih true true f e = let same : x.hash ≡ h = eqb-true x.hash h f in rw (same, e) refl
+    go ih true false f e = grind (arith, ih e)
+    go ih false q f e = ih e
+
+none-held : (n : ℕ) (header : Header) (held : List Held) → ((h : ℕ) → is_held held n h ≡ false) → waits_from header held n ≡ false
+none-held n header [] k = refl
+none-held n header (x ∷ held) k = go (none-held n header held) (x.txn == n) refl
+  where
+    rest : (h : ℕ) → is_held held n h ≡ false
+    rest h = grind (arith, k h)
+
+    here : (x.txn == n && x.hash == x.hash) ≡ false
+    here = grind (arith, k x.hash)
+
+    go : (((h : ℕ) → is_held held n h ≡ false) → waits_from header held n ≡ false) → (p : Bool) → x.txn == n ≡ p → ((p && holds header x.hash) || waits_from header held n) ≡ false
+    go ih true f = absurd (no (sym (eq-eqb x.hash x.hash refl) ∙ subst (λ b. (b && x.hash == x.hash) ≡ false) f here))
+      where
+        no : true ≡ false → ⊥
+        no e = cc
+    go ih false f = ih rest
+
+pub waits-committed : (header : Header) (held : List Held) (commits : Commits) → HoldsCommits held commits → (n : ℕ) → time_of commits n ≡ None → waits_from header held n ≡ false
+waits-committed header held commits k n e = none-held n header held (k n e)
+
+-- what a tablet holds at its end
+pub left-at-end : (look : Look) (commits : Commits) (header : Header) (held left : List Held) (rs : List Record) → IsLook look commits (seen_at_end header held rs)
+    → ((n h : ℕ) → is_held left n h ≡ ((is_held held n h && (holds header h && is_start (since_in look n))) || intends_since n h (since_in look n) rs)) → IsLeft left commits header held rs
+left-at-end look commits header held left rs k is n h = is n h ∙ go (time_of commits n) refl
+  where
+    and-false : (a b : Bool) → ((a && (b && false)) || false) ≡ false
+    and-false a b = grind arith
+
+    and-assoc : (a b c : Bool) → (a && (b && c)) ≡ ((a && b) && c)
+    and-assoc a b c = grind arith
+
+    go : (o : Option ℕ) → time_of commits n ≡ o → ((is_held held n h && (holds header h && is_start (since_in look n))) || intends_since n h (since_in look n) rs)
+        ≡ (is_some o && waits_by n (writes_at h) (is_held held n h && holds header h) rs)
+    go None e =
+        let since : since_in look n ≡ None = k.since n ∙ ap (option_and_then (λ c. (seen_at_end header held rs n c).since)) e in
+        rw since (and-false (is_held held n h) (holds header h))
+    go (Some c) e =
+        let since : since_in look n ≡ (seen_at_end header held rs n c).since = k.since n ∙ ap (option_and_then (λ c. (seen_at_end header held rs n c).since)) e in
+        let still : Still n h (is_held held n h && holds header h) (seen_at_end header held rs n c) rs =
+            still-all n c h (is_held held n h && holds header h) (unseen (waits_from header held n)) [] rs (still-begin n h (is_held held n h && holds header h) (waits_from header held n) (held-waits n h header held)) in
+        rw since (ap (λ b. b || intends_since n h (seen_at_end header held rs n c).since rs) (and-assoc (is_held held n h) (holds header h) (is_start (seen_at_end header held rs n c).since)) ∙ sym still.waits)

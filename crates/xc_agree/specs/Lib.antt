@@ -1,0 +1,6 @@
+pub mod Audit
+pub mod Runs
+pub mod Tally
+pub mod Seen
+pub mod Held
+pub mod Cases

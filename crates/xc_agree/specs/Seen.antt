@@ -1,0 +1,139 @@
+-- What one transaction does on one tablet, record by record.
+--     Seen      what was seen so far: how many records, the place and the value of the last safe record, the place at which the
+--               transaction began to wait, and which cases of disagreement stand
+--     see n commit s r      the same after the record r, for the transaction n, which commits at `commit`
+--     kind_seen s      the first kind of the cases that stand
+--     IsLeast found kinds      found has the least transaction with a kind, and that kind
+use Rattle.std.specs.Prelude.{◌≡◌, ℕ, ◌+◌, ◌<◌, Bool, true, false, List, [], ◌∷◌, Option, Some, None, ◌&&◌, ◌||◌, ◌==◌, not, nat_le, nat_lt, if◌then◌else◌, MatchOption, option_and_then, is_some}
+use Rattle.std.specs.List.{list_any}
+use Rattle.std.specs.Option.{option_map_or}
+use Rattle.xc_record.specs.declared.record.AgreeKind.{AgreeKind}
+use Rattle.xc_record.specs.declared.record.AgreeKind.TheVariants.{CommitDiffers, LateIntent, Aborted, Straggler}
+use Rattle.xc_record.specs.declared.record.Kind.{Kind}
+use Rattle.xc_record.specs.declared.record.Kind.TheVariants.{Write, Intent, Apply, Abort, Safe, Split}
+use Rattle.xc_record.specs.declared.record.Record.{Record}
+use Rattle.xc_record.specs.declared.record.Header.{Header}
+use Rattle.xc_record.specs.Hash.{holds}
+use Rattle.xc_record.specs.Agreement.{first_kind}
+use Rattle.xc_agree.specs.declared.held.Held.{Held}
+use Rattle.xc_record.specs.Lists.{or_else}
+use Rattle.std.specs.Ordering.{nat_cmp}
+use Rattle.std.specs.BTreeMap.{get}
+use Rattle.xc_agree.specs.declared.look.Found.{Found}
+use Rattle.xc_agree.specs.declared.look.Look.{Look}
+use Rattle.xc_agree.specs.declared.commits.Commits.{Commits}
+use Rattle.xc_agree.specs.Tally.{time_of}
+
+pub record Seen : Type 0 where
+  pub place : ℕ
+  pub safe : ℕ
+  pub floor : ℕ
+  -- 0 where it waits since before the first record
+  pub since : Option ℕ
+  pub differs : Bool
+  pub late : Bool
+  pub aborted : Bool
+  pub straggles : Bool
+
+-- before the first record
+abbrev pub unseen : Bool → Seen
+unseen waits =
+    record { place = 0; safe = 0; floor = 0; since = if waits then Some 0 else None; differs = false; late = false; aborted = false; straggles = false }
+
+-- the transaction waits, and waited at a safe record of value at or above the commit: the last one shows it, since their values don't fall
+abbrev pub pends : ℕ → Seen → Bool
+pends commit s = option_map_or (λ since. nat_lt since s.safe && nat_le commit s.floor) s.since false
+
+abbrev pub passes : Seen → Seen
+passes s = record s { place = s.place + 1 }
+
+abbrev pub settles : ℕ → Seen → Seen
+settles commit s = record s { place = s.place + 1; since = None; straggles = s.straggles || pends commit s }
+
+abbrev pub see_kind : ℕ → ℕ → Seen → ℕ → Kind → Seen
+see_kind n commit s time (Write ops) = passes s
+see_kind n commit s time (Intent txn ops) =
+    if txn == n then record s { place = s.place + 1; since = or_else s.since (Some (s.place + 1)); late = s.late || nat_le commit time } else passes s
+see_kind n commit s time (Apply txn c) = if txn == n then record (settles commit s) { differs = s.differs || not (c == commit) } else passes s
+see_kind n commit s time (Abort txn) = if txn == n then record (settles commit s) { aborted = true } else passes s
+see_kind n commit s time (Safe value) = record s { place = s.place + 1; safe = s.place + 1; floor = value }
+see_kind n commit s time (Split at left right) = passes s
+
+abbrev pub see : ℕ → ℕ → Seen → Record → Seen
+see n commit s r = see_kind n commit s r.time r.kind
+
+abbrev pub kind_of : Bool → Bool → Bool → Bool → Option AgreeKind
+kind_of differs late aborted straggles = first_kind ((differs, CommitDiffers) ∷ (late, LateIntent) ∷ (aborted, Aborted) ∷ (straggles, Straggler) ∷ [])
+
+abbrev pub kind_seen : Seen → Option AgreeKind
+kind_seen s = kind_of s.differs s.late s.aborted s.straggles
+
+-- at the end, where what waits may pend
+abbrev pub kind_at_end : ℕ → Seen → Option AgreeKind
+kind_at_end commit s = kind_of s.differs s.late s.aborted (s.straggles || pends commit s)
+
+abbrev pub rank : AgreeKind → ℕ
+rank CommitDiffers = 0
+rank LateIntent = 1
+rank Aborted = 2
+rank Straggler = 3
+
+abbrev pub earlier : AgreeKind → Option AgreeKind → AgreeKind
+earlier kind None = kind
+earlier kind (Some other) = if nat_le (rank other) (rank kind) then other else kind
+
+abbrev pub IsLeast : Option Found → (ℕ → Option AgreeKind) → Type 0
+IsLeast found kinds =
+    MatchOption found ((n : ℕ) → kinds n ≡ None) (λ f. (kinds f.txn ≡ Some f.kind) × ((n : ℕ) → n < f.txn → kinds n ≡ None))
+
+-- with this kind of the transaction too
+abbrev pub with_kind : ℕ → AgreeKind → (ℕ → Option AgreeKind) → ℕ → Option AgreeKind
+with_kind txn kind kinds n = if n == txn then Some (earlier kind (kinds n)) else kinds n
+
+-- found, with this case too where it stands
+abbrev pub IsLeastWith : Option Found → Bool → ℕ → AgreeKind → Option Found → Type 0
+IsLeastWith found stands txn kind more = (kinds : ℕ → Option AgreeKind) → IsLeast found kinds → IsLeast more (λ n. if stands then with_kind txn kind kinds n else kinds n)
+
+-- where the transaction began to wait
+abbrev pub since_in : Look → ℕ → Option ℕ
+since_in look n = get nat_cmp look.waiting n
+
+abbrev pub pends_in : ℕ → Look → ℕ → Bool
+pends_in commit look n = option_map_or (λ since. nat_lt since look.safe && nat_le commit look.floor) (since_in look n) false
+
+pub record KeepsPlace (old new : Look) : Type 0 where
+  pub place : new.place ≡ old.place
+  pub safe : new.safe ≡ old.safe
+  pub floor : new.floor ≡ old.floor
+
+-- each waiting transaction is among those that began to
+abbrev pub Began : Look → Type 0
+Began look = (n : ℕ) → is_some (since_in look n) ≡ true → list_any (λ m. m == n) look.began.items ≡ true
+
+-- the look has, of each transaction that commits, what is seen of it
+pub record IsLook (look : Look) (commits : Commits) (seen : ℕ → ℕ → Seen) : Type 0 where
+  pub place : (n c : ℕ) → (seen n c).place ≡ look.place
+  pub safe : (n c : ℕ) → (seen n c).safe ≡ look.safe
+  pub floor : (n c : ℕ) → (seen n c).floor ≡ look.floor
+  pub since : (n : ℕ) → since_in look n ≡ option_and_then (λ c. (seen n c).since) (time_of commits n)
+  pub found : IsLeast look.found (λ n. option_and_then (λ c. kind_seen (seen n c)) (time_of commits n))
+  pub began : Began look
+
+-- the look after a record of this time and kind
+abbrev pub Takes : Look → Look → Commits → ℕ → Kind → Type 0
+Takes old new commits time kind = (seen : ℕ → ℕ → Seen) → IsLook old commits seen → IsLook new commits (λ n c. see_kind n c (seen n c) time kind)
+
+-- the transaction waits by what was held, at a hash of the range
+abbrev pub waits_from : Header → List Held → ℕ → Bool
+waits_from header held n = list_any (λ x. x.txn == n && holds header x.hash) held
+
+-- at a tablet's end
+abbrev pub IsEnd : Option Found → Commits → (ℕ → ℕ → Seen) → Type 0
+IsEnd found commits seen = IsLeast found (λ n. option_and_then (λ c. kind_at_end c (seen n c)) (time_of commits n))
+
+-- as at a tablet's end, where the transaction was tried there
+abbrev pub kind_tried : Bool → ℕ → Seen → Option AgreeKind
+kind_tried tried commit s = kind_of s.differs s.late s.aborted (s.straggles || (tried && pends commit s))
+
+abbrev pub is_among : ℕ → List ℕ → Bool
+is_among n ns = list_any (λ m. m == n) ns

@@ -59,7 +59,7 @@ accepted-of ts = refl
 pub ends-here : (ts : List Tablet) (runs : List Run) → IsRuns runs (accepted_tablets_after [] ts) ts → (s : ℕ) → slice_get (map end_from runs) s ≡ option_map (end_of (of_tablets ts) s) (accepted_tablet (of_tablets ts) s)
 ends-here ts runs h s =
     ends-from (of_tablets ts) runs (accepted_tablets_after [] ts) ts s s h (λ run b t e f r. end-same (of_tablets ts) s run b t r f (ap (λ bs. slice_get bs s) (accepted-of ts) ∙ e))
-        ∙ ap (λ bs. option_map (end_of (of_tablets ts) s) (slice_get bs s)) (sym (accepted-of ts))
+    ∙ ap (λ bs. option_map (end_of (of_tablets ts) s) (slice_get bs s)) (sym (accepted-of ts))
 
 -- ---- the commits
 
@@ -110,7 +110,7 @@ writes-flat : (bs : List AcceptedTablet) → length (flat_map (λ b. writes_in b
 writes-flat [] = refl
 writes-flat (b ∷ bs) =
     length-append (writes_in b.header.id b.records) (flat_map (λ b. writes_in b.header.id b.records) bs) ∙ ap (λ k. k + length (flat_map (λ (b : AcceptedTablet). writes_in b.header.id b.records) bs)) (writes-in b.header.id b.records)
-        ∙ ap (λ k. writes b.records + k) (writes-flat bs) ∙ sym (writes-append b.records (all_records bs))
+    ∙ ap (λ k. writes b.records + k) (writes-flat bs) ∙ sym (writes-append b.records (all_records bs))
 
 writes-here : (ts : List Tablet) → length (write_commits (of_tablets ts)) ≡ writes (all_records (accepted_tablets_after [] ts))
 unfolding write_commits
@@ -136,8 +136,8 @@ txns-here : (ts : List Tablet) → length (txn_commits (of_tablets ts)) ≡ leng
 unfolding txn_commits
 txns-here ts =
     each-one (commit_of (of_tablets ts)) (λ n c. record { time = c; txn = n; tablet = 0; ops = txn_ops (of_tablets ts) n }) (applied (of_tablets ts))
-        (λ n h. ap (λ o. is_some o) (sym (commit-here ts n)) ∙ sym (has-applied n (all_records (accepted_tablets_after [] ts))) ∙ sym (has-distinct n (applied_in (all_records (accepted_tablets_after [] ts)))) ∙ ap (has n) (sym (applied-here ts)) ∙ h)
-        ∙ ap length (applied-here ts)
+    (λ n h. ap (λ o. is_some o) (sym (commit-here ts n)) ∙ sym (has-applied n (all_records (accepted_tablets_after [] ts))) ∙ sym (has-distinct n (applied_in (all_records (accepted_tablets_after [] ts)))) ∙ ap (has n) (sym (applied-here ts)) ∙ h)
+    ∙ ap length (applied-here ts)
 
 pub commits-here : (ts : List Tablet) (found : Commits) → AreCommits found (all_records (accepted_tablets_after [] ts)) → found.count ≡ length (commits (of_tablets ts))
 unfolding commits
@@ -191,7 +191,7 @@ unfolding disagreement
 disagrees-here ts commits d h f =
     let here : case_at (of_tablets ts) d.txn ≡ Some (case_of d.txn d.tablet d.kind) = cases-here ts commits h d.txn ∙ f.0 in
     first-of-rising (case_at (of_tablets ts)) (case_of d.txn d.tablet d.kind) d.txn (applied (of_tablets ts))
-        (subst Rising (sym (applied-here ts)) (distinct-rising (applied_in (all_records (accepted_tablets_after [] ts))))) (has-case (of_tablets ts) d.txn (case_of d.txn d.tablet d.kind) here) here (λ m below. cases-here ts commits h m ∙ f.1 m below)
+    (subst Rising (sym (applied-here ts)) (distinct-rising (applied_in (all_records (accepted_tablets_after [] ts))))) (has-case (of_tablets ts) d.txn (case_of d.txn d.tablet d.kind) here) here (λ m below. cases-here ts commits h m ∙ f.1 m below)
 
 -- ---- the whole audit
 

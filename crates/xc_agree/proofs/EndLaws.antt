@@ -41,10 +41,10 @@ differs-see n c s time (Split at left right) = sym (or-false s.differs)
 differs-see n c s time (Abort txn) = elim (txn == n) as (λ b. (if b then record (settles c s) { aborted = true } else passes s).differs ≡ (s.differs || false)) [ true ↦ sym (or-false s.differs) | false ↦ sym (or-false s.differs) ]
 differs-see n c s time (Intent txn ops) =
     elim (txn == n) as (λ b. (if b then record s { place = s.place + 1; since = or_else s.since (Some (s.place + 1)); late = s.late || nat_le c time } else passes s).differs ≡ (s.differs || false))
-        [ true ↦ sym (or-false s.differs) | false ↦ sym (or-false s.differs) ]
+    [ true ↦ sym (or-false s.differs) | false ↦ sym (or-false s.differs) ]
 differs-see n c s time (Apply txn commit) =
     elim (txn == n) as (λ b. (if b then record (settles c s) { differs = s.differs || not (commit == c) } else passes s).differs ≡ (s.differs || option_map_or (λ x. not (x == c)) (if b then Some commit else None) false))
-        [ true ↦ refl | false ↦ sym (or-false s.differs) ]
+    [ true ↦ refl | false ↦ sym (or-false s.differs) ]
 
 pub differs-all : (n c : ℕ) (s : Seen) (rs : List Record) → (fold (see n c) s rs).differs ≡ (s.differs || list_any (differs_at n c) rs)
 differs-all n c s [] = sym (or-false s.differs)
@@ -57,7 +57,7 @@ late-see n c s time (Split at left right) = sym (or-false s.late)
 late-see n c s time (Abort txn) = elim (txn == n) as (λ b. (if b then record (settles c s) { aborted = true } else passes s).late ≡ (s.late || false)) [ true ↦ sym (or-false s.late) | false ↦ sym (or-false s.late) ]
 late-see n c s time (Intent txn ops) =
     elim (txn == n) as (λ b. (if b then record s { place = s.place + 1; since = or_else s.since (Some (s.place + 1)); late = s.late || nat_le c time } else passes s).late ≡ (s.late || (is_some (if b then Some ops else None) && nat_le c time)))
-        [ true ↦ refl | false ↦ sym (or-false s.late) ]
+    [ true ↦ refl | false ↦ sym (or-false s.late) ]
 late-see n c s time (Apply txn commit) =
     elim (txn == n) as (λ b. (if b then record (settles c s) { differs = s.differs || not (commit == c) } else passes s).late ≡ (s.late || false)) [ true ↦ sym (or-false s.late) | false ↦ sym (or-false s.late) ]
 
@@ -76,7 +76,7 @@ aborted-see n c s time (Abort txn) = elim (txn == n) as (λ b. (if b then record
     or-true false = refl
 aborted-see n c s time (Intent txn ops) =
     elim (txn == n) as (λ b. (if b then record s { place = s.place + 1; since = or_else s.since (Some (s.place + 1)); late = s.late || nat_le c time } else passes s).aborted ≡ (s.aborted || false))
-        [ true ↦ sym (or-false s.aborted) | false ↦ sym (or-false s.aborted) ]
+    [ true ↦ sym (or-false s.aborted) | false ↦ sym (or-false s.aborted) ]
 aborted-see n c s time (Apply txn commit) =
     elim (txn == n) as (λ b. (if b then record (settles c s) { differs = s.differs || not (commit == c) } else passes s).aborted ≡ (s.aborted || false)) [ true ↦ sym (or-false s.aborted) | false ↦ sym (or-false s.aborted) ]
 
@@ -114,10 +114,10 @@ safe-see n c s time (Abort txn) h =
     elim (txn == n) as (λ b. (if b then record (settles c s) { aborted = true } else passes s).safe ≤ (if b then record (settles c s) { aborted = true } else passes s).place) [ true ↦ omega arith | false ↦ omega arith ]
 safe-see n c s time (Intent txn ops) h =
     elim (txn == n) as (λ b. (if b then record s { place = s.place + 1; since = or_else s.since (Some (s.place + 1)); late = s.late || nat_le c time } else passes s).safe
-        ≤ (if b then record s { place = s.place + 1; since = or_else s.since (Some (s.place + 1)); late = s.late || nat_le c time } else passes s).place) [ true ↦ omega arith | false ↦ omega arith ]
+    ≤ (if b then record s { place = s.place + 1; since = or_else s.since (Some (s.place + 1)); late = s.late || nat_le c time } else passes s).place) [ true ↦ omega arith | false ↦ omega arith ]
 safe-see n c s time (Apply txn commit) h =
     elim (txn == n) as (λ b. (if b then record (settles c s) { differs = s.differs || not (commit == c) } else passes s).safe ≤ (if b then record (settles c s) { differs = s.differs || not (commit == c) } else passes s).place)
-        [ true ↦ omega arith | false ↦ omega arith ]
+    [ true ↦ omega arith | false ↦ omega arith ]
 
 floor-see : (n c : ℕ) (s : Seen) (floor time : ℕ) (kind : Kind) → s.floor ≤ floor → (see_kind n c s time kind).floor ≤ floor_after_kind floor kind
 floor-see n c s floor time (Write ops) h = h
@@ -149,7 +149,7 @@ stands-kind n c floor s time (Abort txn) b k f g =
     elim (txn == n) as (λ b. stands c (if b then record (settles c s) { aborted = true } else passes s) ≡ (stands c s || false)) [ true ↦ refl | false ↦ sym (or-false (stands c s)) ]
 stands-kind n c floor s time (Intent txn ops) b k f g =
     elim (txn == n) as (λ b. stands c (if b then record s { place = s.place + 1; since = or_else s.since (Some (s.place + 1)); late = s.late || nat_le c time } else passes s) ≡ (stands c s || false))
-        [ true ↦ waits s.since | false ↦ sym (or-false (stands c s)) ]
+    [ true ↦ waits s.since | false ↦ sym (or-false (stands c s)) ]
   where
     waits : (o : Option ℕ) → (s.straggles || option_map_or (λ since. nat_lt since s.safe && nat_le c s.floor) (or_else o (Some (s.place + 1))) false) ≡ ((s.straggles || option_map_or (λ since. nat_lt since s.safe && nat_le c s.floor) o false) || false)
     waits None = grind (arith, nat_tests)
@@ -168,7 +168,7 @@ since-step n c s time (Split at left right) = refl
 since-step n c s time (Abort txn) = elim (txn == n) as (λ b. is_some (if b then record (settles c s) { aborted = true } else passes s).since ≡ (if b then false else is_some s.since)) [ true ↦ refl | false ↦ refl ]
 since-step n c s time (Intent txn ops) =
     elim (txn == n) as (λ b. is_some (if b then record s { place = s.place + 1; since = or_else s.since (Some (s.place + 1)); late = s.late || nat_le c time } else passes s).since ≡ (if b && true then true else is_some s.since))
-        [ true ↦ or-some s.since | false ↦ refl ]
+    [ true ↦ or-some s.since | false ↦ refl ]
   where
     or-some : (o : Option ℕ) → is_some (or_else o (Some (s.place + 1))) ≡ true
     or-some None = refl
@@ -187,6 +187,6 @@ stands-all n c s p (r ∷ rs) h e = go (break_of p r) refl (λ f. stands-all n c
         → (if is_none o then (r ∷ accepted_from (after p r) rs) else []) ≡ r ∷ rs → stands c (fold (see n c) (see n c s r) rs) ≡ (stands c s || straggles any_op n c (is_some s.since) (r ∷ rs))
     go None f ih e =
         ih f (rest e) ∙ ap (λ b. b || straggles any_op n c (is_some (see n c s r).since) rs) (stands-step n c s p r h f)
-            ∙ or-assoc (stands c s) (option_map_or (λ value. nat_le c value) (safe_value r.kind) false && is_some s.since) (straggles any_op n c (is_some (see n c s r).since) rs)
-            ∙ ap (λ w. stands c s || ((option_map_or (λ value. nat_le c value) (safe_value r.kind) false && is_some s.since) || straggles any_op n c w rs)) (since-step n c s r.time r.kind)
+        ∙ or-assoc (stands c s) (option_map_or (λ value. nat_le c value) (safe_value r.kind) false && is_some s.since) (straggles any_op n c (is_some (see n c s r).since) rs)
+        ∙ ap (λ w. stands c s || ((option_map_or (λ value. nat_le c value) (safe_value r.kind) false && is_some s.since) || straggles any_op n c w rs)) (since-step n c s r.time r.kind)
     go (Some x) f ih e = cc

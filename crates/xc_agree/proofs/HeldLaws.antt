@@ -24,8 +24,8 @@ pub keep-more : (stays : ℕ → ℕ → Bool) (old new : ℕ → ℕ → Bool) 
     → (n h : ℕ) → new n h ≡ (is_held (take (i + 1) held) n h && stays n h)
 keep-more stays old new held i x d below is was step n h =
     let one : is_held (take (i + 1) held) n h ≡ (is_held (take i held) n h || (x.txn == n && x.hash == h)) =
-        ap (λ xs. is_held xs n h) (take_more held i d below ∙ ap (λ y. take i held ++ y ∷ []) (sym is)) ∙ list_any-append (λ y. y.txn == n && y.hash == h) (take i held) (x ∷ [])
-            ∙ ap (λ b. is_held (take i held) n h || b) (or-false (x.txn == n && x.hash == h)) in
+    ap (λ xs. is_held xs n h) (take_more held i d below ∙ ap (λ y. take i held ++ y ∷ []) (sym is)) ∙ list_any-append (λ y. y.txn == n && y.hash == h) (take i held) (x ∷ [])
+    ∙ ap (λ b. is_held (take i held) n h || b) (or-false (x.txn == n && x.hash == h)) in
     step n h ∙ ap (λ b. b || (stays x.txn x.hash && (x.txn == n && x.hash == h))) (was n h) ∙ same (x.txn == n) (x.hash == h) refl refl ∙ sym (ap (λ b. b && stays n h) one)
   where
     same : (p q : Bool) → x.txn == n ≡ p → x.hash == h ≡ q → ((is_held (take i held) n h && stays n h) || (stays x.txn x.hash && (p && q))) ≡ ((is_held (take i held) n h || (p && q)) && stays n h)
@@ -54,7 +54,7 @@ since-snoc n h (Some place) rs r = go (nat_le place (length rs + 1)) refl
     go true e =
         let low : place - 1 ≤ length rs = grind (arith, nat_tests) in
         ap (intends n h) (drop-more (place - 1) rs r low) ∙ list_any-append (λ x. intends_kind n h x.kind) (drop (place - 1) rs) (r ∷ [])
-            ∙ ap (λ b. intends n h (drop (place - 1) rs) || b) (or-false (intends_kind n h r.kind))
+        ∙ ap (λ b. intends n h (drop (place - 1) rs) || b) (or-false (intends_kind n h r.kind))
     go false e =
         let high : length (rs ++ r ∷ []) ≤ place - 1 = grind (arith, nat_tests, length-append {A = Record}) in
         let past : length rs ≤ place - 1 = grind (arith, nat_tests) in
@@ -65,7 +65,7 @@ pub since-more : (n h : ℕ) (since : Option ℕ) (rs : List Record) (i : ℕ) (
     → intends_since n h since (take (i + 1) rs) ≡ (intends_since n h since (take i rs) || (is_since (i + 1) since && intends_kind n h r.kind))
 since-more n h since rs i r below is =
     ap (intends_since n h since) (take_more rs i r below ∙ ap (λ y. take i rs ++ y ∷ []) (sym is)) ∙ since-snoc n h since (take i rs) r
-        ∙ ap (λ k. intends_since n h since (take i rs) || (is_since (k + 1) since && intends_kind n h r.kind)) (length-take i rs below)
+    ∙ ap (λ k. intends_since n h since (take i rs) || (is_since (k + 1) since && intends_kind n h r.kind)) (length-take i rs below)
   where
     length-take : (i : ℕ) (rs : List Record) → i < length rs → length (take i rs) ≡ i
     length-take zero rs h = refl
@@ -80,4 +80,4 @@ pub hold-more : (n h : ℕ) (since : Option ℕ) (rs : List Record) (i : ℕ) (r
     → old ≡ (base || intends_since n h since (take i rs)) → new ≡ (old || (is_since (i + 1) since && intends_kind n h r.kind)) → new ≡ (base || intends_since n h since (take (i + 1) rs))
 hold-more n h since rs i r old new base below is was step =
     step ∙ ap (λ b. b || (is_since (i + 1) since && intends_kind n h r.kind)) was ∙ or-assoc base (intends_since n h since (take i rs)) (is_since (i + 1) since && intends_kind n h r.kind)
-        ∙ ap (λ b. base || b) (sym (since-more n h since rs i r below is))
+    ∙ ap (λ b. base || b) (sym (since-more n h since rs i r below is))

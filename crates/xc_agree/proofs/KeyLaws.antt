@@ -61,9 +61,9 @@ waiting-holds n m time [] es = refl
 waiting-holds n m time (v ∷ vs) es =
     let f = fate-holds m m time vs es in
     list_any-append (λ w. w.txn == n) (waiting_by (fate m (map (λ v. Hold m time v) vs ++ es)) m v) (waiting (map (λ v. Hold m time v) vs ++ es))
-        ∙ ap (λ b. b || waits_in n (waiting (map (λ v. Hold m time v) vs ++ es))) (waits-by-fate n m (fate m (map (λ v. Hold m time v) vs ++ es)) v ∙ ap (λ x. m == n && is_waits x) f ∙ fate-equal n m es)
-        ∙ ap (λ b. (m == n && is_waits (fate n es)) || b) (waiting-holds n m time vs es)
-        ∙ join (m == n && is_waits (fate n es)) (some_put vs) (waits_in n (waiting es))
+    ∙ ap (λ b. b || waits_in n (waiting (map (λ v. Hold m time v) vs ++ es))) (waits-by-fate n m (fate m (map (λ v. Hold m time v) vs ++ es)) v ∙ ap (λ x. m == n && is_waits x) f ∙ fate-equal n m es)
+    ∙ ap (λ b. (m == n && is_waits (fate n es)) || b) (waiting-holds n m time vs es)
+    ∙ join (m == n && is_waits (fate n es)) (some_put vs) (waits_in n (waiting es))
   where
     join : (a p w : Bool) → (a || ((p && a) || w)) ≡ ((true && a) || w)
     join a p w = grind arith
@@ -91,9 +91,9 @@ waits-events n k w (r ∷ rs) = go r.time r.kind (λ w. waits-events n k w rs)
         let b = waiting-holds n m time (puts k ops) (events k rs) in
         let d = some_put-key k ops in
         ih (if m == n && at_key k ops then true else w) ∙ join (m == n) (at_key k ops) w (is_waits (fate n (events k rs))) (waits_in n (waiting (events k rs)))
-            ∙ sym (ap (λ f. (w && is_waits f) || waits_in n (waiting (map (λ v. Hold m time v) (puts k ops) ++ events k rs))) a
-                ∙ ap (λ x. (w && is_waits (fate n (events k rs))) || x) b
-                ∙ ap (λ p. (w && is_waits (fate n (events k rs))) || ((p && (m == n && is_waits (fate n (events k rs)))) || waits_in n (waiting (events k rs)))) d)
+        ∙ sym (ap (λ f. (w && is_waits f) || waits_in n (waiting (map (λ v. Hold m time v) (puts k ops) ++ events k rs))) a
+        ∙ ap (λ x. (w && is_waits (fate n (events k rs))) || x) b
+        ∙ ap (λ p. (w && is_waits (fate n (events k rs))) || ((p && (m == n && is_waits (fate n (events k rs)))) || waits_in n (waiting (events k rs)))) d)
       where
         join : (e p w f v : Bool) → (((if e && p then true else w) && f) || v) ≡ ((w && f) || ((p && (e && f)) || v))
         join e p w f v = grind arith
@@ -116,8 +116,8 @@ straggles-key n c k before [] = refl
 straggles-key n c k before (r ∷ rs) =
     let w : waits_by n (at_key k) false before ≡ waits_in n (waiting (events k before)) = waits-events n k false before in
     step (option_map_or (λ value. nat_le c value) (safe_value r.kind) false) (waits_in n (waiting (events k before))) (waits_by n (at_key k) false before) w
-        (straggles_at n c k (before ++ r ∷ []) rs) (straggles (at_key k) n c (wait_kind n (at_key k) (waits_by n (at_key k) false before) r.kind) rs)
-        (straggles-key n c k (before ++ r ∷ []) rs ∙ ap (λ x. straggles (at_key k) n c x rs) (waits-append n (at_key k) false before (r ∷ [])))
+    (straggles_at n c k (before ++ r ∷ []) rs) (straggles (at_key k) n c (wait_kind n (at_key k) (waits_by n (at_key k) false before) r.kind) rs)
+    (straggles-key n c k (before ++ r ∷ []) rs ∙ ap (λ x. straggles (at_key k) n c x rs) (waits-append n (at_key k) false before (r ∷ [])))
   where
     step : (s w v : Bool) → v ≡ w → (x y : Bool) → x ≡ y → (if s && w then true else x) ≡ ((s && v) || y)
     step s w v e x y f = rw (e, f) (grind arith)

@@ -49,7 +49,7 @@ kind-apply b p d l a s = kind-straggles p (d || b) l a s ∙ ap (λ k. if p then
 
 kind-apply-at : (b p d l a s here c q : Bool) (k : Option AgreeKind) → here ≡ true → c ≡ b → q ≡ p → k ≡ kind_of d l a s → kind_of (d || b) l a (s || p)
     ≡ if q then (if here then Some (earlier Straggler (if c then (if here then Some (earlier CommitDiffers k) else k) else k)) else (if c then (if here then Some (earlier CommitDiffers k) else k) else k))
-        else (if c then (if here then Some (earlier CommitDiffers k) else k) else k)
+    else (if c then (if here then Some (earlier CommitDiffers k) else k) else k)
 kind-apply-at b p d l a s here c q k h e f g = rw (h, e, f, g) (kind-apply b p d l a s)
 
 -- the kinds of the transactions that commit
@@ -113,8 +113,8 @@ take-apply old new mid commits txn time named commit is next starts since first 
 
     kinds : (seen : ℕ → ℕ → Seen) → IsLook old commits seen → (n : ℕ) (o : Option ℕ) → time_of commits n ≡ o
         → option_and_then (λ c. kind_seen (see_kind n c (seen n c) time (Apply txn named))) o
-            ≡ (if pends_in commit old txn then with_kind txn Straggler (λ n. if not (named == commit) then with_kind txn CommitDiffers (kinds_in commits seen) n else kinds_in commits seen n) n
-                else (if not (named == commit) then with_kind txn CommitDiffers (kinds_in commits seen) n else kinds_in commits seen n))
+        ≡ (if pends_in commit old txn then with_kind txn Straggler (λ n. if not (named == commit) then with_kind txn CommitDiffers (kinds_in commits seen) n else kinds_in commits seen n) n
+        else (if not (named == commit) then with_kind txn CommitDiffers (kinds_in commits seen) n else kinds_in commits seen n))
     kinds seen h n None e = grind (arith, nat_tests)
     kinds seen h n (Some c) e = go (txn == n) refl
       where
@@ -123,7 +123,7 @@ take-apply old new mid commits txn time named commit is next starts since first 
 
         go : (same : Bool) → txn == n ≡ same → kind_seen (if same then record (settles c (seen n c)) { differs = (seen n c).differs || not (named == c) } else passes (seen n c))
             ≡ (if pends_in commit old txn then with_kind txn Straggler (λ n. if not (named == commit) then with_kind txn CommitDiffers (kinds_in commits seen) n else kinds_in commits seen n) n
-                else (if not (named == commit) then with_kind txn CommitDiffers (kinds_in commits seen) n else kinds_in commits seen n))
+            else (if not (named == commit) then with_kind txn CommitDiffers (kinds_in commits seen) n else kinds_in commits seen n))
         go false apart = rw (other apart) (grind (arith, nat_tests))
         go true same =
             let at : txn ≡ n = eqb-true txn n same in
@@ -131,7 +131,7 @@ take-apply old new mid commits txn time named commit is next starts since first 
             let one : commit ≡ c = some-same (sym is ∙ ap (time_of commits) at ∙ e) in
             let p : pends_in commit old txn ≡ pends c (seen n c) = ap (λ x. pends_in x old txn) one ∙ ap (pends_in c old) at ∙ sym (pends-same old commits seen n c h e) in
             kind-apply-at (not (named == c)) (pends c (seen n c)) (seen n c).differs (seen n c).late (seen n c).aborted (seen n c).straggles (n == txn) (not (named == commit)) (pends_in commit old txn)
-                (kinds_in commits seen n) here (ap (λ x. not (named == x)) one) p (ap (option_and_then (λ c. kind_seen (seen n c))) e)
+            (kinds_in commits seen n) here (ap (λ x. not (named == x)) one) p (ap (option_and_then (λ c. kind_seen (seen n c))) e)
 
 -- an abort of a transaction that commits
 pub take-abort : (old new : Look) (mid : Option Found) (commits : Commits) (txn time commit : ℕ) → time_of commits txn ≡ Some commit → Next old new → (Began old → Began new)
@@ -153,11 +153,15 @@ take-abort old new mid commits txn time commit is next starts since first second
 
     kinds : (seen : ℕ → ℕ → Seen) → IsLook old commits seen → (n : ℕ) (o : Option ℕ) → time_of commits n ≡ o
         → option_and_then (λ c. kind_seen (see_kind n c (seen n c) time (Abort txn))) o
-            ≡ (if pends_in commit old txn then with_kind txn Straggler (with_kind txn Aborted (kinds_in commits seen)) n else with_kind txn Aborted (kinds_in commits seen) n)
+        ≡ (if pends_in commit old txn then with_kind txn Straggler (with_kind txn Aborted (kinds_in commits seen)) n else with_kind txn Aborted (kinds_in commits seen) n)
     kinds seen h n None e = grind (arith, nat_tests)
-    kinds seen h n (Some c) e = grind (arith, nat_tests, pends-same old commits seen n c h e,
-        kind-straggles (pends c (seen n c)) (seen n c).differs (seen n c).late true (seen n c).straggles,
-        kind-aborted (seen n c).differs (seen n c).late (seen n c).aborted (seen n c).straggles)
+    kinds seen h n (Some c) e = grind (
+      arith,
+      nat_tests,
+      pends-same old commits seen n c h e,
+      kind-straggles (pends c (seen n c)) (seen n c).differs (seen n c).late true (seen n c).straggles,
+      kind-aborted (seen n c).differs (seen n c).late (seen n c).aborted (seen n c).straggles,
+    )
 
 pub takes-same : (old new : Look) (commits : Commits) (time more : ℕ) (kind other : Kind) → time ≡ more → kind ≡ other → Takes old new commits time kind → Takes old new commits more other
 takes-same old new commits time more kind other t k h = subst (λ x. Takes old new commits x other) t (subst (λ x. Takes old new commits time x) k h)
@@ -261,11 +265,17 @@ try-more look commits seen found more txn tried after h step same is f = go (tim
 
     with : (n x : ℕ) (o : Option ℕ) → time_of commits n ≡ o → time_of commits txn ≡ Some x
         → option_and_then (λ c. kind_tried (is_among n after) c (seen n c)) o
-            ≡ (if pends_in x look txn then with_kind txn Straggler (λ n. option_and_then (λ c. kind_tried (is_among n tried) c (seen n c)) (time_of commits n)) n
-                else option_and_then (λ c. kind_tried (is_among n tried) c (seen n c)) (time_of commits n))
+        ≡ (if pends_in x look txn then with_kind txn Straggler (λ n. option_and_then (λ c. kind_tried (is_among n tried) c (seen n c)) (time_of commits n)) n
+        else option_and_then (λ c. kind_tried (is_among n tried) c (seen n c)) (time_of commits n))
     with n x None e some = grind (arith, nat_tests)
-    with n x (Some c) e some = grind (arith, nat_tests, among n, pends-same look commits seen n c h e, or-or (seen n c).straggles (is_among n tried) (pends c (seen n c)) (txn == n),
-        kind-straggles ((txn == n) && pends c (seen n c)) (seen n c).differs (seen n c).late (seen n c).aborted ((seen n c).straggles || (is_among n tried && pends c (seen n c))))
+    with n x (Some c) e some = grind (
+      arith,
+      nat_tests,
+      among n,
+      pends-same look commits seen n c h e,
+      or-or (seen n c).straggles (is_among n tried) (pends c (seen n c)) (txn == n),
+      kind-straggles ((txn == n) && pends c (seen n c)) (seen n c).differs (seen n c).late (seen n c).aborted ((seen n c).straggles || (is_among n tried && pends c (seen n c))),
+    )
 
     go : (o : Option ℕ) → time_of commits txn ≡ o → IsLeast more (λ n. option_and_then (λ c. kind_tried (is_among n after) c (seen n c)) (time_of commits n))
     go None e = rw (same e) (least-same found _ _ (λ n. apart n (time_of commits n) refl e) f)

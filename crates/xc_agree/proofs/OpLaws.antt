@@ -60,7 +60,7 @@ unfolding txn_ops
 any-txn_ops logs n q =
     let all : List Provisional = flat_map (λ (b : AcceptedTablet). intents_in n b.header.id b.records) (accepted_tablets logs) in
     any-flat q (λ (i : Provisional). i.ops) (sort_by provisional_cmp all) ∙ any-sort (λ (i : Provisional). list_any q i.ops) provisional_cmp all
-        ∙ any-flat (λ (i : Provisional). list_any q i.ops) (λ (b : AcceptedTablet). intents_in n b.header.id b.records) (accepted_tablets logs) ∙ any-tablets n q (accepted_tablets logs)
+    ∙ any-flat (λ (i : Provisional). list_any q i.ops) (λ (b : AcceptedTablet). intents_in n b.header.id b.records) (accepted_tablets logs) ∙ any-tablets n q (accepted_tablets logs)
 
 -- the operations of the record, where it is an intent of n, are among those of n
 pub record OpsIn (logs : Logs) (n : ℕ) (r : Record) : Type 0 where

@@ -86,6 +86,6 @@ pub add_run : (runs more : List Run) (ts : List Tablet) (i : ℕ) (t : Tablet) (
     → before ≡ runs → start ≡ start_from before t.header.parent → rs ≡ t.records → IsRunOf run start rs → more ≡ runs ++ run ∷ [] → IsRuns more (accepted_tablets_after [] (take (i + 1) ts)) (take (i + 1) ts)
 add_run runs more ts i t run start before rs below is h same begins all r e =
     let next : IsRun run (accepted_tablet_after (accepted_tablets_after [] (take i ts)) t) t =
-        next_run runs (accepted_tablets_after [] (take i ts)) (take i ts) t run h (subst (λ s. IsRunOf run s t.records) (begins ∙ ap (λ x. start_from x t.header.parent) same) (subst (λ x. IsRunOf run start x) all r)) in
+    next_run runs (accepted_tablets_after [] (take i ts)) (take i ts) t run h (subst (λ s. IsRunOf run s t.records) (begins ∙ ap (λ x. start_from x t.header.parent) same) (subst (λ x. IsRunOf run start x) all r)) in
     let one : take (i + 1) ts ≡ take i ts ++ t ∷ [] = take_more ts i t below ∙ ap (λ u. take i ts ++ u ∷ []) (sym is) in
     rw (e, one, accepted_tablets-snoc [] (take i ts) t) (IsRuns-snoc runs (accepted_tablets_after [] (take i ts)) (take i ts) run (accepted_tablet_after (accepted_tablets_after [] (take i ts)) t) t h next)

@@ -46,7 +46,7 @@ split_at (y ∷ ys) (suc i) x h e = ap (λ zs. y ∷ zs) (split_at ys i x (omega
 -- the tablet at i, with those before and after it
 pub around : (ts : List Tablet) (i : ℕ) (t : Tablet) → i < length ts → t ≡ get_or ts i t
     → accepted_tablets_after [] ts ≡ accepted_tablets_after [] (take i ts) ++ accepted_tablet_after (accepted_tablets_after [] (take i ts)) t
-        ∷ more (accepted_tablets_after [] (take i ts) ++ accepted_tablet_after (accepted_tablets_after [] (take i ts)) t ∷ []) (drop (suc i) ts)
+    ∷ more (accepted_tablets_after [] (take i ts) ++ accepted_tablet_after (accepted_tablets_after [] (take i ts)) t ∷ []) (drop (suc i) ts)
 around ts i t h e =
     ap (accepted_tablets_after []) (split_at ts i t h e) ∙ after-append [] (take i ts) (t ∷ drop (suc i) ts) ∙ after-more (accepted_tablets_after [] (take i ts)) (t ∷ drop (suc i) ts)
 
@@ -99,7 +99,7 @@ run-here runs ts i run t h below is at =
     let n : length (accepted_tablets_after [] (take i ts)) ≡ i = count-after [] (take i ts) ∙ ap (λ k. 0 + k) (take-count i ts (omega arith)) ∙ omega arith in
     let all : accepted_tablets_after [] ts ≡ accepted_tablets_after [] (take i ts) ++ b ∷ more (bs ++ b ∷ []) (drop (suc i) ts) = around ts i t below is in
     run-is runs (accepted_tablets_after [] ts) ts i run b t h (get-at runs i run (let k = runs-count runs (accepted_tablets_after [] ts) ts h in omega arith) at)
-        (ap (λ xs. slice_get xs i) all ∙ get-middle bs b (more (bs ++ b ∷ []) (drop (suc i) ts)) i n) (get-at ts i t below is)
+    (ap (λ xs. slice_get xs i) all ∙ get-middle bs b (more (bs ++ b ∷ []) (drop (suc i) ts)) i n) (get-at ts i t below is)
 
 take-within : {X : Type 0} (k : ℕ) (xs : List X) → length (take k xs) ≡ k → k ≤ length xs
 take-within zero xs e = omega arith

@@ -80,7 +80,7 @@ straggles-append : (p : List Op → Bool) (n c : ℕ) (w : Bool) (xs ys : List R
 straggles-append p n c w [] ys = refl
 straggles-append p n c w (x ∷ xs) ys =
     ap (λ b. (option_map_or (λ value. nat_le c value) (safe_value x.kind) false && w) || b) (straggles-append p n c (wait_kind n p w x.kind) xs ys)
-        ∙ or-assoc (option_map_or (λ value. nat_le c value) (safe_value x.kind) false && w) (straggles p n c (wait_kind n p w x.kind) xs) (straggles p n c (waits_by n p (wait_kind n p w x.kind) xs) ys)
+    ∙ or-assoc (option_map_or (λ value. nat_le c value) (safe_value x.kind) false && w) (straggles p n c (wait_kind n p w x.kind) xs) (straggles p n c (waits_by n p (wait_kind n p w x.kind) xs) ys)
   where
     or-assoc : (a b c : Bool) → (a || (b || c)) ≡ ((a || b) || c)
     or-assoc true b c = refl
@@ -204,7 +204,7 @@ waits-key : (logs : Logs) (n : ℕ) (p : List Op → Bool) (test : List ℕ → 
 waits-key logs n p test line [] w k h e = WaitsAt-line logs n test line (λ k. line k ++ []) (λ k f. sym (append-nil (line k))) (k e)
 waits-key logs n p test line (r ∷ rs) w k h e =
     WaitsAt-line logs n test (λ k. (line k ++ r ∷ []) ++ rs) (λ k. line k ++ r ∷ rs) (λ k f. append_assoc (line k) (r ∷ []) rs)
-        (waits-key logs n p test (λ k. line k ++ r ∷ []) rs (wait_kind n p w r.kind) (wait-step logs n p test line r w r.kind refl k h.0) h.1 e)
+    (waits-key logs n p test (λ k. line k ++ r ∷ []) rs (wait_kind n p w r.kind) (wait-step logs n p test line r w r.kind refl k h.0) h.1 e)
 
 -- an own key that the test passes, at which the transaction straggles
 record StragglesAt (logs : Logs) (n c : ℕ) (test : List ℕ → Bool) (line : List ℕ → List Record) (rs : List Record) : Type 0 where
@@ -218,9 +218,9 @@ straggles-somewhere : (logs : Logs) (n c : ℕ) (p : List Op → Bool) (test : L
 straggles-somewhere logs n c p test line before [] w k h e = cc
 straggles-somewhere logs n c p test line before (r ∷ rs) w k h e =
     go (option_map_or (λ value. nat_le c value) (safe_value r.kind) false) w refl refl
-        (λ e. straggles-somewhere logs n c p test line (before ++ r ∷ []) rs (wait_kind n p w r.kind)
-            (λ f. WaitsAt-line logs n test (λ k. (line k ++ before) ++ r ∷ []) (λ k. line k ++ (before ++ r ∷ [])) (λ k g. append_assoc (line k) before (r ∷ [])) (wait-step logs n p test (λ k. line k ++ before) r w r.kind refl k h.0 f)) h.1 e)
-        e
+    (λ e. straggles-somewhere logs n c p test line (before ++ r ∷ []) rs (wait_kind n p w r.kind)
+    (λ f. WaitsAt-line logs n test (λ k. (line k ++ before) ++ r ∷ []) (λ k. line k ++ (before ++ r ∷ [])) (λ k g. append_assoc (line k) before (r ∷ [])) (wait-step logs n p test (λ k. line k ++ before) r w r.kind refl k h.0 f)) h.1 e)
+    e
   where
     or-right : (a : Bool) {b : Bool} → b ≡ true → (a || b) ≡ true
     or-right true e = refl
@@ -343,9 +343,9 @@ straggler-held logs before b rest all tree n c held start own = both _ _ forth b
     forth e =
         let x = any-elim (λ (op : Op). holds b.header (hash_of op.key) && straggles_at n c op.key (path_above (accepted_tablets logs) b op.key) b.records) (txn_ops logs n) e in
         let parts : (holds b.header (hash_of x.0.key) ≡ true) × (straggles_at n c x.0.key (path_above (accepted_tablets logs) b x.0.key) b.records ≡ true) =
-            and_parts (holds b.header (hash_of x.0.key)) (straggles_at n c x.0.key (path_above (accepted_tablets logs) b x.0.key) b.records) x.1 in
+        and_parts (holds b.header (hash_of x.0.key)) (straggles_at n c x.0.key (path_above (accepted_tablets logs) b x.0.key) b.records) x.1 in
         straggles-wider n c (at_key x.0.key) any_op (waits_by n (at_key x.0.key) false (line_above before (hash_of x.0.key))) (waits_from b.header held n) b.records (key-any x.0.key) (held-at x.0.key parts.0)
-            (sym (key x.0.key) ∙ parts.1)
+        (sym (key x.0.key) ∙ parts.1)
 
     begins : waits_from b.header held n ≡ true → WaitsAt logs n (λ k. holds b.header (hash_of k)) (λ k. line_above before (hash_of k) ++ [])
     begins e =
@@ -353,9 +353,9 @@ straggler-held logs before b rest all tree n c held start own = both _ _ forth b
         let waits : waits_by n (writes_at y.hash) false (line_above before y.hash) ≡ true = sym (start y.hash y.within) ∙ y.held_there in
         let none : false ≡ true → WaitsAt logs n (λ k. hash_of k == y.hash) (λ k. []) = λ f. absurd (no f) in
         let x : WaitsAt logs n (λ k. hash_of k == y.hash) (λ k. line_above before y.hash) =
-            waits-key logs n (writes_at y.hash) (λ k. hash_of k == y.hash) (λ k. []) (line_above before y.hash) false none
-                (intends-hash logs n y.hash (line_above before y.hash) (each-flat (OpsIn logs n) (λ (a : AcceptedTablet). a.records) (at_hash y.hash before) (Each-filter (λ (a : AcceptedTablet). Each (OpsIn logs n) a.records) (λ a. holds a.header y.hash) before (each-before logs n before (b ∷ rest) ops))))
-                waits in
+        waits-key logs n (writes_at y.hash) (λ k. hash_of k == y.hash) (λ k. []) (line_above before y.hash) false none
+        (intends-hash logs n y.hash (line_above before y.hash) (each-flat (OpsIn logs n) (λ (a : AcceptedTablet). a.records) (at_hash y.hash before) (Each-filter (λ (a : AcceptedTablet). Each (OpsIn logs n) a.records) (λ a. holds a.header y.hash) before (each-before logs n before (b ∷ rest) ops))))
+        waits in
         let same : hash_of x.key ≡ y.hash = eqb-true (hash_of x.key) y.hash x.passes in
         record {
           key = x.key;
@@ -370,8 +370,8 @@ straggler-held logs before b rest all tree n c held start own = both _ _ forth b
     back : straggles any_op n c (waits_from b.header held n) b.records ≡ true → list_any (λ op. holds b.header (hash_of op.key) && straggles_at n c op.key (path_above (accepted_tablets logs) b op.key) b.records) (txn_ops logs n) ≡ true
     back e =
         let x : StragglesAt logs n c (λ k. holds b.header (hash_of k)) (λ k. line_above before (hash_of k)) b.records =
-            straggles-somewhere logs n c any_op (λ k. holds b.header (hash_of k)) (λ k. line_above before (hash_of k)) [] b.records (waits_from b.header held n) begins
-                (intends-range logs n b.header b.records (each-here logs n before b rest ops) own) e in
+        straggles-somewhere logs n c any_op (λ k. holds b.header (hash_of k)) (λ k. line_above before (hash_of k)) [] b.records (waits_from b.header held n) begins
+        (intends-range logs n b.header b.records (each-here logs n before b rest ops) own) e in
         x.own (λ k. holds b.header (hash_of k) && straggles_at n c k (path_above (accepted_tablets logs) b k) b.records) (rw (x.passes, key x.key, x.straggles) refl)
 
 -- nothing waits at a hash outside the range

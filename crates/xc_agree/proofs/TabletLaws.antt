@@ -243,13 +243,13 @@ cases-next ts commits bs b rest lefts all tree a own order n = go (time_of commi
   where
     go : (o : Option ℕ) → time_of commits n ≡ o
         → option_and_then (λ c. first_some (λ b. option_map (case_of n b.header.id) (kind_at (of_tablets ts) n c b)) (bs ++ b ∷ [])) o
-            ≡ or_else (option_and_then (λ c. first_some (λ b. option_map (case_of n b.header.id) (kind_at (of_tablets ts) n c b)) bs) o)
-                (option_map (case_of n b.header.id) (option_and_then (λ c. kind_at_end c (seen_at_end b.header (held_from lefts b.header.parent) b.records n c)) o))
+        ≡ or_else (option_and_then (λ c. first_some (λ b. option_map (case_of n b.header.id) (kind_at (of_tablets ts) n c b)) bs) o)
+        (option_map (case_of n b.header.id) (option_and_then (λ c. kind_at_end c (seen_at_end b.header (held_from lefts b.header.parent) b.records n c)) o))
     go None e = refl
     go (Some c) e =
         let k = kind-here (of_tablets ts) bs b rest all tree n c (held_from lefts b.header.parent) (λ h s. start-here lefts commits bs b rest a tree n c h e s b.header.parent refl) own order in
         first-append (λ (b : AcceptedTablet). option_map (case_of n b.header.id) (kind_at (of_tablets ts) n c b)) bs (b ∷ [])
-            ∙ ap (or_else (first_some (λ (b : AcceptedTablet). option_map (case_of n b.header.id) (kind_at (of_tablets ts) n c b)) bs)) (or-none (option_map (case_of n b.header.id) (kind_at (of_tablets ts) n c b)) ∙ ap (option_map (case_of n b.header.id)) (sym k))
+        ∙ ap (or_else (first_some (λ (b : AcceptedTablet). option_map (case_of n b.header.id) (kind_at (of_tablets ts) n c b)) bs)) (or-none (option_map (case_of n b.header.id) (kind_at (of_tablets ts) n c b)) ∙ ap (option_map (case_of n b.header.id)) (sym k))
 
 tree-of : (ts : List Tablet) → IsSound ts → accepted_tablets (of_tablets ts) ≡ accepted_tablets_after [] ts
 unfolding accepted_tablets
@@ -278,8 +278,8 @@ tablet-more ts i t run commits lefts after left found first next s below is r a 
     let one : accepted_tablets_after [] (take (i + 1) ts) ≡ accepted_tablets_after [] (take i ts) ++ accepted_tablet_after (accepted_tablets_after [] (take i ts)) t ∷ [] = tablets-more ts i t below is in
     let lefts_now : AreLeft (lefts ++ left ∷ []) commits (bs ++ b ∷ []) = lefts-more lefts left commits bs b a (left-next lefts left commits bs b rest a tree own leaves) in
     let first_now : IsFirst next (cases_of (of_tablets ts) commits (bs ++ b ∷ [])) =
-        first-same next _ (cases_of (of_tablets ts) commits (bs ++ b ∷ [])) (cases-next ts commits bs b rest lefts all tree a own order)
-            (step (cases_of (of_tablets ts) commits bs) (λ n. option_and_then (λ c. kind_at_end c (seen_at_end b.header (held_from lefts b.header.parent) b.records n c)) (time_of commits n)) f ends) in
+    first-same next _ (cases_of (of_tablets ts) commits (bs ++ b ∷ [])) (cases-next ts commits bs b rest lefts all tree a own order)
+    (step (cases_of (of_tablets ts) commits bs) (λ n. option_and_then (λ c. kind_at_end c (seen_at_end b.header (held_from lefts b.header.parent) b.records n c)) (time_of commits n)) f ends) in
     (subst (λ xs. AreLeft after commits xs) (sym one) (subst (λ xs. AreLeft xs commits (bs ++ b ∷ [])) (sym more_left) lefts_now), subst (λ xs. IsFirst next (cases_of (of_tablets ts) commits xs)) (sym one) first_now)
 
 -- the same, where what the tablets before left is seen as a slice
@@ -292,6 +292,6 @@ pub tablet-next : (ts : List Tablet) (i : ℕ) (t : Tablet) (run : Run) (commits
     → AreLeft after commits (accepted_tablets_after [] (take (i + 1) ts)) × IsFirst next (cases_of (of_tablets ts) commits (accepted_tablets_after [] (take (i + 1) ts)))
 tablet-next ts i t run commits lefts now after left found first next same s below is r a f is_end is_left step more_left =
     tablet-more ts i t run commits lefts after left found first next s below is r a f
-        (subst (λ xs. HoldsCommits (held_from xs t.header.parent) commits → IsEnd found commits (seen_at_end t.header (held_from xs t.header.parent) (take run.walk.accepted t.records))) same is_end)
-        (subst (λ xs. HoldsCommits (held_from xs t.header.parent) commits → IsLeft left.items commits t.header (held_from xs t.header.parent) (take run.walk.accepted t.records)) same is_left)
-        step more_left
+    (subst (λ xs. HoldsCommits (held_from xs t.header.parent) commits → IsEnd found commits (seen_at_end t.header (held_from xs t.header.parent) (take run.walk.accepted t.records))) same is_end)
+    (subst (λ xs. HoldsCommits (held_from xs t.header.parent) commits → IsLeft left.items commits t.header (held_from xs t.header.parent) (take run.walk.accepted t.records)) same is_left)
+    step more_left

@@ -109,7 +109,7 @@ parent-line : (h : ℕ) (before : List AcceptedTablet) (b : AcceptedTablet) (res
     → b.header.parent ≡ line_end None (headers (at_hash h before))
 parent-line h before b rest l s =
     let whole : headers (at_hash h (before ++ b ∷ rest)) ≡ headers (at_hash h before) ++ b.header ∷ headers (at_hash h rest) =
-        ap headers (at_hash-append h before (b ∷ rest) ∙ ap (λ xs. at_hash h before ++ xs) (rw s refl)) ∙ map-append (at_hash h before) (b ∷ at_hash h rest) in
+    ap headers (at_hash-append h before (b ∷ rest) ∙ ap (λ xs. at_hash h before ++ xs) (rw s refl)) ∙ map-append (at_hash h before) (b ∷ at_hash h rest) in
     line-split None (headers (at_hash h before)) b.header (headers (at_hash h rest)) (subst (Line None) whole l)
 
 numbered-before : (m : ℕ) (before rest : List AcceptedTablet) → Numbered m (headers (before ++ rest)) → Numbered m (headers before)
@@ -176,6 +176,6 @@ pub below_number : (h : ℕ) (before : List AcceptedTablet) (b : AcceptedTablet)
 below_number h before b rest t =
     let i : b.header.id ≡ length before = number-before before b rest t in
     below-append h b.header.id before (b ∷ rest)
-        ∙ ap (λ xs. below h b.header.id before ++ xs) (none-below h b.header.id (0 + length before) (b ∷ rest) (numbered-after 0 before (b ∷ rest) t.numbered) (omega arith))
-        ∙ append-nil (below h b.header.id before)
-        ∙ all-below h b.header.id 0 before (numbered-before 0 before (b ∷ rest) t.numbered) (omega arith)
+    ∙ ap (λ xs. below h b.header.id before ++ xs) (none-below h b.header.id (0 + length before) (b ∷ rest) (numbered-after 0 before (b ∷ rest) t.numbered) (omega arith))
+    ∙ append-nil (below h b.header.id before)
+    ∙ all-below h b.header.id 0 before (numbered-before 0 before (b ∷ rest) t.numbered) (omega arith)

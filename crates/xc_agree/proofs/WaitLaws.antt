@@ -54,8 +54,8 @@ step-waits n c h held s done r time (Intent txn ops) e k = go (txn == n) refl s.
   where
     go : (b : Bool) → txn == n ≡ b → (o : Option ℕ) → s.since ≡ o
         → (if b && writes_at h ops then true else waits_by n (writes_at h) held done)
-            ≡ ((held && is_start (if b then record s { place = s.place + 1; since = or_else o (Some (s.place + 1)); late = s.late || nat_le c time } else record s { place = s.place + 1 }).since)
-                || intends_since n h (if b then record s { place = s.place + 1; since = or_else o (Some (s.place + 1)); late = s.late || nat_le c time } else record s { place = s.place + 1 }).since (done ++ r ∷ []))
+        ≡ ((held && is_start (if b then record s { place = s.place + 1; since = or_else o (Some (s.place + 1)); late = s.late || nat_le c time } else record s { place = s.place + 1 }).since)
+        || intends_since n h (if b then record s { place = s.place + 1; since = or_else o (Some (s.place + 1)); late = s.late || nat_le c time } else record s { place = s.place + 1 }).since (done ++ r ∷ []))
     go false f o g = grind (arith, k.waits, since-snoc n h s.since done r)
     go true f None g = grind (arith, k.waits, k.place, since-snoc n h (Some (s.place + 1)) done r, empty-since n h done)
     go true f (Some place) g = grind (arith, nat_tests, k.waits, k.place, k.below, since-snoc n h (Some place) done r)
@@ -77,14 +77,14 @@ below-see n c s time (Safe value) h = below-later s.place s.since h
 below-see n c s time (Split at left right) h = below-later s.place s.since h
 below-see n c s time (Apply txn commit) h =
     elim (txn == n) as (λ b. Below (if b then record (settles c s) { differs = s.differs || not (commit == c) } else passes s).place (if b then record (settles c s) { differs = s.differs || not (commit == c) } else passes s).since)
-        [ true ↦ refl | false ↦ below-later s.place s.since h ]
+    [ true ↦ refl | false ↦ below-later s.place s.since h ]
 below-see n c s time (Abort txn) h =
     elim (txn == n) as (λ b. Below (if b then record (settles c s) { aborted = true } else passes s).place (if b then record (settles c s) { aborted = true } else passes s).since)
-        [ true ↦ refl | false ↦ below-later s.place s.since h ]
+    [ true ↦ refl | false ↦ below-later s.place s.since h ]
 below-see n c s time (Intent txn ops) h =
     elim (txn == n) as (λ b. Below (if b then record s { place = s.place + 1; since = or_else s.since (Some (s.place + 1)); late = s.late || nat_le c time } else passes s).place
-            (if b then record s { place = s.place + 1; since = or_else s.since (Some (s.place + 1)); late = s.late || nat_le c time } else passes s).since)
-        [ true ↦ below-or s.place s.since h | false ↦ below-later s.place s.since h ]
+    (if b then record s { place = s.place + 1; since = or_else s.since (Some (s.place + 1)); late = s.late || nat_le c time } else passes s).since)
+    [ true ↦ below-or s.place s.since h | false ↦ below-later s.place s.since h ]
 
 pub place-see : (n c : ℕ) (s : Seen) (time : ℕ) (kind : Kind) → (see_kind n c s time kind).place ≡ s.place + 1
 place-see n c s time (Write ops) = refl
@@ -155,5 +155,5 @@ left-at-end look commits header held left rs k is n h = is n h ∙ go (time_of c
     go (Some c) e =
         let since : since_in look n ≡ (seen_at_end header held rs n c).since = k.since n ∙ ap (option_and_then (λ c. (seen_at_end header held rs n c).since)) e in
         let still : Still n h (is_held held n h && holds header h) (seen_at_end header held rs n c) rs =
-            still-all n c h (is_held held n h && holds header h) (unseen (waits_from header held n)) [] rs (still-begin n h (is_held held n h && holds header h) (waits_from header held n) (held-waits n h header held)) in
+        still-all n c h (is_held held n h && holds header h) (unseen (waits_from header held n)) [] rs (still-begin n h (is_held held n h && holds header h) (waits_from header held n) (held-waits n h header held)) in
         rw since (ap (λ b. b || intends_since n h (seen_at_end header held rs n c).since rs) (and-assoc (is_held held n h) (holds header h) (is_start (seen_at_end header held rs n c).since)) ∙ sym still.waits)

@@ -1,5 +1,6 @@
 // What an audit answers.
 ghost use Rattle.std.specs.Prelude.{◌≡◌};
+
 use std::marker::Model;
 use xc_record::{AgreeKind, Break};
 

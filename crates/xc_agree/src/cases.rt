@@ -35,13 +35,7 @@ pub fn first_of(first: Option<Case>, found: Option<Found>, tablet: u32) -> Optio
     };
     match first {
         None => Some(here),
-        Some(case) => {
-            if f.txn < case.txn {
-                Some(here)
-            } else {
-                first
-            }
-        }
+        Some(case) => { if f.txn < case.txn { Some(here) } else { first } }
     }
 }
 

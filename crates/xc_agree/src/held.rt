@@ -31,7 +31,12 @@ fn stays(look: &Look, header: &Header, x: Held) -> bool
 }
 
 // What was held at a hash of the range and waits still.
-fn hold_still(alloc: Global, look: &Look, header: &Header, held: &[Held]) -> Result<Vec<Held>, AllocError>
+fn hold_still(
+    alloc: Global,
+    look: &Look,
+    header: &Header,
+    held: &[Held],
+) -> Result<Vec<Held>, AllocError>
     ensures { IfOk result (λ still. (n h : ℕ) → is_held still.items n h ≡ (is_held held.now n h && (holds header.now h && is_start (since_in look.now n)))) }
 {
     let mut still = Vec::new(alloc);
@@ -54,7 +59,12 @@ fn hold_ops(held: &mut Vec<Held>, txn: u32, ops: &[Op]) -> Result<(), AllocError
 }
 
 // With what the record at the place holds, where its transaction waits since then.
-fn hold_record(held: &mut Vec<Held>, look: &Look, place: usize, r: &Record) -> Result<(), AllocError>
+fn hold_record(
+    held: &mut Vec<Held>,
+    look: &Look,
+    place: usize,
+    r: &Record,
+) -> Result<(), AllocError>
     ensures { OnOk result ((n h : ℕ) → is_held held.new.items n h ≡ (is_held held.old.items n h || (is_since place (since_in look.now n) && intends_kind n h r.now.kind))) }
 {
     if let Kind::Intent { txn, ops } = &r.kind {

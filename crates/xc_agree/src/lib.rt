@@ -1,18 +1,18 @@
 //! The audit of whole logs: what each tablet accepts, where it ends, and whether the tablets agree.
 #![tactic(auto)]
 
-mod judgement;
 mod audit;
 mod cases;
 mod commits;
 mod held;
 mod judge;
+mod judgement;
 mod look;
 mod run;
 mod tablets;
 
-pub use judgement::agree;
 pub use audit::{AgreeFail, Audit, End, EndState, Ends};
+pub use judgement::agree;
 
 #[cfg(test)]
 mod tests {
@@ -33,6 +33,7 @@ mod tests {
         Abort(u32),
         Safe(u64),
     }
+
     use Step::{Abort, Apply, Intent, Safe, Write};
 
     fn ops(alloc: Global, key: &[u8]) -> Result<Option<Ops>, AllocError> {
@@ -75,8 +76,10 @@ mod tests {
         let mut items = Vec::new(alloc);
         for (tablet, time, step) in steps {
             if *tablet == id {
-                if let (Some(time), Some(kind)) = (HybridTime::new(*time), kind(alloc, key, *step)?)
-                {
+                if let (Some(time), Some(kind)) = (
+                    HybridTime::new(*time),
+                    kind(alloc, key, *step)?,
+                ) {
                     items.push(Record { time, kind })?;
                 }
             }
@@ -118,15 +121,75 @@ mod tests {
     #[test]
     fn each_kind_alone_and_the_first_of_two(rt: HostRuntime) -> Result<(), Fail> {
         let alloc = rt.alloc();
-        assert_eq!(rt; judged(alloc, &[(0, 10, Write), (0, 11, Intent(7)), (0, 20, Apply(7, 15)), (1, 12, Apply(9, 12))]), Ok(Some(3)));
-        assert_eq!(rt; judged(alloc, &[(0, 20, Apply(7, 15)), (1, 25, Apply(7, 16))]), case(7, 1, AgreeKind::CommitDiffers));
-        assert_eq!(rt; judged(alloc, &[(0, 20, Apply(7, 15)), (1, 15, Intent(7))]), case(7, 1, AgreeKind::LateIntent));
-        assert_eq!(rt; judged(alloc, &[(0, 20, Apply(7, 15)), (1, 5, Abort(7))]), case(7, 1, AgreeKind::Aborted));
-        assert_eq!(rt; judged(alloc, &[(0, 20, Apply(7, 15)), (1, 11, Intent(7)), (1, 21, Safe(15))]), case(7, 1, AgreeKind::Straggler));
-        assert_eq!(rt; judged(alloc, &[(0, 20, Apply(7, 15)), (1, 11, Intent(7)), (1, 21, Safe(14)), (1, 25, Apply(7, 15))]), Ok(Some(1)));
-        assert_eq!(rt; judged(alloc, &[(0, 20, Apply(7, 15)), (0, 21, Apply(5, 15)), (1, 15, Intent(7)), (1, 25, Abort(5))]), case(5, 1, AgreeKind::Aborted));
-        assert_eq!(rt; judged(alloc, &[(0, 20, Apply(7, 15)), (0, 21, Abort(7)), (1, 15, Intent(7))]), case(7, 0, AgreeKind::Aborted));
-        assert_eq!(rt; judged(alloc, &[(0, 20, Apply(7, 15)), (1, 16, Abort(7)), (1, 17, Intent(7))]), case(7, 1, AgreeKind::LateIntent));
+        assert_eq!(rt;
+            judged(
+                alloc,
+                &[
+                    (0, 10, Write),
+                    (0, 11, Intent(7)),
+                    (0, 20, Apply(7, 15)),
+                    (1, 12, Apply(9, 12))
+                ]
+            ),
+            Ok(Some(3))
+        );
+        assert_eq!(rt;
+            judged(alloc, &[(0, 20, Apply(7, 15)), (1, 25, Apply(7, 16))]),
+            case(7, 1, AgreeKind::CommitDiffers)
+        );
+        assert_eq!(rt;
+            judged(alloc, &[(0, 20, Apply(7, 15)), (1, 15, Intent(7))]),
+            case(7, 1, AgreeKind::LateIntent)
+        );
+        assert_eq!(rt;
+            judged(alloc, &[(0, 20, Apply(7, 15)), (1, 5, Abort(7))]),
+            case(7, 1, AgreeKind::Aborted)
+        );
+        assert_eq!(rt;
+            judged(
+                alloc,
+                &[(0, 20, Apply(7, 15)), (1, 11, Intent(7)), (1, 21, Safe(15))]
+            ),
+            case(7, 1, AgreeKind::Straggler)
+        );
+        assert_eq!(rt;
+            judged(
+                alloc,
+                &[
+                    (0, 20, Apply(7, 15)),
+                    (1, 11, Intent(7)),
+                    (1, 21, Safe(14)),
+                    (1, 25, Apply(7, 15))
+                ]
+            ),
+            Ok(Some(1))
+        );
+        assert_eq!(rt;
+            judged(
+                alloc,
+                &[
+                    (0, 20, Apply(7, 15)),
+                    (0, 21, Apply(5, 15)),
+                    (1, 15, Intent(7)),
+                    (1, 25, Abort(5))
+                ]
+            ),
+            case(5, 1, AgreeKind::Aborted)
+        );
+        assert_eq!(rt;
+            judged(
+                alloc,
+                &[(0, 20, Apply(7, 15)), (0, 21, Abort(7)), (1, 15, Intent(7))]
+            ),
+            case(7, 0, AgreeKind::Aborted)
+        );
+        assert_eq!(rt;
+            judged(
+                alloc,
+                &[(0, 20, Apply(7, 15)), (1, 16, Abort(7)), (1, 17, Intent(7))]
+            ),
+            case(7, 1, AgreeKind::LateIntent)
+        );
         Ok(())
     }
 }

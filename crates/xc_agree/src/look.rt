@@ -54,7 +54,11 @@ fn least(found: Option<Found>, txn: u32, kind: AgreeKind) -> Option<Found>
 fn least_if(found: Option<Found>, stands: bool, txn: u32, kind: AgreeKind) -> Option<Found>
     ensures { IsLeastWith found stands txn kind result }
 {
-    if stands { least(found, txn, kind) } else { found }
+    if stands {
+        least(found, txn, kind)
+    } else {
+        found
+    }
 }
 
 /// What a tablet's records so far say of all transactions that were applied.

@@ -14,11 +14,7 @@ use std::alloc::{AllocError, Global};
 use xc_record::Tablet;
 
 /// The commits of all accepted records.
-pub fn note_commits(
-    alloc: Global,
-    tablets: &[Tablet],
-    runs: &[Run],
-) -> Result<Commits, AllocError>
+pub fn note_commits(alloc: Global, tablets: &[Tablet], runs: &[Run]) -> Result<Commits, AllocError>
     requires runs { IsRuns runs.now (accepted_tablets_after [] tablets.now) tablets.now }
     requires valid { IsTrue (is_valid (of_tablets tablets.now)) }
     ensures { IfOk result (λ commits. AreCommits commits (all_records (accepted_tablets_after [] tablets.now))) }

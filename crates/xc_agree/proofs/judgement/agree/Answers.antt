@@ -8,4 +8,4 @@ returns-in-Some-clause-fail c =
 pub returns-clause-audit : goal.returns-clause-audit
 returns-clause-audit c =
     audits c.tablets-tablets.result.now c.args.logs.now c.in-Ok.runs.items c.as_slice-3.result.now c.in-Ok-note_commits.commits c.in-Ok-first_case.first _ c.tablets-tablets.ensures.tablets c.as_slice-3.ensures.value c.in-Ok.ensures c.in-Ok-note_commits.ensures
-        c.in-Ok-first_case.ensures c.in_default-first.is c.in-Ok-ends_of.ensures c.count.ensures
+    c.in-Ok-first_case.ensures c.in_default-first.is c.in-Ok-ends_of.ensures c.count.ensures

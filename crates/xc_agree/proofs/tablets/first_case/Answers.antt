@@ -21,6 +21,6 @@ judge_tablet-requires-clause-bound c =
 pub loop-i-preserved : goal.loop-i-preserved
 loop-i-preserved c =
     tablet-next c.args.tablets.now c.loop-i.i c.index-tablets-i.result c.index-runs-i.result c.args.commits.now c.loop-i.lefts.items c.as_slice.result.now c.push.new.self.items c.in_ok-judged.judged.left c.in_ok-judged.judged.found c.loop-i.first c.first_of-first.result
-        c.as_slice.ensures.value (valid-sound c.args.tablets.now c.requires.valid) c.loop-i-test.true c.index-tablets-i.is
-        (run-here c.args.runs.now c.args.tablets.now c.loop-i.i c.index-runs-i.result c.index-tablets-i.result c.requires.runs c.loop-i-test.true c.index-tablets-i.is c.index-runs-i.is)
-        c.loop-i.invariant.0 c.loop-i.invariant.1 c.in_ok-judged.ensures.found c.in_ok-judged.ensures.left c.first_of-first.ensures c.in_ok-push.ensures.items
+    c.as_slice.ensures.value (valid-sound c.args.tablets.now c.requires.valid) c.loop-i-test.true c.index-tablets-i.is
+    (run-here c.args.runs.now c.args.tablets.now c.loop-i.i c.index-runs-i.result c.index-tablets-i.result c.requires.runs c.loop-i-test.true c.index-tablets-i.is c.index-runs-i.is)
+    c.loop-i.invariant.0 c.loop-i.invariant.1 c.in_ok-judged.ensures.found c.in_ok-judged.ensures.left c.first_of-first.ensures c.in_ok-push.ensures.items

@@ -15,10 +15,10 @@ accepted_part-requires c =
 pub add_all-requires : goal.add_all-requires
 add_all-requires c =
     note-bound c.args.tablets.now c.loop-i.i c.loop-i.commits.count c.index-tablets-i.result c.index-runs-i.result _ c.accepted_part.result.now (valid-sound c.args.tablets.now c.requires.valid)
-        (run-here c.args.runs.now c.args.tablets.now c.loop-i.i c.index-runs-i.result c.index-tablets-i.result c.requires.runs c.loop-i-test.true c.index-tablets-i.is c.index-runs-i.is) c.loop-i-test.true c.index-tablets-i.is c.accepted_part.ensures c.loop-i.invariant.0
+    (run-here c.args.runs.now c.args.tablets.now c.loop-i.i c.index-runs-i.result c.index-tablets-i.result c.requires.runs c.loop-i-test.true c.index-tablets-i.is c.index-runs-i.is) c.loop-i-test.true c.index-tablets-i.is c.accepted_part.ensures c.loop-i.invariant.0
 
 pub loop-i-preserved : goal.loop-i-preserved
 loop-i-preserved c =
     note-more c.args.tablets.now c.loop-i.i c.index-tablets-i.result c.index-runs-i.result c.loop-i.commits c.add_all.new.self c.accepted_part.result.now
-        (run-here c.args.runs.now c.args.tablets.now c.loop-i.i c.index-runs-i.result c.index-tablets-i.result c.requires.runs c.loop-i-test.true c.index-tablets-i.is c.index-runs-i.is) c.loop-i-test.true c.index-tablets-i.is c.accepted_part.ensures c.loop-i.invariant.0
-        c.loop-i.invariant.1 c.in_ok-add_all.ensures.bound c.in_ok-add_all.ensures.added
+    (run-here c.args.runs.now c.args.tablets.now c.loop-i.i c.index-runs-i.result c.index-tablets-i.result c.requires.runs c.loop-i-test.true c.index-tablets-i.is c.index-runs-i.is) c.loop-i-test.true c.index-tablets-i.is c.accepted_part.ensures c.loop-i.invariant.0
+    c.loop-i.invariant.1 c.in_ok-add_all.ensures.bound c.in_ok-add_all.ensures.added

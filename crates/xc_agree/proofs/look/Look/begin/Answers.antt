@@ -9,5 +9,5 @@ pub returns-clause-begun : goal.returns-clause-begun
 returns-clause-begun c = λ commits none.
     let h = c.loop-x.invariant in
     begin-look c.loop-x.look commits c.args.header.now c.args.held.now
-        (subst (λ xs. (n : ℕ) → since_in c.loop-x.look n ≡ (if waits_from c.args.header.now xs n then Some 0 else None)) (take_past c.loop-x.x-index c.args.held.now c.loop-x-test.false) h.since)
-        h.place h.safe h.floor h.found h.began none
+    (subst (λ xs. (n : ℕ) → since_in c.loop-x.look n ≡ (if waits_from c.args.header.now xs n then Some 0 else None)) (take_past c.loop-x.x-index c.args.held.now c.loop-x-test.false) h.since)
+    h.place h.safe h.floor h.found h.began none

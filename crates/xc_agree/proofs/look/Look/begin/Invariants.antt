@@ -10,5 +10,5 @@ invariant-loop-x l = record {
   safe : l.look.safe ≡ 0;
   floor : l.look.floor ≡ 0;
   found : l.look.found ≡ None;
-  began : Began l.look
+  began : Began l.look;
 }

@@ -6,4 +6,4 @@ pub returns-in-Some-clause-taken : goal.returns-in-Some-clause-taken
 returns-in-Some-clause-taken c = λ time.
     let w = c.settle.ensures in
     take-abort c.args.self.now _ c.least-self.result c.args.commits.now c.args.txn time c.in-Some.commit (sym c.time_of.ensures ∙ c.in-Some.is) (record { place = ap (λ n. n + 1) w.kept.place; safe = w.kept.safe; floor = w.kept.floor }) w.began
-        w.since c.least-self.ensures w.found
+    w.since c.least-self.ensures w.found

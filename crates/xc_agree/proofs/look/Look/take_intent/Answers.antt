@@ -10,4 +10,4 @@ pub returns-in_ok-wait-in-Some-clause-taken : goal.returns-in_ok-wait-in-Some-cl
 returns-in_ok-wait-in-Some-clause-taken c = λ ops.
     let w = c.in_ok-wait-in-Some.ensures in
     take-intent c.args.self.now _ c.args.commits.now c.args.txn c.args.time c.in-Some.commit ops (sym c.time_of.ensures ∙ c.in-Some.is) (record { place = ap (λ n. n + 1) w.kept.place; safe = w.kept.safe; floor = w.kept.floor }) w.began
-        w.since (λ kinds h. subst (λ f. IsLeast f (λ n. if nat_le c.in-Some.commit c.args.time then with_kind c.args.txn LateIntent kinds n else kinds n)) (sym w.found) (c.least_if-self.ensures kinds h))
+    w.since (λ kinds h. subst (λ f. IsLeast f (λ n. if nat_le c.in-Some.commit c.args.time then with_kind c.args.txn LateIntent kinds n else kinds n)) (sym w.found) (c.least_if-self.ensures kinds h))

@@ -1,5 +1,5 @@
 -- Bytes that are no name.
-use Rattle.std.proofs.Common.{◌≡◌, ℕ, Bool, true, false, List, Option, Some, None, refl, sym, ◌∙◌}
+use Rattle.std.proofs.Common.{◌≡◌, ℕ, Bool, true, false, List, Some, None, refl}
 use Rattle.xc_base.specs.declared.name.BadName.{BadName}
 use Rattle.xc_base.specs.Names.{is_key, is_value, key_fault, value_fault}
 use Rattle.xc_base.proofs.NameLemmas.{key-has_no_fault, value-has_no_fault}

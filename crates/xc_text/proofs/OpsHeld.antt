@@ -1,5 +1,5 @@
 -- Each write and each intent of a text has an operation.
-use Rattle.std.proofs.Common.{◌≡◌, ℕ, ◌≤◌, Bool, true, false, nat_le, List, [], ◌∷◌, length, Option, Some, None, if◌then◌else◌, refl, option_and_then, option_map, codes, arith}
+use Rattle.std.proofs.Common.{◌≡◌, ℕ, Bool, true, false, nat_le, List, [], ◌∷◌, length, Option, Some, None, if◌then◌else◌, refl, option_and_then, option_map, codes, arith}
 use Rattle.std.proofs.lemmas.Bool.Decides.{nat_tests}
 use Rattle.std.specs.Option.{option_map_or}
 use Rattle.std.specs.Str.{bytes_eq}
@@ -8,7 +8,7 @@ use Rattle.xc_record.specs.declared.record.Kind.{Kind}
 use Rattle.xc_record.specs.declared.record.Kind.TheVariants.{Write, Intent, Apply, Abort, Safe, Split}
 use Rattle.xc_text.specs.declared.line.LogLine.{LogLine}
 use Rattle.xc_text.specs.declared.line.LogLine.TheVariants as line
-use Rattle.xc_text.specs.Lines.{op_of, all_ops, ops_of, kind_of, kind_by, line_of, line_by, entry_of, header_of, version_of, at_end, is_over, number, first_number, intent_of, apply_of, abort_of, safe_of, split_of, ◌>>=◌}
+use Rattle.xc_text.specs.Lines.{op_of, all_ops, ops_of, kind_of, kind_by, line_of, line_by, entry_of, header_of, version_of, at_end, number, first_number, intent_of, apply_of, abort_of, safe_of, split_of, ◌>>=◌}
 use Rattle.xc_text.proofs.ValidParts.{has_ops}
 
 -- the test holds of what there is

@@ -1,11 +1,10 @@
 -- The operations of a line, read one by one.
-use Rattle.std.proofs.Common.{◌≡◌, ℕ, ◌+◌, Bool, true, false, ◌&&◌, List, [], ◌∷◌, ◌++◌, length, Option, Some, None, Result, Ok, Err, is_some, refl, sym, ap, ◌∙◌, append_assoc, option_and_then, arith}
+use Rattle.std.proofs.Common.{◌≡◌, ℕ, Bool, true, false, List, [], ◌∷◌, ◌++◌, length, Option, Some, None, Result, Ok, Err, is_some, refl, sym, ap, ◌∙◌, append_assoc, option_and_then, arith}
 use Rattle.std.specs.List.{list_all}
 use Rattle.std.specs.Option.{option_map}
 use Rattle.xc_record.specs.declared.record.Op.{Op}
 use Rattle.xc_text.specs.declared.kind.LogKind.{LogKind}
 use Rattle.xc_text.specs.declared.kind.LogKind.TheVariants.{Form, Key}
-use Rattle.xc_text.specs.Kinds.{judge}
 use Rattle.xc_text.specs.Lines.{op_of, all_ops, ops_of, ops_in, op_is_named}
 
 -- the operations so far, and those that are left

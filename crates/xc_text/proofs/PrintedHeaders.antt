@@ -6,7 +6,7 @@ use Rattle.std.proofs.lemmas.List.{length_push}
 use Rattle.std.proofs.lemmas.List.Folds.{list_all-append}
 use Rattle.std.specs.List.{list_all, list_any}
 use Rattle.std.specs.Option.{option_map_or}
-use Rattle.xc_record.specs.Headers.{is_child_of, splits_off, child_fits, root_fits, parent_fits, fits, hi_of, after_child, next_after, may_end, fit_from, children, with_next}
+use Rattle.xc_record.specs.Headers.{is_child_of, splits_off, parent_fits, fits, hi_of, next_after, fit_from, children, with_next}
 use Rattle.xc_record.specs.declared.rules.Next.{Next}
 use Rattle.xc_record.specs.declared.rules.Next.TheVariants.{RootAt, LeftChild, RightChild}
 use Rattle.xc_record.specs.declared.record.Header.{Header}

@@ -1,18 +1,16 @@
 -- What is printed of valid logs is read as those logs.
-use Rattle.std.proofs.Common.{◌≡◌, ℕ, zero, suc, ◌+◌, ◌-◌, ◌^◌, ◌<◌, ◌≤◌, ◌==◌, Bool, true, false, ◌&&◌, ◌||◌, not, nat_le, nat_lt, List, [], ◌∷◌, ◌++◌, length, map, flat_map, Option, Some, None, Result, Ok, Err, is_some, slice_get, slice_set, if◌then◌else◌, refl, sym, ap, subst, ◌∙◌, append_assoc, codes, arith, sum_by}
+use Rattle.std.proofs.Common.{◌≡◌, ℕ, ◌+◌, ◌^◌, ◌<◌, ◌≤◌, ◌==◌, Bool, true, false, ◌&&◌, nat_le, nat_lt, List, [], ◌∷◌, ◌++◌, length, map, flat_map, Option, Some, None, Ok, slice_get, slice_set, if◌then◌else◌, refl, sym, ap, subst, ◌∙◌, append_assoc, arith}
 use Rattle.std.proofs.lemmas.Bool.{and_parts}
 use Rattle.std.proofs.lemmas.Bool.Decides.{nat_tests}
-use Rattle.std.specs.List.{list_all, list_any}
+use Rattle.std.specs.List.{list_all}
 use Rattle.std.specs.Option.{option_map_or}
 use Rattle.xc_base.specs.Names.{is_key, is_value}
 use Rattle.xc_base.specs.Words.{split_on}
-use Rattle.xc_record.specs.Grown.{grown, with_record}
 use Rattle.xc_record.specs.Hash.{hash_of, holds}
 use Rattle.xc_record.specs.Order.{is_split}
-use Rattle.xc_record.specs.Headers.{fit_from, fits, next_after, may_end, headers_fit, children}
-use Rattle.xc_record.specs.Valid.{is_time, is_txn, headers_of, op_fits, ops_fit, split_fits, kind_fits, record_fits, ends_fit, tablet_fits, ops_in, is_valid}
+use Rattle.xc_record.specs.Headers.{fit_from, fits, next_after, may_end, children}
+use Rattle.xc_record.specs.Valid.{is_txn, headers_of, op_fits, ops_fit, split_fits, kind_fits, ends_fit, ops_in}
 use Rattle.xc_record.specs.declared.rules.Next.{Next}
-use Rattle.xc_record.specs.declared.rules.Next.TheVariants.{RootAt}
 use Rattle.xc_record.specs.declared.record.Op.{Op}
 use Rattle.xc_record.specs.declared.record.Kind.{Kind}
 use Rattle.xc_record.specs.declared.record.Kind.TheVariants.{Write, Intent, Apply, Abort, Safe, Split}
@@ -24,16 +22,16 @@ use Rattle.xc_text.specs.declared.line.LogLine.{LogLine}
 use Rattle.xc_text.specs.declared.line.LogLine.TheVariants as line
 use Rattle.xc_text.specs.declared.reading.Reading.{Reading}
 use Rattle.xc_text.specs.declared.reading.Stage.{Stage}
-use Rattle.xc_text.specs.declared.reading.Stage.TheVariants.{Start, Headers, Records, Ended}
+use Rattle.xc_text.specs.declared.reading.Stage.TheVariants.{Headers}
 use Rattle.xc_text.specs.Kinds.{first_kind}
-use Rattle.xc_text.specs.Lines.{line_of, op_is_named, header_numbers_fit, kind_numbers_fit, kind_names_fit, numbers_fit, names_fit}
-use Rattle.xc_text.specs.LogText.{BadLine, begun, is_inner, misplaced, in_range, is_split_off, is_orphaned, kinds, moved, step, step_by, go_on, lines_from, logs_of}
-use Rattle.xc_text.specs.Printed.{header_text, record_text, records_text, text_of}
-use Rattle.xc_text.proofs.StepLaws.{lines_more, entry_in_place, end_in_place}
-use Rattle.xc_text.proofs.ValidParts.{has_ops, ends_split, split_off_is}
-use Rattle.xc_text.proofs.ValidLaws.{bare, records_of, operations_of}
-use Rattle.xc_text.proofs.PrintedHeaders.{all_small, children_all, lt_of, lt_test, eq_of, le_of}
-use Rattle.xc_text.proofs.PrintedLines.{EntryFits, entry_bytes, entry_line, entry_is, HeaderSmall, header_bytes, header_line, header_is}
+use Rattle.xc_text.specs.Lines.{line_of, op_is_named, header_numbers_fit, kind_numbers_fit, kind_names_fit}
+use Rattle.xc_text.specs.LogText.{in_range, kinds, moved, step, lines_from}
+use Rattle.xc_text.specs.Printed.{header_text}
+use Rattle.xc_text.proofs.StepLaws.{lines_more}
+use Rattle.xc_text.proofs.ValidParts.{has_ops, ends_split}
+use Rattle.xc_text.proofs.ValidLaws.{bare}
+use Rattle.xc_text.proofs.PrintedHeaders.{children_all, eq_of}
+use Rattle.xc_text.proofs.PrintedLines.{HeaderSmall, header_bytes, header_line, header_is}
 
 -- from this reading on, the bytes give the logs
 abbrev pub Gives : Reading → List ℕ → Logs → Type 0

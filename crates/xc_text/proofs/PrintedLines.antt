@@ -1,21 +1,18 @@
 -- What is printed of a header, of a record and of the ends is read as that line.
-use Rattle.std.proofs.Common.{◌≡◌, ℕ, zero, suc, ◌+◌, ◌-◌, ◌^◌, ◌<◌, ◌≤◌, ◌==◌, Bool, true, false, ◌&&◌, nat_le, nat_lt, List, [], ◌∷◌, ◌++◌, length, map, Option, Some, None, if◌then◌else◌, refl, sym, ap, ◌∙◌, decimal, codes, arith}
+use Rattle.std.proofs.Common.{◌≡◌, ℕ, ◌^◌, ◌<◌, true, ◌&&◌, nat_le, nat_lt, List, ◌∷◌, ◌++◌, Option, Some, None, refl, decimal, codes, arith}
 use Rattle.std.proofs.lemmas.Bool.{and_parts}
 use Rattle.std.proofs.lemmas.Bool.Decides.{nat_tests}
-use Rattle.std.specs.Str.{all_ascii_digits, bytes_eq}
 use Rattle.std.specs.List.{list_all}
 use Rattle.std.specs.Option.{option_map_or}
 use Rattle.xc_base.specs.Words.{split_on}
 use Rattle.xc_record.specs.Valid.{is_time, is_txn}
-use Rattle.xc_record.specs.declared.record.Op.{Op}
 use Rattle.xc_record.specs.declared.record.Kind.{Kind}
 use Rattle.xc_record.specs.declared.record.Kind.TheVariants.{Write, Intent, Apply, Abort, Safe, Split}
 use Rattle.xc_record.specs.declared.record.Record.{Record}
 use Rattle.xc_record.specs.declared.record.Header.{Header}
-use Rattle.xc_text.specs.declared.line.LogLine.{LogLine}
 use Rattle.xc_text.specs.declared.line.LogLine.TheVariants as line
-use Rattle.xc_text.specs.Lines.{number, op_is_named, kind_of, line_of, kind_numbers_fit, kind_names_fit, header_numbers_fit}
-use Rattle.xc_text.specs.Printed.{spaced, line_text, op_word, kind_words, parent_words, record_text, header_text}
+use Rattle.xc_text.specs.Lines.{kind_of, line_of, kind_numbers_fit, kind_names_fit}
+use Rattle.xc_text.specs.Printed.{spaced, kind_words, parent_words, record_text, header_text}
 use Rattle.xc_text.proofs.ValidParts.{has_ops}
 use Rattle.xc_text.proofs.PrintedWords.{plain, split_words, split_line, decimal_digits, decimal_plain, number_is, digits_differ, ops_plain, ops_are}
 

@@ -1,11 +1,10 @@
 -- The lines that are printed, one after another.
-use Rattle.std.proofs.Common.{◌≡◌, ℕ, zero, suc, ◌+◌, ◌-◌, ◌^◌, ◌<◌, ◌≤◌, ◌==◌, Bool, true, false, ◌&&◌, not, nat_le, nat_lt, List, [], ◌∷◌, ◌++◌, length, map, flat_map, Option, Some, None, Result, Ok, Err, is_some, slice_get, slice_set, if◌then◌else◌, refl, sym, ap, subst, ◌∙◌, append_assoc, codes, arith, sum_by}
+use Rattle.std.proofs.Common.{◌≡◌, ℕ, ◌+◌, ◌-◌, ◌^◌, ◌≤◌, ◌==◌, Bool, true, false, ◌&&◌, not, nat_le, nat_lt, List, [], ◌∷◌, ◌++◌, length, map, flat_map, Some, None, Ok, is_some, slice_get, slice_set, if◌then◌else◌, refl, sym, ap, subst, ◌∙◌, append_assoc, codes, arith, sum_by}
 use Rattle.std.proofs.lemmas.Bool.{and_parts}
 use Rattle.std.proofs.lemmas.Bool.Decides.{nat_tests}
 use Rattle.std.proofs.lemmas.List.{length_push}
 use Rattle.std.proofs.lemmas.List.Sums.{sum_by-cons}
 use Rattle.std.specs.List.{list_all, list_any}
-use Rattle.std.specs.Option.{option_map_or}
 use Rattle.xc_base.specs.Words.{split_on}
 use Rattle.xc_record.specs.Grown.{grown, with_record}
 use Rattle.xc_record.specs.Order.{is_split}
@@ -17,21 +16,19 @@ use Rattle.xc_record.specs.declared.record.Record.{Record}
 use Rattle.xc_record.specs.declared.record.Header.{Header}
 use Rattle.xc_record.specs.declared.record.Tablet.{Tablet}
 use Rattle.xc_record.specs.declared.record.Logs.{Logs}
-use Rattle.xc_text.specs.declared.line.LogLine.{LogLine}
 use Rattle.xc_text.specs.declared.line.LogLine.TheVariants as line
-use Rattle.xc_text.specs.declared.reading.Reading.{Reading}
 use Rattle.xc_text.specs.declared.reading.Stage.{Stage}
-use Rattle.xc_text.specs.declared.reading.Stage.TheVariants.{Start, Headers, Records, Ended}
+use Rattle.xc_text.specs.declared.reading.Stage.TheVariants.{Headers, Records, Ended}
 use Rattle.xc_text.specs.Kinds.{first_kind}
-use Rattle.xc_text.specs.Lines.{line_of, header_numbers_fit, number, kind_of}
-use Rattle.xc_text.specs.LogText.{BadLine, begun, is_inner, misplaced, in_range, is_split_off, is_orphaned, kinds, moved, step, step_by, go_on, lines_from, logs_of}
+use Rattle.xc_text.specs.Lines.{line_of, header_numbers_fit}
+use Rattle.xc_text.specs.LogText.{begun, is_inner, in_range, is_split_off, is_orphaned, kinds, step, logs_of}
 use Rattle.xc_text.specs.Printed.{header_text, record_text, records_text, text_of}
-use Rattle.xc_text.proofs.StepLaws.{lines_more, entry_in_place, end_in_place}
-use Rattle.xc_text.proofs.ValidParts.{has_ops, ends_split, split_off_is}
+use Rattle.xc_text.proofs.StepLaws.{entry_in_place, end_in_place}
+use Rattle.xc_text.proofs.ValidParts.{ends_split, split_off_is}
 use Rattle.xc_text.proofs.ValidLaws.{bare, records_of, operations_of}
 use Rattle.xc_text.proofs.PrintedHeaders.{all_small, eq_of}
-use Rattle.xc_text.proofs.PrintedLines.{EntryFits, entry_bytes, entry_line, entry_is, HeaderSmall}
-use Rattle.xc_text.proofs.PrintedLaws.{Gives, back, step_is, at, at_headers, headers_run, headers_bare, small_parts, KindGood, kind_good, got_here, put_here, within_here, not_le, not_lt, not_zero, no_split_yet, append-nil, part}
+use Rattle.xc_text.proofs.PrintedLines.{EntryFits, entry_bytes, entry_line, entry_is}
+use Rattle.xc_text.proofs.PrintedLaws.{Gives, back, step_is, at, at_headers, headers_run, small_parts, kind_good, got_here, put_here, within_here, not_le, not_lt, not_zero, no_split_yet, append-nil, part}
 
 entry_kinds : (stage : Stage) (ts : List Tablet) (next : Next) (records operations id : ℕ) (r : Record) (t : Tablet) → is_inner stage ≡ true → EntryFits id r → may_end next ≡ true
     → nat_le (length ts) id ≡ false → slice_get ts id ≡ Some t → in_range (headers_of ts) t.header r.kind ≡ true → is_split_off t ≡ false → nat_lt 64 (ops_in r.kind) ≡ false → (records == 0) ≡ false → nat_lt operations (ops_in r.kind) ≡ false

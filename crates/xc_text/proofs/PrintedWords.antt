@@ -1,8 +1,7 @@
 -- What is printed is cut into the same words.
-use Rattle.std.proofs.Common.{◌≡◌, ℕ, zero, suc, ◌+◌, ◌-◌, ◌^◌, ◌<◌, ◌≤◌, ◌==◌, Bool, true, false, ◌&&◌, ◌||◌, not, min, nat_le, nat_lt, nat_eq, List, [], ◌∷◌, ◌++◌, length, take, drop, map, flat_map, Option, Some, None, if◌then◌else◌, refl, sym, ap, ◌∙◌, append_assoc, decimal, codes, arith}
+use Rattle.std.proofs.Common.{◌≡◌, ℕ, ◌+◌, ◌-◌, ◌^◌, ◌<◌, ◌≤◌, ◌==◌, Bool, true, false, ◌&&◌, ◌||◌, not, min, nat_le, nat_lt, nat_eq, List, [], ◌∷◌, ◌++◌, length, take, drop, map, Option, Some, None, refl, sym, ap, ◌∙◌, append_assoc, decimal, arith}
 use Rattle.std.proofs.lemmas.Bool.{and_parts}
 use Rattle.std.proofs.lemmas.Bool.Decides.{nat_tests}
-use Rattle.std.proofs.lemmas.Grind.{common_steps}
 use Rattle.std.proofs.lemmas.List.{take_at, drop_at, length_push}
 use Rattle.std.proofs.lemmas.List.Folds.{list_all-append}
 use Rattle.std.specs.Char.{is_ascii_digit}
@@ -13,7 +12,7 @@ use Rattle.xc_base.specs.Names.{is_key, is_value, in_alphabet}
 use Rattle.xc_base.specs.Words.{split_on, number_of, is_number, no_leading_zero}
 use Rattle.xc_base.proofs.WordLaws.{number_of-decimal}
 use Rattle.xc_record.specs.declared.record.Op.{Op}
-use Rattle.xc_text.specs.Lines.{number, first_number, op_of, set_of, all_ops, ops_of, op_is_named}
+use Rattle.xc_text.specs.Lines.{number, op_of, all_ops, ops_of, op_is_named}
 use Rattle.xc_text.specs.Printed.{spaced, line_text, op_by, op_word}
 
 -- no byte is the separator

@@ -1,16 +1,15 @@
 -- What is read is valid.
-use Rattle.std.proofs.Common.{◌≡◌, ℕ, zero, suc, ◌+◌, ◌-◌, ◌^◌, ◌<◌, ◌≤◌, ◌==◌, Bool, true, false, ◌&&◌, ◌||◌, not, nat_le, nat_lt, List, [], ◌∷◌, ◌++◌, length, map, Option, Some, None, Result, Ok, Err, is_some, slice_get, slice_set, if◌then◌else◌, refl, sym, ap, subst, ◌∙◌, append_assoc, arith, sum_by}
+use Rattle.std.proofs.Common.{◌≡◌, ℕ, ◌+◌, ◌-◌, ◌^◌, ◌<◌, ◌≤◌, ◌==◌, Bool, true, false, ◌||◌, not, nat_le, nat_lt, List, [], ◌∷◌, ◌++◌, length, Option, Some, None, Result, Ok, Err, if◌then◌else◌, refl, sym, ap, subst, ◌∙◌, append_assoc, arith, sum_by}
 use Rattle.std.proofs.lemmas.Bool.{and_parts}
 use Rattle.std.proofs.lemmas.Bool.Decides.{nat_tests}
 use Rattle.std.proofs.lemmas.List.Folds.{list_all-append}
 use Rattle.std.proofs.lemmas.List.Sums.{sum_by-append, sum_by-cons, sum_by_push}
 use Rattle.std.proofs.lemmas.List.{length_push}
 use Rattle.std.specs.List.{list_all, list_any}
-use Rattle.std.specs.Option.{option_map_or}
 use Rattle.xc_base.specs.Words.{split_on}
 use Rattle.xc_record.specs.Grown.{grown, with_record}
 use Rattle.xc_record.specs.Headers.{fit_from, fits, next_after, may_end, headers_fit, children}
-use Rattle.xc_record.specs.Valid.{is_time, headers_of, record_fits, tablet_fits, ops_in, is_valid}
+use Rattle.xc_record.specs.Valid.{is_time, headers_of, record_fits, ops_in, is_valid}
 use Rattle.xc_record.specs.declared.rules.Next.{Next}
 use Rattle.xc_record.specs.declared.rules.Next.TheVariants.{RootAt}
 use Rattle.xc_record.specs.declared.record.Record.{Record}
@@ -26,9 +25,9 @@ use Rattle.xc_text.specs.declared.reading.Reading.{Reading}
 use Rattle.xc_text.specs.declared.reading.Stage.{Stage}
 use Rattle.xc_text.specs.declared.reading.Stage.TheVariants.{Start, Headers, Records, Ended}
 use Rattle.xc_text.specs.Kinds.{first_kind}
-use Rattle.xc_text.specs.Lines.{line_of, numbers_fit, names_fit, header_numbers_fit, kind_numbers_fit, kind_names_fit}
-use Rattle.xc_text.specs.LogText.{BadLine, begun, in_range, is_split_off, is_orphaned, misplaced, records_began, breaks_headers, is_unknown, is_out_of_range, is_after_split, is_past_limits, leaves_orphan, kinds, moved, step, step_by, unless_bad, ending, rest_of_text, is_empty, go_on, lines_from, logs_of, Reads}
-use Rattle.xc_text.proofs.ValidParts.{has_ops, kind_ok, open_fit, ends_split, split_off_is, open_push, grows, all_tablets_ok, is_bare, all_bare_grow, Place, place}
+use Rattle.xc_text.specs.Lines.{line_of, header_numbers_fit, kind_numbers_fit, kind_names_fit}
+use Rattle.xc_text.specs.LogText.{begun, in_range, is_split_off, is_orphaned, misplaced, records_began, kinds, moved, step, step_by, unless_bad, ending, rest_of_text, go_on, lines_from, logs_of, Reads}
+use Rattle.xc_text.proofs.ValidParts.{has_ops, kind_ok, open_fit, split_off_is, open_push, grows, all_tablets_ok, is_bare, all_bare_grow, place}
 use Rattle.xc_text.proofs.OpsHeld.{holds_of, line_has_ops, line_some}
 
 -- what a stage says of the tablets

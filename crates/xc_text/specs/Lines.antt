@@ -13,7 +13,6 @@ use Rattle.xc_record.specs.Valid.{is_time, is_txn}
 use Rattle.xc_record.specs.declared.record.Op.{Op}
 use Rattle.xc_record.specs.declared.record.Kind.{Kind}
 use Rattle.xc_record.specs.declared.record.Kind.TheVariants.{Write, Intent, Apply, Abort, Safe, Split}
-use Rattle.xc_record.specs.declared.record.Record.{Record}
 use Rattle.xc_record.specs.declared.record.Header.{Header}
 use Rattle.xc_text.specs.declared.kind.LogKind.{LogKind}
 use Rattle.xc_text.specs.declared.line.LogLine.{LogLine}

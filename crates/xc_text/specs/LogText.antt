@@ -4,7 +4,7 @@
 --     kinds reading line      the rules for a line after those before, in their order: where a test is true, the line is bad for this kind
 --     step reading bytes      what the lines give with one more, or why that one is bad
 -- placed, starting, between and at_line are what single functions answer, each a part of step; what a text spells doesn't rest on them.
-use Rattle.std.specs.Prelude.{◌≡◌, ℕ, ◌+◌, ◌-◌, ◌^◌, Bool, true, false, ◌&&◌, ◌||◌, ◌==◌, nat_lt, nat_le, not, List, [], ◌∷◌, ◌++◌, length, Option, Some, None, Result, Ok, Err, if◌then◌else◌, slice_get, is_some, is_none}
+use Rattle.std.specs.Prelude.{◌≡◌, ℕ, ◌+◌, ◌-◌, ◌^◌, Bool, true, false, ◌&&◌, ◌||◌, ◌==◌, nat_lt, nat_le, not, List, [], ◌∷◌, ◌++◌, length, Option, Some, None, Result, Ok, Err, if◌then◌else◌, slice_get, is_some}
 use Rattle.std.specs.List.{list_all, list_any}
 use Rattle.std.specs.Option.{option_map_or}
 use Rattle.xc_base.specs.Words.{split_on}
@@ -15,8 +15,7 @@ use Rattle.xc_record.specs.Order.{is_split}
 use Rattle.xc_record.specs.Valid.{headers_of, split_fits, ops_in}
 use Rattle.xc_record.specs.declared.rules.Next.TheVariants.{RootAt}
 use Rattle.xc_record.specs.declared.record.Kind.{Kind}
-use Rattle.xc_record.specs.declared.record.Kind.TheVariants.{Write, Intent, Apply, Abort, Safe, Split}
-use Rattle.xc_record.specs.declared.record.Record.{Record}
+use Rattle.xc_record.specs.declared.record.Kind.TheVariants.{Write, Intent, Split}
 use Rattle.xc_record.specs.declared.record.Header.{Header}
 use Rattle.xc_record.specs.declared.record.Tablet.{Tablet}
 use Rattle.xc_record.specs.declared.record.Logs.{Logs}

@@ -1,16 +1,15 @@
 -- The rows of a map follow the safe time of the pull.
-use Rattle.std.proofs.Common.{◌≡◌, ℕ, zero, suc, ◌+◌, ◌≤◌, ◌<◌, true, false, List, [], ◌∷◌, ◌++◌, length, take, drop, get_or, refl, sym, ap, ◌∙◌, subst, arith, append_assoc, BTreeMap}
-use Rattle.std.specs.Prelude.{Option, None, fold, nat_le, flat_map, if◌then◌else◌}
+use Rattle.std.proofs.Common.{◌≡◌, ℕ, suc, ◌+◌, ◌≤◌, ◌<◌, true, false, List, [], ◌∷◌, ◌++◌, length, take, drop, get_or, refl, sym, ap, ◌∙◌, subst, arith, BTreeMap}
+use Rattle.std.specs.Prelude.{None, nat_le}
 use Rattle.std.specs.List.{AllByRecursion}
 use Rattle.std.specs.Option.{option_map_or}
 use Rattle.std.proofs.lemmas.Bool.Decides.{nat_tests}
-use Rattle.std.proofs.lemmas.Grind.{flat_map-append, common_steps}
+use Rattle.std.proofs.lemmas.Grind.{flat_map-append}
 use Rattle.std.proofs.lemmas.List.{append-nil, take-append-drop, take_more, take-take, get_or-take, length-take-le}
-use Rattle.xc_record.specs.declared.record.Op.{Op}
 use Rattle.xc_record.specs.declared.record.Record.{Record}
 use Rattle.xc_record.specs.Accepted.{root_start}
 use Rattle.xc_record.specs.Commits.{write_ops}
-use Rattle.xc_record.specs.Order.{Progress, after, accepted_from, break_of}
+use Rattle.xc_record.specs.Order.{Progress, after}
 use Rattle.xc_record.proofs.OrderLaws.{accepted-rises, Rises}
 use Rattle.xc_tool.specs.OneTablet.{IsPulled, IsShown, Stands, shown_ops, visible_ops, written_ops, value_after, value_in}
 use Rattle.xc_tool.proofs.OneTablet.{started, invisible, next_record, value_after_append}

@@ -1,4 +1,4 @@
-use Rattle.std.proofs.Common.{◌==◌, sym, ap, ◌∙◌, arith}
+use Rattle.std.proofs.Common.{◌==◌, sym, arith}
 use Rattle.xc_text.proofs.CutLaws.{cut_pieces, cut_none, any_found, none_found}
 use Rattle.xc_text.proofs.cut.cut.Goals as goal
 

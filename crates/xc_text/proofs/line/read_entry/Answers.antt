@@ -1,6 +1,5 @@
 use Rattle.std.proofs.lemmas.Result.{err_from_is_err_and}
-use Rattle.std.proofs.Common.{◌≡◌, ◌&&◌, true, false, nat_lt, sym, ◌∙◌, ap, Ok, refl, subst}
-use Rattle.xc_record.specs.Valid.{is_time}
+use Rattle.std.proofs.Common.{refl}
 use Rattle.xc_text.proofs.LineLaws.{entry_refused, entry_number, entry_read}
 use Rattle.xc_text.proofs.line.read_entry.Goals as goal
 

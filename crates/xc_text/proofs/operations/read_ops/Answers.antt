@@ -1,4 +1,4 @@
-use Rattle.std.proofs.Common.{◌≡◌, ◌==◌, true, false, length, sym, ◌∙◌, arith}
+use Rattle.std.proofs.Common.{◌≡◌, sym, arith}
 use Rattle.std.proofs.lemmas.Bool.Decides.{nat_tests}
 use Rattle.xc_text.proofs.OpsLaws.{at_left, seen_form, seen_bad_form, seen_bad_key, seen_all, seen_empty}
 use Rattle.xc_text.proofs.operations.read_ops.Goals as goal

@@ -1,5 +1,5 @@
-use Rattle.std.proofs.Common.{◌≡◌, ◌++◌, ◌∷◌, drop, flat_map}
-use Rattle.xc_text.specs.Printed.{header_text, record_text, records_text, op_word}
+use Rattle.std.proofs.Common.{◌≡◌, ◌++◌, drop, flat_map}
+use Rattle.xc_text.specs.Printed.{records_text}
 use Rattle.xc_text.proofs.print.push_tablets.Given as goal
 
 abbrev pub invariant-loop-tablet : goal.invariant-loop-tablet

@@ -2,7 +2,6 @@
 use Rattle.std.proofs.Common.{◌≡◌, ◌+◌, ◌≤◌, length}
 use Rattle.xc_base.specs.Words.{split_on}
 use Rattle.xc_text.specs.LogText.{lines_from, logs_of}
-use Rattle.xc_text.proofs.StepLaws.{lines_more}
 use Rattle.xc_text.proofs.read.read_lines.Given as goal
 
 abbrev pub invariant-lines : goal.invariant-lines

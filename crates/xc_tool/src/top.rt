@@ -6,6 +6,7 @@ ghost use Rattle.xc_base.specs.Streams.{stream, Gave, Used, IsUntouched};
 ghost use Rattle.xc_tool.specs.Outcome.{outcome, output_for, reads_of, InOrder, IsUsage};
 ghost use Rattle.xc_tool.specs.Words.{form_of};
 
+use crate::audit::audit;
 use crate::replay::replay;
 use crate::steps::usage;
 use crate::words::{Form, form_of};
@@ -16,8 +17,8 @@ use xc_base::{Sink, Source, Status};
 /// name, form, over the sources that they name, and writes its lines to `out`.
 ///
 /// The sources and the sink may fail at any call. The status is `Usage` where the words form no command, `BadLogs` and
-/// `BadScript` where an input is refused, `Halted` where a pull met a break of the order rules, and else `Ok`: with
-/// each of these the whole output was written. After `ReadFault`, `WriteFault` and `NoMemory` a front of it was.
+/// `BadScript` where an input is refused, `Disagree` where the tablets of the logs of an audit disagree, `Halted` where a
+/// pull or an audit met a break of the order rules, and else `Ok`: with each of these the whole output was written. After `ReadFault`, `WriteFault` and `NoMemory` a front of it was.
 pub fn run<L: Source, S: Source, O: Sink>(
     alloc: Global,
     words: &[String],
@@ -66,6 +67,7 @@ fn dispatch<L: Source, S: Source, O: Sink>(
 {
     match form {
         Some(Form::Replay) => replay(alloc, logs, script, out),
+        Some(Form::Audit) => audit(alloc, logs, out),
         None => usage(out),
     }
 }

@@ -1,5 +1,5 @@
 // The top call, and the command that the words name.
-ghost use Rattle.std.specs.Prelude.{◌≡◌, List, ℕ, None, map, string_bytes};
+ghost use Rattle.std.specs.Prelude.{◌≡◌, List, ℕ, None, Some, map, string_bytes};
 ghost use Rattle.xc_base.specs.Causes.{Rose};
 ghost use Rattle.xc_base.specs.Ran.{Ran, Is, Shows, IsEnded, FaultIn};
 ghost use Rattle.xc_base.specs.Streams.{stream, Gave, Used, IsUntouched};
@@ -66,8 +66,26 @@ fn dispatch<L: Source, S: Source, O: Sink>(
         (stream L.left L.faults logs.old logs.new) (stream S.left S.faults script.old script.new) }
 {
     match form {
-        Some(Form::Replay) => replay(alloc, logs, script, out),
-        Some(Form::Audit) => audit(alloc, logs, out),
+        Some(form) => command(alloc, form, logs, script, out),
         None => usage(out),
+    }
+}
+
+fn command<L: Source, S: Source, O: Sink>(
+    alloc: Global,
+    form: Form,
+    logs: &mut L,
+    script: &mut S,
+    out: &mut O,
+) -> Status
+    ensures ran { Ran (Is (output_for (Some form))) (reads_of (Some form)) result
+        (stream L.left L.faults logs.old logs.new) (stream S.left S.faults script.old script.new)
+        (stream O.written O.faults out.old out.new) }
+    ensures order { InOrder (reads_of (Some form)) result
+        (stream L.left L.faults logs.old logs.new) (stream S.left S.faults script.old script.new) }
+{
+    match form {
+        Form::Replay => replay(alloc, logs, script, out),
+        Form::Audit => audit(alloc, logs, out),
     }
 }

@@ -4,12 +4,6 @@ use Rattle.xc_tool.specs.Outcome.{usage_output}
 use Rattle.xc_tool.proofs.Statuses.{written_in_order}
 use Rattle.xc_tool.proofs.top.dispatch.Goals as goal
 
-pub returns-in-Some-Audit-clause-ran : goal.returns-in-Some-Audit-clause-ran
-returns-in-Some-Audit-clause-ran g c = c.audit.ensures.ran _ (record { same = refl; faults = refl })
-
-pub returns-in-Some-Audit-clause-order : goal.returns-in-Some-Audit-clause-order
-returns-in-Some-Audit-clause-order g c = c.audit.ensures.order _ (record { same = refl; faults = refl })
-
 pub returns-in-None-clause-ran : goal.returns-in-None-clause-ran
 returns-in-None-clause-ran g c =
     rw c.in-None.is (ran_alone usage_output _ _ _ _ (record { same = refl; faults = refl }) (record { same = refl; faults = refl }) c.usage.ensures)

@@ -5,5 +5,6 @@ pub mod OneLogs
 pub mod OneSteps
 pub mod Requests
 pub mod Statuses
+pub mod Audits
 pub mod RowMaps
 pub mod Shown

@@ -7,15 +7,17 @@ use Rattle.xc_base.specs.declared.status.Stop.{Stop}
 use Rattle.xc_base.specs.declared.status.Stop.TheVariants as stop
 use Rattle.xc_base.specs.Streams.{Stream, IsUntouched}
 use Rattle.xc_base.specs.Ran.{Output, Reads, Took, Wrote, Ended, Ran, Is, Shows, IsEnded, ◌>>=◌, output_of}
+use Rattle.xc_agree.specs.declared.audit.Audit.{Audit}
 use Rattle.xc_record.specs.declared.record.Logs.{Logs}
 use Rattle.xc_record.specs.declared.session.Command.{Command}
+use Rattle.xc_record.specs.Agreement.{disagreement}
 use Rattle.xc_text.specs.LogText.{BadLine, logs_of}
 use Rattle.xc_tool.specs.declared.refusal.Refusal.{Refusal}
-use Rattle.xc_tool.specs.declared.refusal.Refusal.TheVariants.{LogsTooLong, BadLogs, LaterLogs, ScriptTooLong, LaterScript}
+use Rattle.xc_tool.specs.declared.refusal.Refusal.TheVariants.{LogsTooLong, BadLogs, LaterLogs, Disagree, ScriptTooLong, LaterScript}
 use Rattle.xc_tool.specs.declared.words.Form.{Form}
-use Rattle.xc_tool.specs.declared.words.Form.TheVariants.{Replay}
+use Rattle.xc_tool.specs.declared.words.Form.TheVariants.{Audit as AuditForm, Replay}
 use Rattle.xc_tool.specs.Later.{is_later}
-use Rattle.xc_tool.specs.Outcome.{refusal_output, refusal_status, output_for, replay_input, replay_output, reads_of, logs_input, logs_in, logs_spelled, logs_taken, script_input, script_taken, usage_output, InOrder, StopsInOrder, IsUsage}
+use Rattle.xc_tool.specs.Outcome.{refusal_output, refusal_status, output_for, replay_input, replay_output, audit_input, audit_in, audit_of_logs, unless_disagree, audit_output, reads_of, logs_input, logs_in, logs_spelled, logs_taken, script_input, script_taken, usage_output, InOrder, StopsInOrder, IsUsage}
 use Rattle.xc_tool.specs.Script.{script_of}
 
 -- a refusal's status isn't that of a run that came to its own end
@@ -23,6 +25,7 @@ pub never_ended : (r : Refusal) → IsEnded (refusal_output r).status → ⊥
 never_ended LogsTooLong e = elim e [ inl h ↦ cc | inr h ↦ cc ]
 never_ended (BadLogs line kind) e = elim e [ inl h ↦ cc | inr h ↦ cc ]
 never_ended LaterLogs e = elim e [ inl h ↦ cc | inr h ↦ cc ]
+never_ended (Disagree txn tablet kind) e = elim e [ inl h ↦ cc | inr h ↦ cc ]
 never_ended ScriptTooLong e = elim e [ inl h ↦ cc | inr h ↦ cc ]
 never_ended LaterScript e = elim e [ inl h ↦ cc | inr h ↦ cc ]
 
@@ -34,6 +37,7 @@ not_usage (Ok x) output never e = never x e
 not_usage (Err LogsTooLong) output never e = cc
 not_usage (Err (BadLogs line kind)) output never e = cc
 not_usage (Err LaterLogs) output never e = cc
+not_usage (Err (Disagree txn tablet kind)) output never e = cc
 not_usage (Err ScriptTooLong) output never e = cc
 not_usage (Err LaterScript) output never e = cc
 
@@ -48,6 +52,7 @@ not_end false s other e = other.1 e
 usage_only : (form : Option Form) (a b : List ℕ) → (output_for form a b).status ≡ status.Usage → form ≡ None
 usage_only None a b e = refl
 usage_only (Some Replay) a b e = absurd (not_usage (replay_input a b) replay_output (λ x e. not_end _ status.Usage ((λ h. cc), (λ h. cc)) e) e)
+usage_only (Some AuditForm) a b e = absurd (not_usage (audit_input a) audit_output (λ x e. not_end _ status.Usage ((λ h. cc), (λ h. cc)) e) e)
 
 pub usage_ran : (form : Option Form) (reads : Reads) (result : Status) (logs script out : Stream)
     → Ran (Is (output_for form)) reads result logs script out → result ≡ status.Usage → form ≡ None
@@ -116,6 +121,32 @@ order_second x (stop.Refused r) logs script first second = record {
 order_second x stop.ReadFault logs script first second = tt
 order_second x stop.NoMemory logs script first second = tt
 
+abbrev logs_alone : Reads
+logs_alone = record { logs = true; script = false }
+
+spelled_status : (d : Result Logs BadLine) (r : Refusal) → (logs_spelled d >>= (λ logs. unless_disagree (disagreement logs) (audit_of_logs logs))) ≡ Err r → refusal_status r ≡ status.BadScript → ⊥
+spelled_status (Ok logs) r e bad = elim (disagreement logs) as (λ o. unless_disagree o (audit_of_logs logs) ≡ Err r → ⊥) [
+  | None ↦ λ h. cc
+  | Some d ↦ λ h. let s : Disagree d.txn d.tablet d.kind ≡ r = cc in let never : status.Disagree ≡ status.BadScript = ap refusal_status s ∙ bad in cc
+] e
+spelled_status (Err b) r e bad = let s : BadLogs b.line b.kind ≡ r = cc in let never : status.BadLogs ≡ status.BadScript = ap refusal_status s ∙ bad in cc
+
+-- an audit refuses no script
+audit_refused : (text : List ℕ) (r : Refusal) → audit_input text ≡ Err r → refusal_status r ≡ status.BadScript → ⊥
+audit_refused text r e bad = elim (nat_lt (2 ^ 26) (length text)) as (λ b. (if b then Err LogsTooLong else audit_in text) ≡ Err r → ⊥) [
+  | true ↦ λ h. let s : LogsTooLong ≡ r = cc in let never : status.BadLogs ≡ status.BadScript = ap refusal_status s ∙ bad in cc
+  | false ↦ λ h. spelled_status (logs_of text) r h bad
+] e
+
+-- the logs of an audit stopped
+pub audit_stops_in_order : (s : Stop Refusal) (logs script : Stream) → Took audit_input (Err s) logs → IsUntouched script → StopsInOrder logs_alone s logs script
+audit_stops_in_order (stop.Refused r) logs script took same = record {
+  logs_first = λ e. same;
+  script_next = λ e. absurd (audit_refused took.bytes r took.found e);
+}
+audit_stops_in_order stop.ReadFault logs script took same = tt
+audit_stops_in_order stop.NoMemory logs script took same = tt
+
 shown_status : (output : Output) (s result : Status) (out : Stream) → ((o : Output) → Shows o s out → s ≡ o.status) → Shows output result out → result ≡ s → s ≡ output.status
 shown_status output s result out reads shown e = reads output (subst (λ r. Shows output r out) e shown)
 
@@ -130,6 +161,10 @@ written_in_order output reads result logs script out no_logs no_script wrote = r
 pub replay_in_order : (input : Logs × List Command) (reads : Reads) (result : Status) (logs script out : Stream) → Wrote (replay_output input) ⊥ result out → InOrder reads result logs script
 replay_in_order input reads result logs script out wrote =
     written_in_order (replay_output input) reads result logs script out (λ e. not_end _ status.BadLogs ((λ h. cc), (λ h. cc)) (sym e)) (λ e. not_end _ status.BadScript ((λ h. cc), (λ h. cc)) (sym e)) wrote
+
+pub audit_in_order : (audit : Audit) (reads : Reads) (result : Status) (logs script out : Stream) → Wrote (audit_output audit) ⊥ result out → InOrder reads result logs script
+audit_in_order audit reads result logs script out wrote =
+    written_in_order (audit_output audit) reads result logs script out (λ e. not_end _ status.BadLogs ((λ h. cc), (λ h. cc)) (sym e)) (λ e. not_end _ status.BadScript ((λ h. cc), (λ h. cc)) (sym e)) wrote
 
 -- the input stopped, and its line was written
 pub ended_in_order : (reads : Reads) (s : Stop Refusal) (result : Status) (logs script out : Stream) → StopsInOrder reads s logs script → Ended refusal_output s result out → InOrder reads result logs script

@@ -4,7 +4,7 @@
 --     reads_of form      which sources the command reads
 --     line_of refusal, refusal_status refusal      the line that a refusal writes, and its status
 --     InOrder reads result logs script      a refusal came in the order of work
-use Rattle.std.specs.Prelude.{◌≡◌, ℕ, ◌^◌, true, false, if◌then◌else◌, List, ◌++◌, codes, decimal, Option, Some, None, Result, Ok, Err}
+use Rattle.std.specs.Prelude.{◌≡◌, ℕ, ◌+◌, ◌^◌, true, false, if◌then◌else◌, List, [], ◌∷◌, ◌++◌, length, codes, decimal, Option, Some, None, Result, Ok, Err}
 use Rattle.std.specs.List.{list_any}
 use Rattle.xc_base.specs.declared.status.Status.{Status}
 use Rattle.xc_base.specs.declared.status.Status.TheVariants as status
@@ -12,17 +12,24 @@ use Rattle.xc_base.specs.declared.status.Stop.{Stop}
 use Rattle.xc_base.specs.declared.status.Stop.TheVariants as stop
 use Rattle.xc_base.specs.Streams.{Stream, IsUntouched, Used}
 use Rattle.xc_base.specs.Ran.{Output, Reads, ◌>>=◌, output_of, within}
+use Rattle.xc_agree.specs.Audit.{end_of}
+use Rattle.xc_agree.specs.declared.audit.Audit.{Audit}
+use Rattle.xc_agree.specs.declared.audit.End.{End}
 use Rattle.xc_record.specs.declared.record.Logs.{Logs}
 use Rattle.xc_record.specs.declared.session.Command.{Command}
 use Rattle.xc_record.specs.declared.session.Line.{Line}
+use Rattle.xc_record.specs.Accepted.{AcceptedTablet, accepted_tablets}
+use Rattle.xc_record.specs.Agreement.{Disagreement, disagreement}
+use Rattle.xc_record.specs.Commits.{commits}
 use Rattle.xc_record.specs.Session.{start}
 use Rattle.xc_record.specs.Step.{lines_from}
 use Rattle.xc_text.specs.Kinds.{kind_name}
 use Rattle.xc_text.specs.LogText.{BadLine, logs_of}
 use Rattle.xc_tool.specs.declared.refusal.Refusal.{Refusal}
-use Rattle.xc_tool.specs.declared.refusal.Refusal.TheVariants.{LogsTooLong, BadLogs, LaterLogs, ScriptTooLong, LaterScript}
+use Rattle.xc_tool.specs.declared.refusal.Refusal.TheVariants.{LogsTooLong, BadLogs, LaterLogs, Disagree, ScriptTooLong, LaterScript}
 use Rattle.xc_tool.specs.declared.words.Form.{Form}
-use Rattle.xc_tool.specs.declared.words.Form.TheVariants.{Replay}
+use Rattle.xc_tool.specs.declared.words.Form.TheVariants.{Audit as AuditForm, Replay}
+use Rattle.xc_tool.specs.AuditLines.{agree_name, audit_text, is_halted}
 use Rattle.xc_tool.specs.Later.{is_later}
 use Rattle.xc_tool.specs.Lines.{lines_text, is_halt}
 use Rattle.xc_tool.specs.Script.{script_of}
@@ -49,6 +56,28 @@ logs_in text = do
 -- the logs of a source
 abbrev pub logs_input : List ℕ → Result Logs Refusal
 logs_input = within (2 ^ 26) LogsTooLong logs_in
+
+-- how far the logs of the tablets from the number s on are accepted
+abbrev pub ends_from : Logs → ℕ → List AcceptedTablet → List End
+ends_from logs s [] = []
+ends_from logs s (b ∷ bs) = end_of logs s b ∷ ends_from logs (s + 1) bs
+
+-- the same of all tablets, and how many writes and transactions commit
+abbrev pub audit_of_logs : Logs → Audit
+audit_of_logs logs = record { ends = ends_from logs 0 (accepted_tablets logs); commits = length (commits logs) }
+
+abbrev pub unless_disagree : Option Disagreement → Audit → Result Audit Refusal
+unless_disagree None audit = Ok audit
+unless_disagree (Some d) audit = Err (Disagree d.txn d.tablet d.kind)
+
+abbrev pub audit_in : List ℕ → Result Audit Refusal
+audit_in text = do
+  logs ← logs_spelled (logs_of text)
+  unless_disagree (disagreement logs) (audit_of_logs logs)
+
+-- the audit of the logs of a source, whatever they hold, where their tablets agree
+abbrev pub audit_input : List ℕ → Result Audit Refusal
+audit_input = within (2 ^ 26) LogsTooLong audit_in
 
 abbrev pub script_taken : Option (List Command) → Result (List Command) Refusal
 script_taken (Some commands) = Ok commands
@@ -78,16 +107,27 @@ replay_of logs script = do
   input ← replay_input logs script
   Ok (replay_output input)
 
+-- halted where a log breaks the order rules
+abbrev pub audit_output : Audit → Output
+audit_output audit = record { text = audit_text audit; status = if list_any is_halted audit.ends then status.Halted else status.Ok }
+
+abbrev pub audit_of : List ℕ → List ℕ → Defined
+audit_of logs script = do
+  audit ← audit_input logs
+  Ok (audit_output audit)
+
 abbrev pub usage_output : Output
 usage_output = record { text = codes "usage: the words after xcr do not form a command\n"; status = status.Usage }
 
 abbrev pub run_of : Option Form → List ℕ → List ℕ → Defined
 run_of None logs script = Ok usage_output
 run_of (Some Replay) logs script = replay_of logs script
+run_of (Some AuditForm) logs script = audit_of logs script
 
 abbrev pub reads_of : Option Form → Reads
 reads_of None = record { logs = false; script = false }
 reads_of (Some Replay) = record { logs = true; script = true }
+reads_of (Some AuditForm) = record { logs = true; script = false }
 
 -- ---- the line of a refusal, and the statuses
 
@@ -95,6 +135,7 @@ abbrev pub line_of : Refusal → List ℕ
 line_of LogsTooLong = codes "logs too long\n"
 line_of (BadLogs line kind) = codes "bad logs " ++ decimal line ++ codes " " ++ kind_name kind ++ codes "\n"
 line_of LaterLogs = codes "bad logs 0 later\n"
+line_of (Disagree txn tablet kind) = codes "disagree " ++ decimal txn ++ codes " " ++ decimal tablet ++ codes " " ++ agree_name kind ++ codes "\n"
 line_of ScriptTooLong = codes "script too long\n"
 line_of LaterScript = codes "bad script 0 later\n"
 
@@ -102,6 +143,7 @@ abbrev pub refusal_status : Refusal → Status
 refusal_status LogsTooLong = status.BadLogs
 refusal_status (BadLogs line kind) = status.BadLogs
 refusal_status LaterLogs = status.BadLogs
+refusal_status (Disagree txn tablet kind) = status.Disagree
 refusal_status ScriptTooLong = status.BadScript
 refusal_status LaterScript = status.BadScript
 

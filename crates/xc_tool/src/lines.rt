@@ -92,7 +92,8 @@ fn halt(alloc: Global, id: u32, number: u64, kind: Break) -> Result<Bytes, Alloc
     Ok(bytes_of(line))
 }
 
-fn break_name(kind: Break) -> &'static str
+/// The name of a break of the order rules.
+pub fn break_name(kind: Break) -> &'static str
     ensures { result.now ≡ break_name kind }
 {
     match kind {

@@ -1,9 +1,11 @@
 // Why an input is refused.
 ghost use Rattle.std.specs.Prelude.{◌≡◌, IfOk, string_bytes};
+ghost use Rattle.xc_tool.specs.AuditLines.{agree_name};
 ghost use Rattle.xc_tool.specs.Outcome.{line_of, refusal_status};
 
 use std::alloc::{AllocError, Global};
 use xc_base::Status;
+use xc_record::AgreeKind;
 use xc_text::LogKind;
 
 /// Why an input is refused.
@@ -15,6 +17,13 @@ pub enum Refusal {
     BadLogs { line: u64, kind: LogKind },
     /// The logs are well formed, but a replay doesn't take them yet.
     LaterLogs,
+    /// The logs are well formed, and their tablets disagree on a transaction: the case of the least transaction, then of
+    /// the least tablet, then of the first kind.
+    Disagree {
+        txn: u32,
+        tablet: u32,
+        kind: AgreeKind,
+    },
     /// The script has more than 2^20 bytes.
     ScriptTooLong,
     /// The script is none that a replay takes now.
@@ -28,6 +37,7 @@ impl Refusal {
     {
         match self {
             Refusal::LogsTooLong | Refusal::BadLogs { .. } | Refusal::LaterLogs => Status::BadLogs,
+            Refusal::Disagree { .. } => Status::Disagree,
             Refusal::ScriptTooLong | Refusal::LaterScript => Status::BadScript,
         }
     }
@@ -40,6 +50,7 @@ impl Refusal {
             Refusal::LogsTooLong => String::from_str(alloc, "logs too long\n"),
             Refusal::BadLogs { line, kind } => bad_logs(alloc, line, kind),
             Refusal::LaterLogs => String::from_str(alloc, "bad logs 0 later\n"),
+            Refusal::Disagree { txn, tablet, kind } => disagree(alloc, txn, tablet, kind),
             Refusal::ScriptTooLong => String::from_str(alloc, "script too long\n"),
             Refusal::LaterScript => String::from_str(alloc, "bad script 0 later\n"),
         }
@@ -52,4 +63,23 @@ fn bad_logs(alloc: Global, line: u64, kind: LogKind) -> Result<String, AllocErro
     let name = kind.name();
     let text = format!(in alloc; "bad logs {line} {name}\n")?;
     Ok(text)
+}
+
+fn disagree(alloc: Global, txn: u32, tablet: u32, kind: AgreeKind) -> Result<String, AllocError>
+    ensures { IfOk result (λ text. string_bytes text ≡ line_of (Refusal.Disagree txn tablet kind)) }
+{
+    let name = agree_name(kind);
+    let text = format!(in alloc; "disagree {txn} {tablet} {name}\n")?;
+    Ok(text)
+}
+
+fn agree_name(kind: AgreeKind) -> &'static str
+    ensures { result.now ≡ agree_name kind }
+{
+    match kind {
+        AgreeKind::CommitDiffers => "commit-differs",
+        AgreeKind::LateIntent => "late-intent",
+        AgreeKind::Aborted => "aborted",
+        AgreeKind::Straggler => "straggler",
+    }
 }

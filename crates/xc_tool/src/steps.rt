@@ -1,16 +1,20 @@
 // What the commands of the tool are made of: reading a source whole, and writing a text.
-ghost use Rattle.std.specs.Prelude.{◌≡◌, IfOk, IfErr, IsErrOf, Ok};
+ghost use Rattle.std.specs.Prelude.{◌≡◌, IfOk, IfErr, IsErrOf, Ok, true};
 ghost use Rattle.xc_base.specs.Ran.{StopsAt, Took, Wrote, Ended};
 ghost use Rattle.xc_base.specs.Streams.{stream};
+ghost use Rattle.xc_record.specs.Agreement.{disagreement};
+ghost use Rattle.xc_record.specs.Valid.{is_valid};
 ghost use Rattle.xc_tool.specs.Script.{script_of};
-ghost use Rattle.xc_tool.specs.Outcome.{logs_input, logs_in, script_input, script_taken, refusal_output, usage_output};
+ghost use Rattle.xc_tool.specs.Outcome.{logs_input, logs_in, audit_input, audit_in, unless_disagree, audit_of_logs, script_input, script_taken, refusal_output, usage_output};
 ghost use Rattle.xc_tool.specs.Later.{IsTaken};
 
 use crate::later::is_later;
 use crate::refusal::Refusal;
 use crate::script::{Requests, read_script};
 use std::alloc::Global;
+use xc_agree::{AgreeFail, Audit, agree};
 use xc_base::{ReadAllFail, Sink, SinkFail, Source, Status, Stop, read_all, write_all};
+use xc_logs::LogSet;
 use xc_record::Logs;
 use xc_text::{LogsFail, read_logs};
 
@@ -46,6 +50,48 @@ fn logs_in(alloc: Global, text: &[u8]) -> Result<Logs, Stop<Refusal>>
         Ok(logs) => Ok(logs),
         Err(LogsFail::Bad { line, kind }) => Err(Stop::Refused(Refusal::BadLogs { line, kind })),
         Err(LogsFail::NoMemory) => Err(Stop::NoMemory),
+    }
+}
+
+/// The audit of the logs of a source.
+pub fn take_audit<L: Source>(alloc: Global, logs: &mut L) -> Result<Audit, Stop<Refusal>>
+    ensures { Took audit_input result (stream L.left L.faults logs.old logs.new) }
+{
+    let text = match read_all(alloc, logs, LOGS_LIMIT) {
+        Ok(text) => text,
+        Err(ReadAllFail::TooLong) => return Err(Stop::Refused(Refusal::LogsTooLong)),
+        Err(ReadAllFail::Failed) => return Err(Stop::ReadFault),
+        Err(ReadAllFail::NoMemory) => return Err(Stop::NoMemory),
+    };
+    audit_in(alloc, text.as_slice())
+}
+
+// The audit of the logs that a text spells.
+fn audit_in(alloc: Global, text: &[u8]) -> Result<Audit, Stop<Refusal>>
+    ensures read { IfOk result (λ audit. audit_in text.now ≡ Ok audit) }
+    ensures refused { IfErr result (StopsAt (audit_in text.now)) }
+    ensures memory { IsErrOf result Stop.ReadFault → ⊥ }
+{
+    match read_logs(alloc, text) {
+        Ok(logs) => audit_of_logs(alloc, logs),
+        Err(LogsFail::Bad { line, kind }) => Err(Stop::Refused(Refusal::BadLogs { line, kind })),
+        Err(LogsFail::NoMemory) => Err(Stop::NoMemory),
+    }
+}
+
+fn audit_of_logs(alloc: Global, logs: Logs) -> Result<Audit, Stop<Refusal>>
+    requires { is_valid logs ≡ true }
+    ensures read { IfOk result (λ audit. unless_disagree (disagreement logs) (audit_of_logs logs) ≡ Ok audit) }
+    ensures refused { IfErr result (StopsAt (unless_disagree (disagreement logs) (audit_of_logs logs))) }
+    ensures memory { IsErrOf result Stop.ReadFault → ⊥ }
+{
+    let logs = LogSet::new(logs);
+    match agree(alloc, &logs) {
+        Ok(audit) => Ok(audit),
+        Err(AgreeFail::Disagree { txn, tablet, kind }) => {
+            Err(Stop::Refused(Refusal::Disagree { txn, tablet, kind }))
+        }
+        Err(AgreeFail::NoMemory) => Err(Stop::NoMemory),
     }
 }
 

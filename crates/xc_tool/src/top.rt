@@ -1,11 +1,12 @@
 // The top call, and the command that the words name.
-ghost use Rattle.std.specs.Prelude.{◌≡◌, List, ℕ, None, map, string_bytes};
+ghost use Rattle.std.specs.Prelude.{◌≡◌, List, ℕ, None, Some, map, string_bytes};
 ghost use Rattle.xc_base.specs.Causes.{Rose};
 ghost use Rattle.xc_base.specs.Ran.{Ran, Is, Shows, IsEnded, FaultIn};
 ghost use Rattle.xc_base.specs.Streams.{stream, Gave, Used, IsUntouched};
 ghost use Rattle.xc_tool.specs.Outcome.{outcome, output_for, reads_of, InOrder, IsUsage};
 ghost use Rattle.xc_tool.specs.Words.{form_of};
 
+use crate::audit::audit;
 use crate::replay::replay;
 use crate::steps::usage;
 use crate::words::{Form, form_of};
@@ -16,8 +17,8 @@ use xc_base::{Sink, Source, Status};
 /// name, form, over the sources that they name, and writes its lines to `out`.
 ///
 /// The sources and the sink may fail at any call. The status is `Usage` where the words form no command, `BadLogs` and
-/// `BadScript` where an input is refused, `Halted` where a pull met a break of the order rules, and else `Ok`: with
-/// each of these the whole output was written. After `ReadFault`, `WriteFault` and `NoMemory` a front of it was.
+/// `BadScript` where an input is refused, `Disagree` where the tablets of the logs of an audit disagree, `Halted` where a
+/// pull or an audit met a break of the order rules, and else `Ok`: with each of these the whole output was written. After `ReadFault`, `WriteFault` and `NoMemory` a front of it was.
 pub fn run<L: Source, S: Source, O: Sink>(
     alloc: Global,
     words: &[String],
@@ -65,7 +66,26 @@ fn dispatch<L: Source, S: Source, O: Sink>(
         (stream L.left L.faults logs.old logs.new) (stream S.left S.faults script.old script.new) }
 {
     match form {
-        Some(Form::Replay) => replay(alloc, logs, script, out),
+        Some(form) => command(alloc, form, logs, script, out),
         None => usage(out),
+    }
+}
+
+fn command<L: Source, S: Source, O: Sink>(
+    alloc: Global,
+    form: Form,
+    logs: &mut L,
+    script: &mut S,
+    out: &mut O,
+) -> Status
+    ensures ran { Ran (Is (output_for (Some form))) (reads_of (Some form)) result
+        (stream L.left L.faults logs.old logs.new) (stream S.left S.faults script.old script.new)
+        (stream O.written O.faults out.old out.new) }
+    ensures order { InOrder (reads_of (Some form)) result
+        (stream L.left L.faults logs.old logs.new) (stream S.left S.faults script.old script.new) }
+{
+    match form {
+        Form::Replay => replay(alloc, logs, script, out),
+        Form::Audit => audit(alloc, logs, out),
     }
 }

@@ -7,6 +7,8 @@ ghost use Rattle.xc_tool.specs.Words.{form_of, is_name};
 pub enum Form {
     /// `replay LOGS SCRIPT` pulls the logs as the script asks, and prints what it answers.
     Replay,
+    /// `audit LOGS` says how far each log is accepted and whether the tablets agree.
+    Audit,
 }
 
 fn is_name(word: &str) -> bool
@@ -27,6 +29,7 @@ pub fn form_of(words: &[String]) -> Option<Form>
             if word.as_str() == "replay" && is_name(logs.as_str()) && is_name(script.as_str()) => {
             Some(Form::Replay)
         }
+        [word, logs] if word.as_str() == "audit" && is_name(logs.as_str()) => Some(Form::Audit),
         _ => None,
     }
 }

@@ -1,0 +1,8 @@
+use Rattle.std.proofs.Common.{refl}
+use Rattle.xc_tool.proofs.top.command.Goals as goal
+
+pub returns-in-Audit-clause-ran : goal.returns-in-Audit-clause-ran
+returns-in-Audit-clause-ran g c = rw c.in-Audit.is (c.audit.ensures.ran _ (record { same = refl; faults = refl }))
+
+pub returns-in-Audit-clause-order : goal.returns-in-Audit-clause-order
+returns-in-Audit-clause-order g c = rw c.in-Audit.is (c.audit.ensures.order _ (record { same = refl; faults = refl }))

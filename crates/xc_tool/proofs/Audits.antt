@@ -1,14 +1,12 @@
 -- An audit is the one that is defined.
 use Rattle.std.proofs.Common.{◌≡◌, ℕ, suc, ◌+◌, List, [], ◌∷◌, refl, sym, ap, ◌∙◌, arith, add-zero}
-use Rattle.std.specs.Prelude.{Option, Some, None, Result, Ok, slice_get, option_map}
+use Rattle.std.specs.Prelude.{Some, Ok, slice_get, option_map}
 use Rattle.xc_record.specs.declared.record.Logs.{Logs}
 use Rattle.xc_record.specs.Accepted.{AcceptedTablet, accepted_tablets}
 use Rattle.xc_record.specs.Agreement.{disagreement}
-use Rattle.xc_record.specs.Commits.{commits}
 use Rattle.xc_agree.specs.Audit.{IsAudit, end_of}
 use Rattle.xc_agree.specs.declared.audit.Audit.{Audit}
 use Rattle.xc_agree.specs.declared.audit.End.{End}
-use Rattle.xc_tool.specs.declared.refusal.Refusal.{Refusal}
 use Rattle.xc_tool.specs.Outcome.{ends_from, audit_of_logs, unless_disagree}
 
 -- ends that are the same at each number

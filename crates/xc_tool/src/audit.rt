@@ -99,13 +99,7 @@ fn whole(alloc: Global, id: u64, end: &End, state: &str) -> Result<String, Alloc
     Ok(line)
 }
 
-fn halted(
-    alloc: Global,
-    id: u64,
-    end: &End,
-    number: u64,
-    kind: Break,
-) -> Result<String, AllocError>
+fn halted(alloc: Global, id: u64, end: &End, number: u64, kind: Break) -> Result<String, AllocError>
     ensures { IfOk result (λ line. string_bytes line ≡ line_of_words (log_words id end.now (state_words (EndState.Halt number kind)))) }
 {
     let accepted = end.accepted;

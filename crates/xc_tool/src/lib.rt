@@ -56,10 +56,13 @@ mod tests {
         let broken = "xclog 1\ntablet 0 0 65535 root\n0 10 write +aaa=1\n0 10 write +aaa=2\nend\n";
         let aborts =
             "xclog 1\ntablet 0 0 65535 root\n0 10 write +aaa=1\n0 11 abort 3\n0 12 safe 11\nend\n";
-        let split = "xclog 1\ntablet 0 0 65535 root\ntablet 1 0 32767 child 0\ntablet 2 32768 65535 child 0\n0 10 write +aaa=1\n0 12 intent 5 +zzz=9\n0 13 safe 12\n0 14 split 32768 1 2\n1 20 safe 20\n2 18 apply 5 16\n2 19 safe 17\nend\n";
+        let split =
+            "xclog 1\ntablet 0 0 65535 root\ntablet 1 0 32767 child 0\ntablet 2 32768 65535 child 0\n0 10 write +aaa=1\n0 12 intent 5 +zzz=9\n0 13 safe 12\n0 14 split 32768 1 2\n1 20 safe 20\n2 18 apply 5 16\n2 19 safe 17\nend\n";
         let split_ends = "log 0 4 12 split\nlog 1 1 20 open\nlog 2 2 17 open\nagrees 2\n";
-        let commits_below = "xclog 1\ntablet 0 0 65535 root\n0 10 write +aaa=1\n0 11 intent 5 +bbb=2\n0 13 safe 12\n0 20 apply 5 12\n0 21 safe 21\nend\n";
-        let straggles = "xclog 1\ntablet 0 0 32767 root\ntablet 1 32768 65535 root\n0 10 intent 7 +aaa=1\n0 20 apply 7 15\n0 22 safe 22\n1 11 intent 7 +zzz=2\n1 21 safe 15\n1 25 apply 7 15\n1 30 safe 28\nend\n";
+        let commits_below =
+            "xclog 1\ntablet 0 0 65535 root\n0 10 write +aaa=1\n0 11 intent 5 +bbb=2\n0 13 safe 12\n0 20 apply 5 12\n0 21 safe 21\nend\n";
+        let straggles =
+            "xclog 1\ntablet 0 0 32767 root\ntablet 1 32768 65535 root\n0 10 intent 7 +aaa=1\n0 20 apply 7 15\n0 22 safe 22\n1 11 intent 7 +zzz=2\n1 21 safe 15\n1 25 apply 7 15\n1 30 safe 28\nend\n";
         let polls = "xcscript 1\ntarget 0\npoll 0 9\npoll 0 9\nend\n";
         let drain = "xcscript 1\ntarget 0\ndrain\nend\n";
         let halted = "polled 0 1\nhalt 0 2 time-back\n";

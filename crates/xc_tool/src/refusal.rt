@@ -14,7 +14,10 @@ pub enum Refusal {
     /// The logs have more than 2^26 bytes.
     LogsTooLong,
     /// The first bad line of the logs, counted from 1, and why it is bad.
-    BadLogs { line: u64, kind: LogKind },
+    BadLogs {
+        line: u64,
+        kind: LogKind,
+    },
     /// The logs are well formed, but a replay doesn't take them yet.
     LaterLogs,
     /// The logs are well formed, and their tablets disagree on a transaction: the case of the least transaction, then of

@@ -11,4 +11,6 @@ pub mod PrintedLines
 pub mod PrintedHeaders
 pub mod PrintedLaws
 pub mod PrintedRun
+pub mod Filled
+pub mod SpelledRun
 mod WorkedTexts

@@ -30,7 +30,7 @@ use Rattle.xc_text.proofs.PrintedHeaders.{all_small, eq_of}
 use Rattle.xc_text.proofs.PrintedLines.{EntryFits, entry_bytes, entry_line, entry_is}
 use Rattle.xc_text.proofs.PrintedLaws.{Gives, back, step_is, at, at_headers, headers_run, small_parts, kind_good, got_here, put_here, within_here, not_le, not_lt, not_zero, no_split_yet, append-nil, part}
 
-entry_kinds : (stage : Stage) (ts : List Tablet) (next : Next) (records operations id : ℕ) (r : Record) (t : Tablet) → is_inner stage ≡ true → EntryFits id r → may_end next ≡ true
+pub entry_kinds : (stage : Stage) (ts : List Tablet) (next : Next) (records operations id : ℕ) (r : Record) (t : Tablet) → is_inner stage ≡ true → EntryFits id r → may_end next ≡ true
     → nat_le (length ts) id ≡ false → slice_get ts id ≡ Some t → in_range (headers_of ts) t.header r.kind ≡ true → is_split_off t ≡ false → nat_lt 64 (ops_in r.kind) ≡ false → (records == 0) ≡ false → nat_lt operations (ops_in r.kind) ≡ false
     → first_kind (kinds (at stage ts next records operations) (line.Entry id r)) ≡ None
 entry_kinds stage ts next records operations id r t i f m known got range last few room space =
@@ -169,7 +169,7 @@ not_orphaned hs t f =
     let g = and_parts (list_all (record_fits t.header (children hs t.header.id)) t.records) (ends_fit (is_some (children hs t.header.id)) t.records) f in
     ap (λ b. is_some (children hs t.header.id) && not b) (split_off_is t) ∙ not_orphaned_by (is_some (children hs t.header.id)) t.records g.1
 
-none_orphaned : (hs : List Header) (ts : List Tablet) → list_all (tablet_fits hs) ts ≡ true → list_any (is_orphaned hs) ts ≡ false
+pub none_orphaned : (hs : List Header) (ts : List Tablet) → list_all (tablet_fits hs) ts ≡ true → list_any (is_orphaned hs) ts ≡ false
 none_orphaned hs [] f = refl
 none_orphaned hs (t ∷ ts) f = let p = and_parts (tablet_fits hs t) (list_all (tablet_fits hs) ts) f in rw (not_orphaned hs t p.0) (none_orphaned hs ts p.1)
 
@@ -180,33 +180,33 @@ end_line = refl
 end_kinds : (stage : Stage) (ts : List Tablet) (next : Next) (x y : ℕ) → is_inner stage ≡ true → may_end next ≡ true → list_any (is_orphaned (headers_of ts)) ts ≡ false → first_kind (kinds (at stage ts next x y) line.End) ≡ None
 end_kinds stage ts next x y i m o = rw (end_in_place stage i) (rw m (rw o refl))
 
-end_gives : (stage : Stage) (ts : List Tablet) (next : Next) (x y : ℕ) → is_inner stage ≡ true → may_end next ≡ true → list_any (is_orphaned (headers_of ts)) ts ≡ false → Gives (at stage ts next x y) (codes "end\n") (record { tablets = ts })
+pub end_gives : (stage : Stage) (ts : List Tablet) (next : Next) (x y : ℕ) → is_inner stage ≡ true → may_end next ≡ true → list_any (is_orphaned (headers_of ts)) ts ≡ false → Gives (at stage ts next x y) (codes "end\n") (record { tablets = ts })
 end_gives stage ts next x y i m o =
     back (at stage ts next x y) (at Ended ts next x y) (codes "end") [] (codes "end\n") (record { tablets = ts }) refl
     (step_is (at stage ts next x y) (codes "end") line.End end_line (end_kinds stage ts next x y i m o)) (λ n. refl)
 
 -- ---- the whole
 
-first_line : line_of (split_on 32 (codes "xclog 1")) ≡ Some line.First
+pub first_line : line_of (split_on 32 (codes "xclog 1")) ≡ Some line.First
 unfolding line_of
 first_line = refl
 
-headers_text : (ts : List Tablet) → flat_map (λ t. header_text t.header) ts ≡ flat_map header_text (headers_of ts)
+pub headers_text : (ts : List Tablet) → flat_map (λ t. header_text t.header) ts ≡ flat_map header_text (headers_of ts)
 headers_text [] = refl
 headers_text (t ∷ ts) = ap (λ rest. header_text t.header ++ rest) (headers_text ts)
 
-bares_are : (ts : List Tablet) → map bare (headers_of ts) ≡ bares ts
+pub bares_are : (ts : List Tablet) → map bare (headers_of ts) ≡ bares ts
 bares_are [] = refl
 bares_are (t ∷ ts) = ap (λ rest. bare t.header ∷ rest) (bares_are ts)
 
-le_of : (a b : ℕ) → nat_le a b ≡ true → a ≤ b
+pub le_of : (a b : ℕ) → nat_le a b ≡ true → a ≤ b
 le_of a b h = grind (arith, nat_tests)
 
-length_headers : (ts : List Tablet) → length (headers_of ts) ≡ length ts
+pub length_headers : (ts : List Tablet) → length (headers_of ts) ≡ length ts
 length_headers [] = refl
 length_headers (t ∷ ts) = let e = length_headers ts in omega arith
 
-rest_of : (a b : ℕ) → a ≤ b → b ≡ a + (b - a)
+pub rest_of : (a b : ℕ) → a ≤ b → b ≡ a + (b - a)
 rest_of a b h = omega arith
 
 pub printed_is_read : (logs : Logs) → is_valid logs ≡ true → logs_of (text_of logs) ≡ Ok logs

@@ -152,7 +152,7 @@ good_header s h g f =
 
 -- ---- a record
 
-sums : (f : Tablet → ℕ) (before : List Tablet) (x y : Tablet) (after : List Tablet) (d : ℕ) → f y ≡ f x + d → sum_by f (before ++ y ∷ after) ≡ sum_by f (before ++ x ∷ after) + d
+pub sums : (f : Tablet → ℕ) (before : List Tablet) (x y : Tablet) (after : List Tablet) (d : ℕ) → f y ≡ f x + d → sum_by f (before ++ y ∷ after) ≡ sum_by f (before ++ x ∷ after) + d
 sums f before x y after d e =
     let a = sum_by-append f before (y ∷ after) in
     let b = sum_by-append f before (x ∷ after) in

@@ -3,6 +3,7 @@
 
 mod cut;
 mod kind;
+mod laws;
 mod line;
 mod operations;
 mod print;
@@ -11,6 +12,7 @@ mod reading;
 mod record_line;
 
 pub use kind::{LogKind, LogsFail};
+pub use laws::{no_text_spells_two_logs, what_is_spelled_is_read};
 pub use print::print_logs;
 pub use read::read_logs;
 

@@ -1,0 +1,12 @@
+// The laws of log texts, each the contract of one function.
+ghost use Rattle.xc_text.specs.Spelled.{SpelledIsRead, SpellsOne};
+
+/// A text that spells logs is read as those logs, in whatever order the lines of its tablets are mixed.
+pub fn what_is_spelled_is_read()
+    ensures { SpelledIsRead }
+{}
+
+/// No text spells two logs.
+pub fn no_text_spells_two_logs()
+    ensures { SpellsOne }
+{}

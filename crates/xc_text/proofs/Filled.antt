@@ -140,7 +140,7 @@ operations_filled (e ∷ es) ts k =
     let p = and_parts (nat_lt e.id (length ts)) (list_all (λ x. nat_lt x.id (length ts)) es) k in
     let l = lt_of e.id (length ts) p.0 in
     let here : operations_of (with_record e.id e.item ts) ≡ operations_of ts + ops_in e.item.kind =
-        sum_with (λ t. sum_by (λ q. ops_in q.kind) t.records) e.id e.item ts (ops_in e.item.kind) (λ t. sum_by_push (λ q. ops_in q.kind) t.records e.item) l in
+    sum_with (λ t. sum_by (λ q. ops_in q.kind) t.records) e.id e.item ts (ops_in e.item.kind) (λ t. sum_by_push (λ q. ops_in q.kind) t.records e.item) l in
     let more = operations_filled es (with_record e.id e.item ts) (known_with e es ts p.1) in
     let all = sum_by-cons (λ x. ops_in x.item.kind) e es in
     ap operations_of (sym (filled_entry e es ts l)) ∙ omega arith

@@ -1,5 +1,5 @@
 -- A text that spells logs is read as those logs: its lines, one after another.
-use Rattle.std.proofs.Common.{◌≡◌, ℕ, zero, suc, ◌+◌, ◌-◌, ◌^◌, ◌<◌, ◌≤◌, ◌==◌, Bool, true, false, ◌&&◌, nat_le, nat_lt, List, [], ◌∷◌, ◌++◌, length, map, flat_map, Some, None, Result, Ok, is_some, slice_get, refl, sym, ap, subst, ◌∙◌, append_assoc, codes, arith, sum_by}
+use Rattle.std.proofs.Common.{◌≡◌, ℕ, zero, suc, ◌+◌, ◌-◌, ◌^◌, ◌<◌, ◌≤◌, Bool, true, false, nat_le, nat_lt, List, [], ◌∷◌, ◌++◌, length, flat_map, Some, Result, Ok, is_some, slice_get, refl, sym, ap, subst, ◌∙◌, append_assoc, codes, arith, sum_by}
 use Rattle.std.proofs.lemmas.Bool.{and_parts}
 use Rattle.std.proofs.lemmas.Bool.Decides.{nat_tests}
 use Rattle.std.proofs.lemmas.List.Sums.{sum_by-cons}
@@ -11,7 +11,6 @@ use Rattle.xc_record.specs.Valid.{is_time, headers_of, kind_fits, record_fits, e
 use Rattle.xc_record.specs.declared.rules.Next.{Next}
 use Rattle.xc_record.specs.declared.rules.Next.TheVariants.{RootAt}
 use Rattle.xc_record.specs.declared.record.Record.{Record}
-use Rattle.xc_record.specs.declared.record.Header.{Header}
 use Rattle.xc_record.specs.declared.record.Tablet.{Tablet}
 use Rattle.xc_record.specs.declared.record.Logs.{Logs}
 use Rattle.xc_text.specs.declared.line.LogLine.TheVariants as line
@@ -20,8 +19,8 @@ use Rattle.xc_text.specs.declared.reading.Stage.TheVariants.{Headers, Records}
 use Rattle.xc_text.specs.Lines.{header_numbers_fit}
 use Rattle.xc_text.specs.LogText.{BadLine, begun, is_inner, in_range, is_split_off, step, logs_of}
 use Rattle.xc_text.specs.Printed.{header_text, record_text}
-use Rattle.xc_text.specs.Spelled.{Entry, entry_text, given, Spells, SpelledIsRead, SpellsOne}
-use Rattle.xc_text.proofs.ValidParts.{ends_split, split_off_is, place}
+use Rattle.xc_text.specs.Spelled.{Entry, entry_text, given, SpelledIsRead, SpellsOne}
+use Rattle.xc_text.proofs.ValidParts.{split_off_is, place}
 use Rattle.xc_text.proofs.ValidLaws.{records_of, operations_of}
 use Rattle.xc_text.proofs.PrintedHeaders.{all_small}
 use Rattle.xc_text.proofs.PrintedLines.{EntryFits, entry_bytes, entry_line, entry_is}

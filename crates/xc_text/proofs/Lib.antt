@@ -13,4 +13,6 @@ pub mod PrintedLaws
 pub mod PrintedRun
 pub mod Filled
 pub mod SpelledRun
+pub mod ReadWords
+pub mod ReadBack
 mod WorkedTexts

@@ -41,3 +41,7 @@ SpelledIsRead = (text : List ℕ) (logs : Logs) → Spells text logs → logs_of
 -- No text spells two logs.
 abbrev pub SpellsOne : Type 0
 SpellsOne = (text : List ℕ) (logs other : Logs) → Spells text logs → Spells text other → logs ≡ other
+
+-- A text that is read as logs spells them: nothing else is read.
+abbrev pub ReadIsSpelled : Type 0
+ReadIsSpelled = (text : List ℕ) (logs : Logs) → logs_of text ≡ Ok logs → Spells text logs

@@ -12,7 +12,7 @@ mod reading;
 mod record_line;
 
 pub use kind::{LogKind, LogsFail};
-pub use laws::{no_text_spells_two_logs, what_is_spelled_is_read};
+pub use laws::{no_text_spells_two_logs, what_is_read_is_spelled, what_is_spelled_is_read};
 pub use print::print_logs;
 pub use read::read_logs;
 

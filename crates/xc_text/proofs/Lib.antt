@@ -16,3 +16,4 @@ pub mod SpelledRun
 pub mod ReadWords
 pub mod ReadBack
 mod WorkedTexts
+mod WorkedSpelling

@@ -14,7 +14,7 @@ use Rattle.xc_text.specs.Spelled.{Entry, given}
 use Rattle.xc_text.proofs.ValidParts.{place}
 use Rattle.xc_text.proofs.ValidLaws.{records_of, operations_of, sums}
 use Rattle.xc_text.proofs.PrintedLaws.{append-nil, part}
-use Rattle.xc_text.proofs.PrintedRun.{bares}
+use Rattle.xc_text.proofs.PrintedEnds.{bares}
 
 -- the first tablet has number n
 abbrev pub filled : ℕ → List Entry → List Tablet → List Tablet

@@ -1,7 +1,6 @@
 -- A text that is read as logs spells them: its lines, from the last to the first.
-use Rattle.std.proofs.Common.{◌≡◌, ℕ, zero, suc, ◌+◌, ◌<◌, ◌==◌, Bool, true, false, ◌||◌, not, nat_le, nat_lt, List, [], ◌∷◌, ◌++◌, length, map, flat_map, Option, Some, None, Result, Ok, Err, slice_get, refl, sym, ap, subst, ◌∙◌, append_assoc, codes, arith}
+use Rattle.std.proofs.Common.{◌≡◌, ℕ, zero, suc, ◌+◌, ◌<◌, true, false, not, nat_le, nat_lt, List, [], ◌∷◌, ◌++◌, length, map, flat_map, Option, Some, None, Result, Ok, Err, slice_get, refl, sym, ap, subst, ◌∙◌, append_assoc, codes, arith}
 use Rattle.std.proofs.lemmas.Bool.Decides.{nat_tests}
-use Rattle.std.proofs.lemmas.Option.{same_Some}
 use Rattle.std.specs.List.{list_all, join_with_byte}
 use Rattle.xc_base.specs.Words.{split_on}
 use Rattle.xc_base.proofs.WordLaws.{join-split_on}
@@ -21,11 +20,11 @@ use Rattle.xc_text.specs.declared.reading.Stage.TheVariants.{Start, Headers, Rec
 use Rattle.xc_text.specs.Kinds.{first_kind}
 use Rattle.xc_text.specs.Lines.{line_of, numbers_fit}
 use Rattle.xc_text.specs.LogText.{begun, misplaced, records_began, kinds, moved, step, step_by, ending, rest_of_text, go_on, lines_from, logs_of}
-use Rattle.xc_text.specs.Printed.{header_text, record_text}
+use Rattle.xc_text.specs.Printed.{header_text}
 use Rattle.xc_text.specs.Spelled.{Entry, entry_text, given, Spells, ReadIsSpelled}
 use Rattle.xc_text.proofs.ValidLaws.{bare, AllFalse, all_false, or_false, not_false, unless_cases, read_is_valid}
 use Rattle.xc_text.proofs.PrintedLaws.{append-nil, headers_bare}
-use Rattle.xc_text.proofs.PrintedRun.{headers_text}
+use Rattle.xc_text.proofs.PrintedEnds.{headers_text}
 use Rattle.xc_text.proofs.Filled.{filled, filled_none, filled_entry, headers_filled, length_filled, length_with, all_known}
 use Rattle.xc_text.proofs.ReadWords.{line_bytes, line_back}
 

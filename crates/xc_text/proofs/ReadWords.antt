@@ -1,5 +1,5 @@
 -- Words that are read as a line are the words of its text, since a number is spelled in one way.
-use Rattle.std.proofs.Common.{◌≡◌, ℕ, ◌+◌, ◌-◌, ◌^◌, ◌<◌, ◌≤◌, ◌==◌, Bool, true, false, ◌&&◌, min, nat_le, nat_lt, List, [], ◌∷◌, ◌++◌, length, get_or, map, flat_map, Option, Some, None, if◌then◌else◌, option_and_then, option_map, refl, sym, ap, subst, ◌∙◌, codes, decimal, arith}
+use Rattle.std.proofs.Common.{◌≡◌, ℕ, ◌-◌, ◌^◌, ◌<◌, ◌==◌, Bool, true, false, ◌&&◌, min, nat_le, nat_lt, List, [], ◌∷◌, ◌++◌, length, get_or, map, Option, Some, None, if◌then◌else◌, option_map, refl, sym, ap, subst, ◌∙◌, codes, decimal, arith}
 use Rattle.std.proofs.lemmas.Bool.{and_parts, eqb-true}
 use Rattle.std.proofs.lemmas.Bool.Decides.{nat_tests}
 use Rattle.std.proofs.lemmas.Option.{option_and_then_some, same_Some, none-some}
@@ -13,11 +13,10 @@ use Rattle.xc_record.specs.Valid.{is_time, is_txn}
 use Rattle.xc_record.specs.declared.record.Op.{Op}
 use Rattle.xc_record.specs.declared.record.Kind.{Kind}
 use Rattle.xc_record.specs.declared.record.Kind.TheVariants.{Write, Intent, Apply, Abort, Safe, Split}
-use Rattle.xc_record.specs.declared.record.Record.{Record}
 use Rattle.xc_record.specs.declared.record.Header.{Header}
 use Rattle.xc_text.specs.declared.line.LogLine.{LogLine}
 use Rattle.xc_text.specs.declared.line.LogLine.TheVariants as line
-use Rattle.xc_text.specs.Lines.{◌>>=◌, number, first_number, is_over, at_end, set_of, op_of, all_ops, ops_of, intent_of, apply_of, abort_of, safe_of, split_of, kind_by, kind_of, kind_numbers_fit, entry_of, parent_of, header_of, version_of, line_by, line_of, header_numbers_fit, numbers_fit}
+use Rattle.xc_text.specs.Lines.{◌>>=◌, number, first_number, at_end, set_of, op_of, all_ops, ops_of, intent_of, apply_of, abort_of, safe_of, split_of, kind_by, kind_of, kind_numbers_fit, entry_of, parent_of, header_of, version_of, line_by, line_of, header_numbers_fit, numbers_fit}
 use Rattle.xc_text.specs.Printed.{spaced, line_text, op_word, kind_words, record_text, parent_words, header_text}
 use Rattle.xc_text.proofs.PrintedLines.{header_words}
 use Rattle.xc_text.proofs.PrintedWords.{append-nil, line_body}

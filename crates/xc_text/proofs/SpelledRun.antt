@@ -25,7 +25,7 @@ use Rattle.xc_text.proofs.ValidLaws.{records_of, operations_of}
 use Rattle.xc_text.proofs.PrintedHeaders.{all_small}
 use Rattle.xc_text.proofs.PrintedLines.{EntryFits, entry_bytes, entry_line, entry_is}
 use Rattle.xc_text.proofs.PrintedLaws.{Gives, back, step_is, at, at_headers, headers_run, kind_good, not_le, not_lt, not_zero, no_split_yet, part}
-use Rattle.xc_text.proofs.PrintedRun.{bares, entry_kinds, end_gives, none_orphaned, headers_text, first_line, bares_are, le_of, length_headers, rest_of}
+use Rattle.xc_text.proofs.PrintedEnds.{bares, entry_kinds, end_gives, none_orphaned, headers_text, first_line, bares_are, le_of, length_headers, rest_of}
 use Rattle.xc_text.proofs.Filled.{filled, filled_none, filled_entry, got_filled, headers_filled, length_filled, filled_is, all_known, known_with, ops_given, records_filled, operations_filled, given_same, lt_of}
 
 -- what holds of the tablets of valid logs

@@ -9,7 +9,7 @@ use Rattle.xc_record.specs.declared.record.Record.{Record}
 use Rattle.xc_record.specs.declared.record.Tablet.{Tablet}
 use Rattle.xc_record.specs.declared.record.Logs.{Logs}
 use Rattle.xc_text.specs.LogText.{logs_of}
-use Rattle.xc_text.specs.Printed.{header_text, record_text}
+use Rattle.xc_text.specs.Printed.{header_text, record_text, text_of}
 
 pub record Entry : Type 0 where
   pub id : ℕ
@@ -45,3 +45,7 @@ SpellsOne = (text : List ℕ) (logs other : Logs) → Spells text logs → Spell
 -- A text that is read as logs spells them: nothing else is read.
 abbrev pub ReadIsSpelled : Type 0
 ReadIsSpelled = (text : List ℕ) (logs : Logs) → logs_of text ≡ Ok logs → Spells text logs
+
+-- What is printed of valid logs spells them, so each valid logs are spelled by some text.
+abbrev pub PrintedIsSpelled : Type 0
+PrintedIsSpelled = (logs : Logs) → is_valid logs ≡ true → Spells (text_of logs) logs

@@ -10,5 +10,11 @@ pub mod PrintedWords
 pub mod PrintedLines
 pub mod PrintedHeaders
 pub mod PrintedLaws
-pub mod PrintedRun
+pub mod PrintedEnds
+pub mod Filled
+pub mod SpelledRun
+pub mod PrintedSpelled
+pub mod ReadWords
+pub mod ReadBack
 mod WorkedTexts
+mod WorkedSpelling

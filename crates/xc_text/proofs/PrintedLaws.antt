@@ -1,5 +1,5 @@
--- What is printed of valid logs is read as those logs.
-use Rattle.std.proofs.Common.{◌≡◌, ℕ, ◌+◌, ◌^◌, ◌<◌, ◌≤◌, ◌==◌, Bool, true, false, ◌&&◌, nat_le, nat_lt, List, [], ◌∷◌, ◌++◌, length, map, flat_map, Option, Some, None, Ok, slice_get, slice_set, if◌then◌else◌, refl, sym, ap, subst, ◌∙◌, append_assoc, arith}
+-- The header lines of valid logs are read, and a record that fits its tablet breaks no rule.
+use Rattle.std.proofs.Common.{◌≡◌, ℕ, ◌+◌, ◌^◌, ◌<◌, ◌≤◌, ◌==◌, Bool, true, false, ◌&&◌, nat_le, nat_lt, List, [], ◌∷◌, ◌++◌, length, map, flat_map, Option, Some, None, Ok, if◌then◌else◌, refl, sym, ap, subst, ◌∙◌, append_assoc, arith}
 use Rattle.std.proofs.lemmas.Bool.{and_parts}
 use Rattle.std.proofs.lemmas.Bool.Decides.{nat_tests}
 use Rattle.std.specs.List.{list_all}
@@ -135,18 +135,6 @@ kind_good hs h (Apply txn commit) small f = record { numbers = f; names = refl; 
 kind_good hs h (Abort txn) small f = record { numbers = f; names = refl; some = refl; few = refl; range = refl }
 kind_good hs h (Safe value) small f = record { numbers = f; names = refl; some = refl; few = refl; range = refl }
 kind_good hs h (Split place left right) small f = record { numbers = split_good hs h place left right small (children hs h.id) refl f; names = refl; some = refl; few = refl; range = f }
-
-pub got_here : (before : List Tablet) (t : Tablet) (after : List Tablet) → slice_get (before ++ t ∷ after) (length before) ≡ Some t
-got_here [] t after = refl
-got_here (x ∷ before) t after = got_here before t after
-
-pub put_here : (before : List Tablet) (t u : Tablet) (after : List Tablet) → slice_set (before ++ t ∷ after) (length before) u ≡ before ++ u ∷ after
-put_here [] t u after = refl
-put_here (x ∷ before) t u after = ap (λ rest. x ∷ rest) (put_here before t u after)
-
-pub within_here : (before : List Tablet) (t : Tablet) (after : List Tablet) → length before < length (before ++ t ∷ after)
-within_here [] t after = omega arith
-within_here (x ∷ before) t after = let k = within_here before t after in omega arith
 
 pub not_le : (a b : ℕ) → b < a → nat_le a b ≡ false
 not_le a b h = grind (arith, nat_tests)

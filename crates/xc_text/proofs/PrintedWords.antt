@@ -44,7 +44,7 @@ split_none : (c : ℕ) (w : List ℕ) → lacks c w ≡ true → split_on c w �
 split_none c [] h = refl
 split_none c (b ∷ w) h = let p = and_parts (not (b == c)) (lacks c w) h in rw (differs b c p.0, split_none c w p.1) refl
 
-append-nil : (xs : List ℕ) → xs ++ [] ≡ xs
+pub append-nil : (xs : List ℕ) → xs ++ [] ≡ xs
 append-nil [] = refl
 append-nil (x ∷ xs) = ap (λ ys. x ∷ ys) (append-nil xs)
 
@@ -60,7 +60,7 @@ spaced_lacks (w ∷ ws) h =
     let p = and_parts (plain w) (list_all plain ws) h in
     list_all-append (λ b. not (b == 10)) w (spaced ws) ∙ rw (plain_lacks 10 w (omega arith) p.0) (spaced_lacks ws p.1)
 
-line_body : (first : List ℕ) (words : List (List ℕ)) (rest : List ℕ) → line_text first words ++ rest ≡ (first ++ spaced words) ++ 10 ∷ rest
+pub line_body : (first : List ℕ) (words : List (List ℕ)) (rest : List ℕ) → line_text first words ++ rest ≡ (first ++ spaced words) ++ 10 ∷ rest
 line_body first words rest = ap (λ l. l ++ rest) (sym (append_assoc first (spaced words) (10 ∷ []))) ∙ append_assoc (first ++ spaced words) (10 ∷ []) rest
 
 pub split_line : (first : List ℕ) (words : List (List ℕ)) (rest : List ℕ) → plain first ≡ true → list_all plain words ≡ true → split_on 10 (line_text first words ++ rest) ≡ (first ++ spaced words) ∷ split_on 10 rest

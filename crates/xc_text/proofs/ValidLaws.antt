@@ -84,15 +84,15 @@ none_cases : (b : Bool) (k : LogKind) (rest : Option LogKind) → (if b then Som
 none_cases true k rest h = cc
 none_cases false k rest h = (refl, h)
 
-all_false : (rows : List (Bool × LogKind)) → first_kind rows ≡ None → AllFalse rows
+pub all_false : (rows : List (Bool × LogKind)) → first_kind rows ≡ None → AllFalse rows
 all_false [] h = tt
 all_false (row ∷ rows) h = let p = none_cases row.0 row.1 (first_kind rows) h in (p.0, all_false rows p.1)
 
-or_false : (a b : Bool) → (a || b) ≡ false → (a ≡ false) × (b ≡ false)
+pub or_false : (a b : Bool) → (a || b) ≡ false → (a ≡ false) × (b ≡ false)
 or_false true b h = cc
 or_false false b h = (refl, h)
 
-not_false : (b : Bool) → not b ≡ false → b ≡ true
+pub not_false : (b : Bool) → not b ≡ false → b ≡ true
 not_false true h = refl
 not_false false h = cc
 
@@ -152,7 +152,7 @@ good_header s h g f =
 
 -- ---- a record
 
-sums : (f : Tablet → ℕ) (before : List Tablet) (x y : Tablet) (after : List Tablet) (d : ℕ) → f y ≡ f x + d → sum_by f (before ++ y ∷ after) ≡ sum_by f (before ++ x ∷ after) + d
+pub sums : (f : Tablet → ℕ) (before : List Tablet) (x y : Tablet) (after : List Tablet) (d : ℕ) → f y ≡ f x + d → sum_by f (before ++ y ∷ after) ≡ sum_by f (before ++ x ∷ after) + d
 sums f before x y after d e =
     let a = sum_by-append f before (y ∷ after) in
     let b = sum_by-append f before (x ∷ after) in
@@ -242,7 +242,7 @@ valid_at_end s g ended =
 
 -- ---- from line to line
 
-unless_cases : (o : Option LogKind) (s next : Reading) → unless_bad o s ≡ Ok next → (o ≡ None) × (s ≡ next)
+pub unless_cases : (o : Option LogKind) (s next : Reading) → unless_bad o s ≡ Ok next → (o ≡ None) × (s ≡ next)
 unless_cases None s next h = (refl, cc)
 unless_cases (Some k) s next h = cc
 

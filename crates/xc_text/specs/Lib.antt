@@ -2,3 +2,4 @@ pub mod Kinds
 pub mod Lines
 pub mod LogText
 pub mod Printed
+pub mod Spelled

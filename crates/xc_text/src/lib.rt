@@ -1,8 +1,11 @@
 //! The log text, version 1: read exactly, and printed back.
+//!
+//! Which logs a text spells is said without reading it; laws join that to what is read and to what is printed.
 #![tactic(auto)]
 
 mod cut;
 mod kind;
+mod laws;
 mod line;
 mod operations;
 mod print;
@@ -11,6 +14,10 @@ mod reading;
 mod record_line;
 
 pub use kind::{LogKind, LogsFail};
+pub use laws::{
+    no_text_spells_two_logs, what_is_printed_is_spelled, what_is_read_is_spelled,
+    what_is_spelled_is_read,
+};
 pub use print::print_logs;
 pub use read::read_logs;
 

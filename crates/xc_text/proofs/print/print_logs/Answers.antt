@@ -1,4 +1,4 @@
-use Rattle.xc_text.proofs.PrintedRun.{text_is_read}
+use Rattle.xc_text.proofs.PrintedSpelled.{text_is_read}
 use Rattle.xc_text.proofs.print.print_logs.Goals as goal
 
 pub returns-in-Ok-clause-read_back : goal.returns-in-Ok-clause-read_back

@@ -12,7 +12,8 @@ use Rattle.xc_model.proofs.ValidLogs.{IsBelow, ParentThere, GrowsBy, ValidLogs}
 use Rattle.xc_model.proofs.Sorts.{exists-left, each-append, each-weaker}
 use Rattle.xc_model.proofs.Chain.{order_after-parts}
 use Rattle.xc_model.proofs.Tree.{each-ends, exists-weaker, each-both, the_ends}
-use Rattle.xc_model.proofs.SafeTime.{Begins, begins-placed, begins-goes, floor-rises, floor-take, above-safe}
+use Rattle.xc_record.proofs.SafeLaws.{floor-take}
+use Rattle.xc_model.proofs.SafeTime.{Begins, begins-placed, begins-accepted, above-safe}
 
 -- where a tablet's start comes from
 abbrev pub StartsFrom : List AcceptedTablet → AcceptedTablet → Type 0
@@ -59,11 +60,11 @@ final-floor e b =
     ap (λ (w : AcceptedTablet). w.end.floor) b.is ∙ (order_after-parts (begun b.from) a).0 ∙ sym (ap (λ (w : AcceptedTablet). floor_after w.start.floor w.records) b.is)
 
 last-low : (x : Placed) → Begins x.tablet → x.tablet.start.floor ≤ last_safe x
-last-low x b = floor-rises x.tablet.start.floor b.from.last x.tablet.records x.place (begins-goes x.tablet b)
+last-low x b = floor-take x.tablet.start zero x.place x.tablet.records (begins-accepted x.tablet b) (omega arith)
 
 last-high : (x : Placed) → Begins x.tablet → x.place ≤ length x.tablet.records → last_safe x ≤ x.tablet.end.floor
 last-high x b w =
-    let up : floor_after x.tablet.start.floor (take x.place x.tablet.records) ≤ floor_after x.tablet.start.floor (take (length x.tablet.records) x.tablet.records) = floor-take x.tablet.start.floor b.from.last x.tablet.records x.place (length x.tablet.records) (begins-goes x.tablet b) w in
+    let up : floor_after x.tablet.start.floor (take x.place x.tablet.records) ≤ floor_after x.tablet.start.floor (take (length x.tablet.records) x.tablet.records) = floor-take x.tablet.start x.place (length x.tablet.records) x.tablet.records (begins-accepted x.tablet b) w in
     let all : floor_after x.tablet.start.floor (take (length x.tablet.records) x.tablet.records) ≡ x.tablet.end.floor = ap (floor_after x.tablet.start.floor) (take_all (length x.tablet.records) x.tablet.records (omega arith)) ∙ sym (final-floor x.tablet b) in
     omega arith
 

@@ -1,6 +1,6 @@
 -- The safe time and the floors of tablets as their places rise.
 use Rattle.xc_model.proofs.Tree.{each-ends}
-use Rattle.std.proofs.Common.{◌≡◌, ◌==◌, ℕ, suc, zero, ◌^◌, ◌≤◌, Bool, true, false, cond, not, List, [], ◌∷◌, ◌++◌, map, take, length, Option, Some, None, refl, ap, sym, ◌∙◌, arith, subst, ◌⊎◌, inl, inr, ⊎_elim}
+use Rattle.std.proofs.Common.{◌≡◌, ◌==◌, ℕ, ◌^◌, ◌≤◌, Bool, true, false, cond, not, List, [], ◌∷◌, ◌++◌, map, take, length, Option, Some, None, refl, ap, sym, ◌∙◌, arith, subst, ◌⊎◌, inl, inr, ⊎_elim}
 use Rattle.std.specs.List.{filter}
 use Rattle.std.proofs.lemmas.Bool.{and_parts, and_from, eqb-true, eq-eqb, true≢false}
 use Rattle.xc_record.specs.declared.record.Kind.TheVariants as log
@@ -8,10 +8,12 @@ use Rattle.xc_model.proofs.StableSort.{Each}
 use Rattle.xc_record.specs.declared.record.Kind.{Kind}
 use Rattle.xc_record.specs.declared.record.Record.{Record}
 use Rattle.xc_record.specs.declared.record.Tablet.{Tablet}
-use Rattle.xc_record.specs.Order.{Progress}
+use Rattle.xc_record.specs.Order.{Progress, accepted_from}
 use Rattle.xc_model.proofs.Placed.{order_after, begun, accepted_under, end_under, order_at, parent_order, ends_from, floor_by, Placed, is_closed, is_open, last_safe, safe, Rises, TabletsOf}
 use Rattle.xc_record.specs.Accepted.{AcceptedTablet}
 use Rattle.xc_record.specs.SafeTime.{floor_after}
+use Rattle.xc_record.proofs.OrderLaws.{accepted-accepted}
+use Rattle.xc_record.proofs.SafeLaws.{floor-take}
 use Rattle.xc_record.specs.Lists.{least}
 use Rattle.xc_model.proofs.Sorts.{each-append}
 use Rattle.xc_model.proofs.Chain.{KindGoes, Goes, last_after, under-goes, order_after-parts}
@@ -31,6 +33,13 @@ begins-goes e b =
     let starts : e.start.floor ≡ b.from.floor = ap (λ (w : AcceptedTablet). w.start.floor) b.is in
     let acc : e.records ≡ a = ap (λ (w : AcceptedTablet). w.records) b.is in
     subst (λ (w : ℕ). Goes w b.from.last e.records) (sym starts) (subst (Goes b.from.floor b.from.last) (sym acc) (under-goes b.from b.tablet.records))
+
+under-accepted : (o : Progress) (rs : List Record) → accepted_from (begun o) (accepted_under o rs) ≡ accepted_under o rs
+under-accepted o rs =
+    elim o.split as (λ b. accepted_from (begun o) (cond b (accepted_from (begun o) rs) []) ≡ cond b (accepted_from (begun o) rs) []) [ true ↦ accepted-accepted (begun o) rs | false ↦ refl ]
+
+pub begins-accepted : (e : AcceptedTablet) → Begins e → accepted_from e.start e.records ≡ e.records
+begins-accepted e b = subst (λ (w : AcceptedTablet). accepted_from w.start w.records ≡ w.records) (sym b.is) (under-accepted b.from b.tablet.records)
 
 pub begins-low : (e : AcceptedTablet) → Begins e → e.end.floor ≤ e.end.last
 begins-low e b =
@@ -68,20 +77,6 @@ floor-step f time (log.Abort n) g = omega arith
 floor-step f time (log.Safe v) g = g.0
 floor-step f time (log.Split at left right) g = omega arith
 
-pub floor-rises : (f l : ℕ) (rs : List Record) (q : ℕ) → Goes f l rs → f ≤ floor_after f (take q rs)
-floor-rises f l rs zero g = omega arith
-floor-rises f l [] (suc q) g = omega arith
-floor-rises f l (r ∷ rs) (suc q) g =
-    let a : f ≤ floor_by f r.kind = floor-step f r.time r.kind g.1 in
-    let b : floor_by f r.kind ≤ floor_after (floor_by f r.kind) (take q rs) = floor-rises (floor_by f r.kind) r.time rs q g.2 in
-    omega arith
-
-pub floor-take : (f l : ℕ) (rs : List Record) (p q : ℕ) → Goes f l rs → p ≤ q → floor_after f (take p rs) ≤ floor_after f (take q rs)
-floor-take f l rs zero q g h = floor-rises f l rs q g
-floor-take f l rs (suc p) zero g h = absurd (omega arith)
-floor-take f l [] (suc p) (suc q) g h = omega arith
-floor-take f l (r ∷ rs) (suc p) (suc q) g h = floor-take (floor_by f r.kind) r.time rs p q g.2 (omega arith)
-
 pub safe-top : (xs : List Placed) → safe xs ≤ 2 ^ 62
 safe-top [] = omega arith
 safe-top (x ∷ xs) = elim (is_closed x) as (λ b. least (map last_safe (cond (not b) (x ∷ filter is_open xs) (filter is_open xs))) ≤ 2 ^ 62) [ true ↦ safe-top xs | false ↦ (let h : safe xs ≤ 2 ^ 62 = safe-top xs in omega arith) ]
@@ -106,7 +101,7 @@ one-rises t x y b e h w c =
     (λ k. let parts = and_parts (x.place == length x.tablet.records) x.tablet.end.split k in
     let full : x.place ≡ length x.tablet.records = eqb-true x.place (length x.tablet.records) parts.0 in
     inl (and_from (y.place == length y.tablet.records) y.tablet.end.split (eq-eqb y.place (length y.tablet.records) (omega arith)) (ap (λ (w : AcceptedTablet). w.end.split) (sym e) ∙ parts.1)))
-    (λ k. let up : last_safe x ≤ floor_after x.tablet.start.floor (take y.place x.tablet.records) = floor-take x.tablet.start.floor b.from.last x.tablet.records x.place y.place (begins-goes x.tablet b) h in
+    (λ k. let up : last_safe x ≤ floor_after x.tablet.start.floor (take y.place x.tablet.records) = floor-take x.tablet.start x.place y.place x.tablet.records (begins-accepted x.tablet b) h in
     let same : floor_after x.tablet.start.floor (take y.place x.tablet.records) ≡ last_safe y = ap (λ (w : AcceptedTablet). floor_after w.start.floor (take y.place w.records)) e in
     inr (omega arith))
     c

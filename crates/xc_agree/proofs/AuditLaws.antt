@@ -20,7 +20,7 @@ use Rattle.xc_agree.specs.declared.audit.EndState.TheVariants.{Unreached}
 use Rattle.xc_agree.specs.declared.cases.Case.{Case}
 use Rattle.xc_agree.specs.declared.run.Halt.{Halt}
 use Rattle.xc_agree.specs.declared.run.Run.{Run}
-use Rattle.xc_agree.specs.declared.commits.Commits.{Commits}
+use Rattle.xc_agree.specs.declared.commits.Commit.{Commit}
 use Rattle.xc_agree.specs.Runs.{IsRun, IsRuns, end_from, halt_state, halt_at}
 use Rattle.xc_agree.specs.Tally.{time_of, first_commit, writes, applied_in, AreCommits}
 use Rattle.xc_agree.specs.declared.audit.Audit.{Audit}
@@ -164,7 +164,7 @@ none-first f (n ∷ ns) k = rw (k n) (none-first f ns k)
 abbrev case_at : Logs → ℕ → Option Disagreement
 case_at logs n = option_map_or (disagreement_on logs n) (commit_of logs n) None
 
-cases-here : (ts : List Tablet) (commits : Commits) → AreCommits commits (all_records (accepted_tablets_after [] ts)) → (n : ℕ) → case_at (of_tablets ts) n ≡ cases_of (of_tablets ts) commits (accepted_tablets_after [] ts) n
+cases-here : (ts : List Tablet) (commits : List Commit) → AreCommits commits (all_records (accepted_tablets_after [] ts)) → (n : ℕ) → case_at (of_tablets ts) n ≡ cases_of (of_tablets ts) commits (accepted_tablets_after [] ts) n
 unfolding disagreement_on
 cases-here ts commits h n = go (commit_of (of_tablets ts) n) (h.times n ∙ commit-here ts n)
   where
@@ -172,7 +172,7 @@ cases-here ts commits h n = go (commit_of (of_tablets ts) n) (h.times n ∙ comm
     go None e = rw e refl
     go (Some c) e = rw e (ap (first_some (λ (b : AcceptedTablet). option_map (case_of n b.header.id) (kind_at (of_tablets ts) n c b))) (accepted-of ts))
 
-pub agrees-here : (ts : List Tablet) (commits : Commits) → AreCommits commits (all_records (accepted_tablets_after [] ts)) → IsFirst None (cases_of (of_tablets ts) commits (accepted_tablets_after [] ts)) → disagreement (of_tablets ts) ≡ None
+pub agrees-here : (ts : List Tablet) (commits : List Commit) → AreCommits commits (all_records (accepted_tablets_after [] ts)) → IsFirst None (cases_of (of_tablets ts) commits (accepted_tablets_after [] ts)) → disagreement (of_tablets ts) ≡ None
 unfolding disagreement
 agrees-here ts commits h f = none-first (case_at (of_tablets ts)) (applied (of_tablets ts)) (λ n. cases-here ts commits h n ∙ f n)
 
@@ -183,7 +183,7 @@ has-case logs n y e = go (commit_of logs n) refl e
     go None f e = cc
     go (Some c) f e = commit-applied logs n c f
 
-pub disagrees-here : (ts : List Tablet) (commits : Commits) (d : Case) → AreCommits commits (all_records (accepted_tablets_after [] ts)) → IsFirst (Some d) (cases_of (of_tablets ts) commits (accepted_tablets_after [] ts))
+pub disagrees-here : (ts : List Tablet) (commits : List Commit) (d : Case) → AreCommits commits (all_records (accepted_tablets_after [] ts)) → IsFirst (Some d) (cases_of (of_tablets ts) commits (accepted_tablets_after [] ts))
     → disagreement (of_tablets ts) ≡ Some (case_of d.txn d.tablet d.kind)
 unfolding disagreement
 disagrees-here ts commits d h f =
@@ -193,7 +193,7 @@ disagrees-here ts commits d h f =
 
 -- ---- the whole audit
 
-pub fails : (ts : List Tablet) (logs : Logs) (commits : Commits) (first : Option Case) (d : Case) → ts ≡ logs.tablets → AreCommits commits (all_records (accepted_tablets_after [] ts))
+pub fails : (ts : List Tablet) (logs : Logs) (commits : List Commit) (first : Option Case) (d : Case) → ts ≡ logs.tablets → AreCommits commits (all_records (accepted_tablets_after [] ts))
     → IsFirst first (cases_of (of_tablets ts) commits (accepted_tablets_after [] ts)) → first ≡ Some d → disagreement logs ≡ Some (case_of d.txn d.tablet d.kind)
 fails ts logs commits first d same h f is =
     subst (λ l. disagreement l ≡ Some (case_of d.txn d.tablet d.kind)) (ap of_tablets same) (disagrees-here ts commits d h (subst (λ o. IsFirst o (cases_of (of_tablets ts) commits (accepted_tablets_after [] ts))) is f))

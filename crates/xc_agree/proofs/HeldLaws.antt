@@ -3,11 +3,20 @@ use Rattle.std.proofs.Common.{◌≡◌, ℕ, zero, suc, ◌+◌, ◌-◌, ◌<�
 use Rattle.std.proofs.lemmas.Bool.Decides.{nat_tests}
 use Rattle.std.proofs.lemmas.Bool.{eqb-true}
 use Rattle.std.proofs.lemmas.List.{take_more}
-use Rattle.std.proofs.lemmas.List.Folds.{list_any-append}
-use Rattle.std.specs.Prelude.{Option, Some, None, ◌&&◌, ◌==◌, nat_le}
+use Rattle.std.proofs.lemmas.List.Folds.{list_any-append, list_any_more, list_all-append}
+use Rattle.std.specs.Prelude.{Option, Some, None, ◌&&◌, ◌==◌, nat_le, option_and_then}
+use Rattle.std.specs.List.{list_all}
 use Rattle.xc_record.specs.declared.record.Record.{Record}
+use Rattle.xc_record.specs.declared.record.Header.{Header}
+use Rattle.xc_record.specs.Hash.{hash_of, holds}
+use Rattle.xc_record.specs.declared.record.Op.{Op}
+use Rattle.xc_agree.specs.declared.commits.Commit.{Commit}
 use Rattle.xc_agree.specs.declared.held.Held.{Held}
-use Rattle.xc_agree.specs.Held.{is_held, intends_kind, intends, intends_since, is_since}
+use Rattle.xc_agree.specs.declared.look.Look.{Look}
+use Rattle.xc_agree.specs.Slots.{slot_of}
+use Rattle.xc_agree.specs.Seen.{since_at, since_in, is_in_slot}
+use Rattle.xc_agree.specs.Held.{is_held, writes_at, intends_kind, intends, intends_since, is_start, is_since, InSlots, StaysHeld}
+use Rattle.xc_agree.proofs.SlotLaws.{in-slot, slot-at-item}
 
 or-false : (b : Bool) → (b || false) ≡ b
 or-false true = refl
@@ -74,8 +83,40 @@ or-assoc : (a b c : Bool) → ((a || b) || c) ≡ (a || (b || c))
 or-assoc true b c = refl
 or-assoc false b c = refl
 
+pub hold-none : (n h : ℕ) (since : Option ℕ) (base : Bool) → base ≡ (base || intends_since n h since [])
+hold-none n h None base = sym (or-false base)
+hold-none n h (Some place) base = sym (ap (λ rs. base || intends n h rs) (drop-past (place - 1) [] (omega arith)) ∙ or-false base)
+
 pub hold-more : (n h : ℕ) (since : Option ℕ) (rs : List Record) (i : ℕ) (r : Record) (old new base : Bool) → i < length rs → r ≡ get_or rs i r
     → old ≡ (base || intends_since n h since (take i rs)) → new ≡ (old || (is_since (i + 1) since && intends_kind n h r.kind)) → new ≡ (base || intends_since n h since (take (i + 1) rs))
 hold-more n h since rs i r old new base below is was step =
     step ∙ ap (λ b. b || (is_since (i + 1) since && intends_kind n h r.kind)) was ∙ or-assoc base (intends_since n h since (take i rs)) (is_since (i + 1) since && intends_kind n h r.kind)
     ∙ ap (λ b. base || b) (sym (since-more n h since rs i r below is))
+
+-- the same of what stays, by the slots of the transactions
+pub still-more : (commits : List Commit) (look : Look) (header : Header) (held old new : List Held) (i : ℕ) (d : Held) → InSlots commits held → i < length held → StaysHeld old commits look header (take i held)
+    → ((n h : ℕ) → is_held new n h ≡ (is_held old n h || ((holds header (get_or held i d).hash && is_start (since_at look (get_or held i d).slot)) && ((get_or held i d).txn == n && (get_or held i d).hash == h))))
+    → (is_in_slot commits (get_or held i d).txn (get_or held i d).slot ≡ true → InSlots commits old → InSlots commits new) → StaysHeld new commits look header (take (i + 1) held)
+still-more commits look header held old new i d slots below was step more =
+    let x : Held = get_or held i d in
+    let at : slot_of commits x.txn ≡ Some x.slot = slot-at-item (λ (x : Held). x.txn) (λ x. x.slot) commits held i d slots below in
+    let since : since_in commits look x.txn ≡ since_at look x.slot = ap (option_and_then (since_at look)) at in
+    record {
+      waits = keep-more (λ n h. holds header h && is_start (since_in commits look n)) (is_held old) (is_held new) held i x d below refl was.waits
+          (λ n h. step n h ∙ ap (λ o. is_held old n h || ((holds header x.hash && is_start o) && (x.txn == n && x.hash == h))) (sym since));
+      slots = more (in-slot commits x.txn x.slot at) was.slots;
+    }
+
+-- one more in its slot
+pub slots-more : (commits : List Commit) (held new : List Held) (x : Held) → new ≡ held ++ x ∷ [] → is_in_slot commits x.txn x.slot ≡ true → InSlots commits held → InSlots commits new
+slots-more commits held new x is at h = ap (list_all (λ x. is_in_slot commits x.txn x.slot)) is ∙ list_all-append (λ x. is_in_slot commits x.txn x.slot) held (x ∷ []) ∙ rw (h, at) refl
+
+-- one operation more
+pub ops-more : (held old new : List Held) (x : Held) (ops : List Op) (i : ℕ) (op : Op) → i < length ops → op ≡ get_or ops i op → x.hash ≡ hash_of op.key → new ≡ old ++ x ∷ []
+    → ((n h : ℕ) → is_held old n h ≡ (is_held held n h || (x.txn == n && writes_at h (take i ops)))) → (n h : ℕ) → is_held new n h ≡ (is_held held n h || (x.txn == n && writes_at h (take (i + 1) ops)))
+ops-more held old new x ops i op below is hash snoc was n h =
+    let writes : writes_at h (take (i + 1) ops) ≡ (writes_at h (take i ops) || x.hash == h) = list_any_more (λ op. hash_of op.key == h) ops i op below ∙ ap (λ op. writes_at h (take i ops) || hash_of op.key == h) (sym is) ∙ ap (λ k. writes_at h (take i ops) || k == h) (sym hash) in
+    ap (λ xs. is_held xs n h) snoc ∙ list_any-append (λ y. y.txn == n && y.hash == h) old (x ∷ []) ∙ rw (was n h, writes) (both (is_held held n h) (x.txn == n) (writes_at h (take i ops)) (x.hash == h))
+  where
+    both : (a t w q : Bool) → ((a || (t && w)) || ((t && q) || false)) ≡ (a || (t && (w || q)))
+    both a t w q = grind arith

@@ -1,7 +1,10 @@
 pub mod Steps
 pub mod RunLaws
+pub mod CommitLaws
 pub mod TallyLaws
+pub mod SlotLaws
 pub mod LookLaws
+pub mod BeginLaws
 pub mod HeldLaws
 pub mod WaitLaws
 pub mod TreeLaws

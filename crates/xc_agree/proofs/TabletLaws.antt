@@ -19,7 +19,7 @@ use Rattle.xc_agree.specs.declared.run.Run.{Run}
 use Rattle.xc_agree.specs.declared.held.Held.{Held}
 use Rattle.xc_agree.specs.declared.cases.Case.{Case}
 use Rattle.xc_agree.specs.declared.look.Found.{Found}
-use Rattle.xc_agree.specs.declared.commits.Commits.{Commits}
+use Rattle.xc_agree.specs.declared.commits.Commit.{Commit}
 use Rattle.xc_agree.specs.Runs.{IsRun}
 use Rattle.xc_agree.specs.Tally.{time_of, AreCommits}
 use Rattle.xc_agree.specs.Seen.{unseen, see, waits_from, kind_at_end, IsLeast, IsEnd}
@@ -101,7 +101,7 @@ none-past (x ∷ xs) [] i e f = absurd (omega arith)
 none-past (x ∷ xs) (y ∷ ys) zero e f = cc
 none-past (x ∷ xs) (y ∷ ys) (suc i) e f = none-past xs ys i (omega arith) f
 
-holds-commits : (lefts : List (Vec Held Global)) (commits : Commits) (bs : List AcceptedTablet) (parent : Option ℕ) → AreLeft lefts commits bs → HoldsCommits (held_from lefts parent) commits
+holds-commits : (lefts : List (Vec Held Global)) (commits : List Commit) (bs : List AcceptedTablet) (parent : Option ℕ) → AreLeft lefts commits bs → HoldsCommits (held_from lefts parent) commits
 holds-commits lefts commits bs None a n e h = refl
 holds-commits lefts commits bs (Some p) a n e h = go (slice_get bs p) refl
   where
@@ -110,7 +110,7 @@ holds-commits lefts commits bs (Some p) a n e h = go (slice_get bs p) refl
     go (Some b) f = a.each p b f n h ∙ rw e refl
 
 -- what is held at a hash of a tablet's range is what waits there after the path above it
-start-here : (lefts : List (Vec Held Global)) (commits : Commits) (bs : List AcceptedTablet) (b : AcceptedTablet) (rest : List AcceptedTablet) → AreLeft lefts commits bs → IsTree (bs ++ b ∷ rest) → (n c h : ℕ) → time_of commits n ≡ Some c
+start-here : (lefts : List (Vec Held Global)) (commits : List Commit) (bs : List AcceptedTablet) (b : AcceptedTablet) (rest : List AcceptedTablet) → AreLeft lefts commits bs → IsTree (bs ++ b ∷ rest) → (n c h : ℕ) → time_of commits n ≡ Some c
     → holds b.header h ≡ true → (parent : Option ℕ) → b.header.parent ≡ parent → is_held (held_from lefts parent) n h ≡ waits_by n (writes_at h) false (line_above bs h)
 start-here lefts commits bs b rest a tree n c h e s None p = sym (ap (λ xs. waits_by n (writes_at h) false (flat_map (λ b. b.records) xs)) (above_root h bs b rest tree s p))
 start-here lefts commits bs b rest a tree n c h e s (Some q) p = go (above_child h q bs b rest tree s p)
@@ -165,7 +165,7 @@ line-snoc (x ∷ bs) b h = elim (holds x.header h) as (λ c. flat_map (λ b. b.r
 ]
 
 -- what the next tablet left
-left-next : (lefts : List (Vec Held Global)) (left : Vec Held Global) (commits : Commits) (bs : List AcceptedTablet) (b : AcceptedTablet) (rest : List AcceptedTablet) → AreLeft lefts commits bs → IsTree (bs ++ b ∷ rest) → Each (OwnIn b.header) b.records
+left-next : (lefts : List (Vec Held Global)) (left : Vec Held Global) (commits : List Commit) (bs : List AcceptedTablet) (b : AcceptedTablet) (rest : List AcceptedTablet) → AreLeft lefts commits bs → IsTree (bs ++ b ∷ rest) → Each (OwnIn b.header) b.records
     → IsLeft left.items commits b.header (held_from lefts b.header.parent) b.records → (n h : ℕ)
     → is_held left.items n h ≡ (is_some (time_of commits n) && (holds b.header h && waits_by n (writes_at h) false (line_above (bs ++ b ∷ []) h)))
 left-next lefts left commits bs b rest a tree own l n h = l n h ∙ go (time_of commits n) refl (holds b.header h) refl
@@ -206,7 +206,7 @@ place_of (suc i) (suc k) = later (place_of i k)
     later (Same h) = Same (omega arith)
     later (High h) = High (omega arith)
 
-lefts-more : (lefts : List (Vec Held Global)) (left : Vec Held Global) (commits : Commits) (bs : List AcceptedTablet) (b : AcceptedTablet) → AreLeft lefts commits bs
+lefts-more : (lefts : List (Vec Held Global)) (left : Vec Held Global) (commits : List Commit) (bs : List AcceptedTablet) (b : AcceptedTablet) → AreLeft lefts commits bs
     → ((n h : ℕ) → is_held left.items n h ≡ (is_some (time_of commits n) && (holds b.header h && waits_by n (writes_at h) false (line_above (bs ++ b ∷ []) h)))) → AreLeft (lefts ++ left ∷ []) commits (bs ++ b ∷ [])
 lefts-more lefts left commits bs b a l = record {
   count = length-append lefts (left ∷ []) ∙ ap (λ k. k + 1) a.count ∙ sym (length-append bs (b ∷ []));
@@ -232,7 +232,7 @@ lefts-more lefts left commits bs b a l = record {
         none e = cc
 
 -- the cases with those of the next tablet
-cases-next : (ts : List Tablet) (commits : Commits) (bs : List AcceptedTablet) (b : AcceptedTablet) (rest : List AcceptedTablet) (lefts : List (Vec Held Global)) → accepted_tablets (of_tablets ts) ≡ bs ++ b ∷ rest → IsTree (bs ++ b ∷ rest)
+cases-next : (ts : List Tablet) (commits : List Commit) (bs : List AcceptedTablet) (b : AcceptedTablet) (rest : List AcceptedTablet) (lefts : List (Vec Held Global)) → accepted_tablets (of_tablets ts) ≡ bs ++ b ∷ rest → IsTree (bs ++ b ∷ rest)
     → AreLeft lefts commits bs → Each (OwnIn b.header) b.records → accepted_from b.start b.records ≡ b.records → (n : ℕ)
     → cases_of (of_tablets ts) commits (bs ++ b ∷ []) n ≡ with_cases b.header.id (λ n. option_and_then (λ c. kind_at_end c (seen_at_end b.header (held_from lefts b.header.parent) b.records n c)) (time_of commits n)) (cases_of (of_tablets ts) commits bs) n
 cases-next ts commits bs b rest lefts all tree a own order n = go (time_of commits n) refl
@@ -252,7 +252,7 @@ unfolding accepted_tablets
 tree-of ts s = refl
 
 -- one tablet more
-pub tablet-more : (ts : List Tablet) (i : ℕ) (t : Tablet) (run : Run) (commits : Commits) (lefts after : List (Vec Held Global)) (left : Vec Held Global) (found : Option Found) (first next : Option Case)
+pub tablet-more : (ts : List Tablet) (i : ℕ) (t : Tablet) (run : Run) (commits : List Commit) (lefts after : List (Vec Held Global)) (left : Vec Held Global) (found : Option Found) (first next : Option Case)
     → IsSound ts → i < length ts → t ≡ get_or ts i t → IsRun run (accepted_tablet_after (accepted_tablets_after [] (take i ts)) t) t → AreLeft lefts commits (accepted_tablets_after [] (take i ts))
     → IsFirst first (cases_of (of_tablets ts) commits (accepted_tablets_after [] (take i ts)))
     → (HoldsCommits (held_from lefts t.header.parent) commits → IsEnd found commits (seen_at_end t.header (held_from lefts t.header.parent) (take run.walk.accepted t.records)))
@@ -279,7 +279,7 @@ tablet-more ts i t run commits lefts after left found first next s below is r a 
     (subst (λ xs. AreLeft after commits xs) (sym one) (subst (λ xs. AreLeft xs commits (bs ++ b ∷ [])) (sym more_left) lefts_now), subst (λ xs. IsFirst next (cases_of (of_tablets ts) commits xs)) (sym one) first_now)
 
 -- the same, where what the tablets before left is seen as a slice
-pub tablet-next : (ts : List Tablet) (i : ℕ) (t : Tablet) (run : Run) (commits : Commits) (lefts now after : List (Vec Held Global)) (left : Vec Held Global) (found : Option Found) (first next : Option Case)
+pub tablet-next : (ts : List Tablet) (i : ℕ) (t : Tablet) (run : Run) (commits : List Commit) (lefts now after : List (Vec Held Global)) (left : Vec Held Global) (found : Option Found) (first next : Option Case)
     → now ≡ lefts → IsSound ts → i < length ts → t ≡ get_or ts i t → IsRun run (accepted_tablet_after (accepted_tablets_after [] (take i ts)) t) t → AreLeft lefts commits (accepted_tablets_after [] (take i ts))
     → IsFirst first (cases_of (of_tablets ts) commits (accepted_tablets_after [] (take i ts)))
     → (HoldsCommits (held_from now t.header.parent) commits → IsEnd found commits (seen_at_end t.header (held_from now t.header.parent) (take run.walk.accepted t.records)))

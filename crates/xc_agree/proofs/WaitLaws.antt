@@ -14,10 +14,10 @@ use Rattle.xc_record.specs.Hash.{holds}
 use Rattle.xc_record.specs.Lists.{or_else}
 use Rattle.xc_agree.specs.declared.held.Held.{Held}
 use Rattle.xc_agree.specs.declared.look.Look.{Look}
-use Rattle.xc_agree.specs.declared.commits.Commits.{Commits}
-use Rattle.xc_agree.specs.Tally.{time_of}
+use Rattle.xc_agree.specs.declared.commits.Commit.{Commit}
+use Rattle.xc_agree.specs.Slots.{time_of}
 use Rattle.xc_agree.specs.Seen.{Seen, see, see_kind, settles, passes, unseen, waits_from, since_in, IsLook}
-use Rattle.xc_agree.specs.Held.{is_held, writes_at, intends, intends_since, is_start, wait_kind, waits_by, IsLeft, HoldsCommits, seen_at_end}
+use Rattle.xc_agree.specs.Held.{is_held, writes_at, intends, intends_since, is_start, wait_kind, waits_by, IsLeft, seen_at_end}
 use Rattle.xc_agree.proofs.HeldLaws.{since-snoc, drop-past}
 
 pub waits-append : (n : ℕ) (p : List Op → Bool) (w : Bool) (xs ys : List Record) → waits_by n p w (xs ++ ys) ≡ waits_by n p (waits_by n p w xs) ys
@@ -115,29 +115,9 @@ held-waits n h header (x ∷ held) e = go (held-waits n h header held) (x.txn ==
     go ih true false f e = grind (arith, ih e)
     go ih false q f e = ih e
 
-none-held : (n : ℕ) (header : Header) (held : List Held) → ((h : ℕ) → is_held held n h ≡ false) → waits_from header held n ≡ false
-none-held n header [] k = refl
-none-held n header (x ∷ held) k = go (none-held n header held) (x.txn == n) refl
-  where
-    rest : (h : ℕ) → is_held held n h ≡ false
-    rest h = grind (arith, k h)
-
-    here : (x.txn == n && x.hash == x.hash) ≡ false
-    here = grind (arith, k x.hash)
-
-    go : (((h : ℕ) → is_held held n h ≡ false) → waits_from header held n ≡ false) → (p : Bool) → x.txn == n ≡ p → ((p && holds header x.hash) || waits_from header held n) ≡ false
-    go ih true f = absurd (no (sym (eq-eqb x.hash x.hash refl) ∙ subst (λ b. (b && x.hash == x.hash) ≡ false) f here))
-      where
-        no : true ≡ false → ⊥
-        no e = cc
-    go ih false f = ih rest
-
-pub waits-committed : (header : Header) (held : List Held) (commits : Commits) → HoldsCommits held commits → (n : ℕ) → time_of commits n ≡ None → waits_from header held n ≡ false
-waits-committed header held commits k n e = none-held n header held (k n e)
-
 -- what a tablet holds at its end
-pub left-at-end : (look : Look) (commits : Commits) (header : Header) (held left : List Held) (rs : List Record) → IsLook look commits (seen_at_end header held rs)
-    → ((n h : ℕ) → is_held left n h ≡ ((is_held held n h && (holds header h && is_start (since_in look n))) || intends_since n h (since_in look n) rs)) → IsLeft left commits header held rs
+pub left-at-end : (look : Look) (commits : List Commit) (header : Header) (held left : List Held) (rs : List Record) → IsLook look commits (seen_at_end header held rs)
+    → ((n h : ℕ) → is_held left n h ≡ ((is_held held n h && (holds header h && is_start (since_in commits look n))) || intends_since n h (since_in commits look n) rs)) → IsLeft left commits header held rs
 left-at-end look commits header held left rs k is n h = is n h ∙ go (time_of commits n) refl
   where
     and-false : (a b : Bool) → ((a && (b && false)) || false) ≡ false
@@ -146,13 +126,13 @@ left-at-end look commits header held left rs k is n h = is n h ∙ go (time_of c
     and-assoc : (a b c : Bool) → (a && (b && c)) ≡ ((a && b) && c)
     and-assoc a b c = grind arith
 
-    go : (o : Option ℕ) → time_of commits n ≡ o → ((is_held held n h && (holds header h && is_start (since_in look n))) || intends_since n h (since_in look n) rs)
+    go : (o : Option ℕ) → time_of commits n ≡ o → ((is_held held n h && (holds header h && is_start (since_in commits look n))) || intends_since n h (since_in commits look n) rs)
         ≡ (is_some o && waits_by n (writes_at h) (is_held held n h && holds header h) rs)
     go None e =
-        let since : since_in look n ≡ None = k.since n ∙ ap (option_and_then (λ c. (seen_at_end header held rs n c).since)) e in
+        let since : since_in commits look n ≡ None = k.since n ∙ ap (option_and_then (λ c. (seen_at_end header held rs n c).since)) e in
         rw since (and-false (is_held held n h) (holds header h))
     go (Some c) e =
-        let since : since_in look n ≡ (seen_at_end header held rs n c).since = k.since n ∙ ap (option_and_then (λ c. (seen_at_end header held rs n c).since)) e in
+        let since : since_in commits look n ≡ (seen_at_end header held rs n c).since = k.since n ∙ ap (option_and_then (λ c. (seen_at_end header held rs n c).since)) e in
         let still : Still n h (is_held held n h && holds header h) (seen_at_end header held rs n c) rs =
         still-all n c h (is_held held n h && holds header h) (unseen (waits_from header held n)) [] rs (still-begin n h (is_held held n h && holds header h) (waits_from header held n) (held-waits n h header held)) in
         rw since (ap (λ b. b || intends_since n h (seen_at_end header held rs n c).since rs) (and-assoc (is_held held n h) (holds header h) (is_start (seen_at_end header held rs n c).since)) ∙ sym still.waits)

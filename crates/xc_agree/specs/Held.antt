@@ -5,7 +5,7 @@
 --     intends_since n h since rs      the same from the place on
 --     waits_by n p w rs      whether n waits after the records rs, by an operation that the test p passes, where w says whether it did before
 use Rattle.std.specs.Prelude.{◌≡◌, ℕ, ◌-◌, Bool, true, false, List, [], ◌∷◌, Option, None, if◌then◌else◌, is_some, fold, ◌&&◌, ◌==◌, drop, nat_le}
-use Rattle.std.specs.List.{list_any}
+use Rattle.std.specs.List.{list_any, list_all}
 use Rattle.std.specs.Option.{option_map_or}
 use Rattle.xc_record.specs.declared.record.Kind.{Kind}
 use Rattle.xc_record.specs.declared.record.Kind.TheVariants.{Write, Intent, Apply, Abort, Safe, Split}
@@ -13,10 +13,11 @@ use Rattle.xc_record.specs.declared.record.Op.{Op}
 use Rattle.xc_record.specs.declared.record.Record.{Record}
 use Rattle.xc_record.specs.declared.record.Header.{Header}
 use Rattle.xc_record.specs.Hash.{hash_of, holds}
-use Rattle.xc_agree.specs.declared.commits.Commits.{Commits}
-use Rattle.xc_agree.specs.Tally.{time_of}
-use Rattle.xc_agree.specs.Seen.{Seen, see, unseen, waits_from}
+use Rattle.xc_agree.specs.declared.commits.Commit.{Commit}
+use Rattle.xc_agree.specs.Slots.{time_of}
+use Rattle.xc_agree.specs.Seen.{Seen, see, unseen, waits_from, is_in_slot, since_in}
 use Rattle.xc_agree.specs.declared.held.Held.{Held}
+use Rattle.xc_agree.specs.declared.look.Look.{Look}
 
 abbrev pub is_held : List Held → ℕ → ℕ → Bool
 is_held held n h = list_any (λ x. x.txn == n && x.hash == h) held
@@ -55,13 +56,18 @@ waits_by n p w [] = w
 waits_by n p w (r ∷ rs) = waits_by n p (wait_kind n p w r.kind) rs
 
 -- what a tablet with these records holds at its end, where its parent held `held`
-abbrev pub IsLeft : List Held → Commits → Header → List Held → List Record → Type 0
+abbrev pub IsLeft : List Held → List Commit → Header → List Held → List Record → Type 0
 IsLeft more commits header held rs = (n h : ℕ) → is_held more n h ≡ (is_some (time_of commits n) && waits_by n (writes_at h) (is_held held n h && holds header h) rs)
 
--- only what commits is held
-abbrev pub HoldsCommits : List Held → Commits → Type 0
-HoldsCommits held commits = (n : ℕ) → time_of commits n ≡ None → (h : ℕ) → is_held held n h ≡ false
+-- what is held commits, and is in its slot
+abbrev pub InSlots : List Commit → List Held → Type 0
+InSlots commits held = list_all (λ x. is_in_slot commits x.txn x.slot) held ≡ true
 
 -- what is seen of the transaction at a tablet's end
 abbrev pub seen_at_end : Header → List Held → List Record → ℕ → ℕ → Seen
 seen_at_end header held rs n c = fold (see n c) (unseen (waits_from header held n)) rs
+
+-- the held that are in the header's range and wait from before the first record, in their slots
+pub record StaysHeld (still : List Held) (commits : List Commit) (look : Look) (header : Header) (held : List Held) : Type 0 where
+  pub waits : (n h : ℕ) → is_held still n h ≡ (is_held held n h && (holds header h && is_start (since_in commits look n)))
+  pub slots : InSlots commits still

@@ -4,8 +4,8 @@
 --     see n commit s r      the same after the record r, for the transaction n, which commits at `commit`
 --     kind_seen s      the first kind of the cases that stand
 --     IsLeast found kinds      found has the least transaction with a kind, and that kind
-use Rattle.std.specs.Prelude.{◌≡◌, ℕ, ◌+◌, ◌<◌, Bool, true, false, List, [], ◌∷◌, Option, Some, None, ◌&&◌, ◌||◌, ◌==◌, not, nat_le, nat_lt, if◌then◌else◌, MatchOption, option_and_then, is_some}
-use Rattle.std.specs.List.{list_any}
+use Rattle.std.specs.Prelude.{◌≡◌, ℕ, ◌+◌, ◌<◌, Bool, true, false, List, [], ◌∷◌, Option, Some, None, ◌&&◌, ◌||◌, ◌==◌, not, nat_le, nat_lt, if◌then◌else◌, MatchOption, option_and_then, is_some, slice_get, length, map}
+use Rattle.std.specs.List.{list_any, list_all}
 use Rattle.std.specs.Option.{option_map_or}
 use Rattle.xc_record.specs.declared.record.AgreeKind.{AgreeKind}
 use Rattle.xc_record.specs.declared.record.AgreeKind.TheVariants.{CommitDiffers, LateIntent, Aborted, Straggler}
@@ -17,12 +17,11 @@ use Rattle.xc_record.specs.Hash.{holds}
 use Rattle.xc_record.specs.Agreement.{first_kind}
 use Rattle.xc_agree.specs.declared.held.Held.{Held}
 use Rattle.xc_record.specs.Lists.{or_else}
-use Rattle.std.specs.Ordering.{nat_cmp}
-use Rattle.std.specs.BTreeMap.{get}
 use Rattle.xc_agree.specs.declared.look.Found.{Found}
 use Rattle.xc_agree.specs.declared.look.Look.{Look}
-use Rattle.xc_agree.specs.declared.commits.Commits.{Commits}
-use Rattle.xc_agree.specs.Tally.{time_of}
+use Rattle.xc_agree.specs.declared.look.Waiter.{Waiter}
+use Rattle.xc_agree.specs.declared.commits.Commit.{Commit}
+use Rattle.xc_agree.specs.Slots.{time_of, slot_of}
 
 pub record Seen : Type 0 where
   pub place : ℕ
@@ -94,33 +93,65 @@ with_kind txn kind kinds n = if n == txn then Some (earlier kind (kinds n)) else
 abbrev pub IsLeastWith : Option Found → Bool → ℕ → AgreeKind → Option Found → Type 0
 IsLeastWith found stands txn kind more = (kinds : ℕ → Option AgreeKind) → IsLeast found kinds → IsLeast more (λ n. if stands then with_kind txn kind kinds n else kinds n)
 
--- where the transaction began to wait
-abbrev pub since_in : Look → ℕ → Option ℕ
-since_in look n = get nat_cmp look.waiting n
+-- where the transaction in the slot began to wait
+abbrev pub waits_at : List (Option ℕ) → ℕ → Option ℕ
+waits_at waiting slot = option_and_then (λ since. since) (slice_get waiting slot)
 
-abbrev pub pends_in : ℕ → Look → ℕ → Bool
-pends_in commit look n = option_map_or (λ since. nat_lt since look.safe && nat_le commit look.floor) (since_in look n) false
+abbrev pub since_at : Look → ℕ → Option ℕ
+since_at look slot = waits_at look.waiting.items slot
+
+abbrev pub is_slot_of : ℕ → List Waiter → Bool
+is_slot_of i ws = list_any (λ w. w.slot == i) ws
+
+-- where the transaction began to wait
+abbrev pub since_in : List Commit → Look → ℕ → Option ℕ
+since_in commits look n = option_and_then (since_at look) (slot_of commits n)
+
+abbrev pub pended : ℕ → Look → Option ℕ → Bool
+pended commit look since = option_map_or (λ since. nat_lt since look.safe && nat_le commit look.floor) since false
+
+abbrev pub pends_at : ℕ → Look → ℕ → Bool
+pends_at commit look slot = pended commit look (since_at look slot)
+
+abbrev pub pends_in : List Commit → ℕ → Look → ℕ → Bool
+pends_in commits commit look n = pended commit look (since_in commits look n)
+
+-- the transaction is in the slot
+abbrev pub is_in_slot : List Commit → ℕ → ℕ → Bool
+is_in_slot commits txn slot = option_map_or (λ i. i == slot) (slot_of commits txn) false
+
+abbrev pub AreInSlots : List Commit → List Waiter → Type 0
+AreInSlots commits ws = list_all (λ w. is_in_slot commits w.txn w.slot) ws ≡ true
 
 pub record KeepsPlace (old new : Look) : Type 0 where
   pub place : new.place ≡ old.place
   pub safe : new.safe ≡ old.safe
   pub floor : new.floor ≡ old.floor
+  pub slots : length new.waiting.items ≡ length old.waiting.items
 
--- each waiting transaction is among those that began to
+-- what waits in a slot is among what began to
 abbrev pub Began : Look → Type 0
-Began look = (n : ℕ) → is_some (since_in look n) ≡ true → list_any (λ m. m == n) look.began.items ≡ true
+Began look = (i : ℕ) → is_some (since_at look i) ≡ true → is_slot_of i look.began.items ≡ true
+
+-- nothing waits, in as many slots as there are commits
+pub record IsIdle (look : Look) (commits : List Commit) : Type 0 where
+  pub slots : length look.waiting.items ≡ length commits
+  pub idle : (i : ℕ) → since_at look i ≡ None
+  pub began : look.began.items ≡ []
 
 -- the look has, of each transaction that commits, what is seen of it
-pub record IsLook (look : Look) (commits : Commits) (seen : ℕ → ℕ → Seen) : Type 0 where
+pub record IsLook (look : Look) (commits : List Commit) (seen : ℕ → ℕ → Seen) : Type 0 where
   pub place : (n c : ℕ) → (seen n c).place ≡ look.place
   pub safe : (n c : ℕ) → (seen n c).safe ≡ look.safe
   pub floor : (n c : ℕ) → (seen n c).floor ≡ look.floor
-  pub since : (n : ℕ) → since_in look n ≡ option_and_then (λ c. (seen n c).since) (time_of commits n)
+  pub since : (n : ℕ) → since_in commits look n ≡ option_and_then (λ c. (seen n c).since) (time_of commits n)
   pub found : IsLeast look.found (λ n. option_and_then (λ c. kind_seen (seen n c)) (time_of commits n))
+  pub slots : length look.waiting.items ≡ length commits
   pub began : Began look
+  pub waiters : AreInSlots commits look.began.items
 
 -- the look after a record of this time and kind
-abbrev pub Takes : Look → Look → Commits → ℕ → Kind → Type 0
+abbrev pub Takes : Look → Look → List Commit → ℕ → Kind → Type 0
 Takes old new commits time kind = (seen : ℕ → ℕ → Seen) → IsLook old commits seen → IsLook new commits (λ n c. see_kind n c (seen n c) time kind)
 
 -- the transaction waits by what was held, at a hash of the range
@@ -128,7 +159,7 @@ abbrev pub waits_from : Header → List Held → ℕ → Bool
 waits_from header held n = list_any (λ x. x.txn == n && holds header x.hash) held
 
 -- at a tablet's end
-abbrev pub IsEnd : Option Found → Commits → (ℕ → ℕ → Seen) → Type 0
+abbrev pub IsEnd : Option Found → List Commit → (ℕ → ℕ → Seen) → Type 0
 IsEnd found commits seen = IsLeast found (λ n. option_and_then (λ c. kind_at_end c (seen n c)) (time_of commits n))
 
 -- as at a tablet's end, where the transaction was tried there

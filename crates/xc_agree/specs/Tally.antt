@@ -1,18 +1,13 @@
--- The commits of some records.
---     time_of commits n      the commit of the transaction n
+-- What commits by some records.
 --     tally rs      how many writes and transactions commit by the records rs
---     AreCommits commits rs      commits has the commits of the records rs
+--     IsTally t rs      t has the commits of the records rs, and counts what commits
 use Rattle.std.specs.Prelude.{◌≡◌, ℕ, ◌+◌, List, Option, length}
 use Rattle.std.specs.List.{filter_map}
-use Rattle.std.specs.Ordering.{nat_cmp}
-use Rattle.std.specs.BTreeMap.{get}
 use Rattle.xc_record.specs.declared.record.Record.{Record}
 use Rattle.xc_record.specs.Lists.{first_some}
 use Rattle.xc_record.specs.Commits.{applies, applied_txn, distinct, write_ops}
-use Rattle.xc_agree.specs.declared.commits.Commits.{Commits}
-
-abbrev pub time_of : Commits → ℕ → Option ℕ
-time_of commits n = get nat_cmp commits.times n
+use Rattle.xc_agree.specs.declared.tally.Tally.{Tally}
+use Rattle.xc_agree.specs.Slots.{time_of}
 
 abbrev pub first_commit : ℕ → List Record → Option ℕ
 first_commit n rs = first_some (λ r. applies n r.kind) rs
@@ -26,6 +21,6 @@ applied_in rs = filter_map (λ r. applied_txn r.kind) rs
 abbrev pub tally : List Record → ℕ
 tally rs = writes rs + length (distinct (applied_in rs))
 
-pub record AreCommits (commits : Commits) (rs : List Record) : Type 0 where
-  pub times : (n : ℕ) → time_of commits n ≡ first_commit n rs
-  pub count : commits.count ≡ tally rs
+pub record IsTally (t : Tally) (rs : List Record) : Type 0 where
+  pub times : (n : ℕ) → time_of t.commits n ≡ first_commit n rs
+  pub count : t.count ≡ tally rs

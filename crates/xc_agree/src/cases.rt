@@ -1,15 +1,15 @@
 // The first case of disagreement, tablet by tablet.
-ghost use Rattle.std.specs.Prelude.{◌≡◌, ◌<◌, ◌≤◌, ◌^◌, ℕ, Option, IfOk, length, take};
+ghost use Rattle.std.specs.Prelude.{◌≡◌, ◌<◌, ◌≤◌, ◌^◌, ℕ, Option, IfOk, OnOk, length, take, true};
 ghost use Rattle.xc_record.specs.declared.record.AgreeKind.{AgreeKind};
 ghost use Rattle.xc_record.specs.Agreement.{Disagreement};
-ghost use Rattle.xc_agree.specs.Seen.{IsLeast, IsEnd};
-ghost use Rattle.xc_agree.specs.Held.{IsLeft, HoldsCommits, seen_at_end};
+ghost use Rattle.xc_agree.specs.Seen.{IsLeast, IsEnd, IsIdle};
+ghost use Rattle.xc_agree.specs.Held.{IsLeft, InSlots, seen_at_end};
 ghost use Rattle.xc_agree.specs.Cases.{IsFirst, with_cases, held_from};
 
 use crate::commits::Commits;
 use crate::held::Held;
 use crate::judge::{Judged, judge};
-use crate::look::Found;
+use crate::look::{Found, Look};
 use crate::run::Run;
 use std::alloc::{AllocError, Global};
 use xc_record::{AgreeKind, Record, Tablet};
@@ -60,21 +60,27 @@ pub fn accepted_part<'a>(t: &'a Tablet, run: &Run) -> &'a [Record]
     &t.records.as_slice()[..run.walk.accepted]
 }
 
-/// Judges the tablet after those before it, which left this waiting.
+/// Judges the tablet after those before it, which left this waiting, by a look that is idle before and after. What it
+/// leaves itself is wanted of a tablet with children alone.
 pub fn judge_tablet(
     alloc: Global,
+    look: &mut Look,
     commits: &Commits,
     t: &Tablet,
     run: &Run,
     lefts: &[Vec<Held>],
+    has_children: bool,
 ) -> Result<Judged, AllocError>
     requires within { run.now.walk.accepted ≤ length t.now.records }
-    requires bound { length t.now.records < 2 ^ 63 }
-    ensures found { IfOk result (λ j. HoldsCommits (held_from lefts.now t.now.header.parent) commits.now
+    requires bound { length t.now.records < 2 ^ 32 }
+    ensures idle { OnOk result (IsIdle look.old commits.now → InSlots commits.now (held_from lefts.now t.now.header.parent) → IsIdle look.new commits.now) }
+    ensures found { IfOk result (λ j. IsIdle look.old commits.now → InSlots commits.now (held_from lefts.now t.now.header.parent)
         → IsEnd j.found commits.now (seen_at_end t.now.header (held_from lefts.now t.now.header.parent) (take run.now.walk.accepted t.now.records))) }
-    ensures left { IfOk result (λ j. HoldsCommits (held_from lefts.now t.now.header.parent) commits.now
+    ensures left { IfOk result (λ j. IsIdle look.old commits.now → InSlots commits.now (held_from lefts.now t.now.header.parent) → (has_children ≡ true)
         → IsLeft j.left.items commits.now t.now.header (held_from lefts.now t.now.header.parent) (take run.now.walk.accepted t.now.records)) }
+    ensures slots { IfOk result (λ j. InSlots commits.now (held_from lefts.now t.now.header.parent) → InSlots commits.now j.left.items) }
 {
     let held = held_of(lefts, t.header.parent);
-    judge(alloc, commits, &t.header, held, accepted_part(t, run))
+    let records = accepted_part(t, run);
+    judge(alloc, look, commits, &t.header, held, records, has_children)
 }

@@ -1,7 +1,7 @@
 // One tablet's records, judged.
-ghost use Rattle.std.specs.Prelude.{◌≡◌, ◌<◌, ◌^◌, IfOk, length};
-ghost use Rattle.xc_agree.specs.Seen.{IsEnd};
-ghost use Rattle.xc_agree.specs.Held.{IsLeft, HoldsCommits, seen_at_end};
+ghost use Rattle.std.specs.Prelude.{◌≡◌, ◌<◌, ◌^◌, IfOk, OnOk, length, true};
+ghost use Rattle.xc_agree.specs.Seen.{IsEnd, IsIdle};
+ghost use Rattle.xc_agree.specs.Held.{IsLeft, InSlots, seen_at_end};
 
 use crate::commits::Commits;
 use crate::held::{Held, hold};
@@ -17,22 +17,31 @@ pub struct Judged {
     pub left: Vec<Held>,
 }
 
+/// Judges a tablet's accepted records by a look that is idle before and after. What waits at the end is wanted of a
+/// tablet with children alone.
 pub fn judge(
     alloc: Global,
+    look: &mut Look,
     commits: &Commits,
     header: &Header,
     held: &[Held],
     records: &[Record],
+    has_children: bool,
 ) -> Result<Judged, AllocError>
-    requires { length records.now < 2 ^ 63 }
-    ensures found { IfOk result (λ j. HoldsCommits held.now commits.now → IsEnd j.found commits.now (seen_at_end header.now held.now records.now)) }
-    ensures left { IfOk result (λ j. HoldsCommits held.now commits.now → IsLeft j.left.items commits.now header.now held.now records.now) }
+    requires { length records.now < 2 ^ 32 }
+    ensures idle { OnOk result (IsIdle look.old commits.now → InSlots commits.now held.now → IsIdle look.new commits.now) }
+    ensures found { IfOk result (λ j. IsIdle look.old commits.now → InSlots commits.now held.now → IsEnd j.found commits.now (seen_at_end header.now held.now records.now)) }
+    ensures left { IfOk result (λ j. IsIdle look.old commits.now → InSlots commits.now held.now → (has_children ≡ true) → IsLeft j.left.items commits.now header.now held.now records.now) }
+    ensures slots { IfOk result (λ j. InSlots commits.now held.now → InSlots commits.now j.left.items) }
 {
-    let mut look = Look::begin(alloc, header, held)?;
+    look.begin(header, held)?;
     look.take_all(commits, records)?;
-    let left = hold(alloc, &look, header, held, records)?;
-    Ok(Judged {
-        found: look.finish(commits),
-        left,
-    })
+    let left = if has_children {
+        hold(alloc, look, commits, header, held, records)?
+    } else {
+        Vec::new(alloc)
+    };
+    let found = look.finish(commits);
+    look.clear();
+    Ok(Judged { found, left })
 }

@@ -1,19 +1,18 @@
 // One look through a tablet's accepted records for cases of disagreement.
-ghost use Rattle.std.specs.Prelude.{◌≡◌, ℕ, ◌+◌, ◌<◌, ◌^◌, Option, Some, None, List, OnOk, IfOk, false, length, fold, if◌then◌else◌, ◌==◌};
+ghost use Rattle.std.specs.Prelude.{◌≡◌, ℕ, ◌+◌, ◌<◌, ◌^◌, Option, Some, None, List, OnOk, IfOk, length, fold, if◌then◌else◌, ◌==◌, slice_get, true, option_map};
 ghost use Rattle.xc_record.specs.declared.record.AgreeKind.{AgreeKind};
 ghost use Rattle.xc_record.specs.declared.record.AgreeKind.TheVariants.{Straggler};
 ghost use Rattle.xc_record.specs.declared.record.Kind.TheVariants.{Intent, Apply, Abort, Safe};
-ghost use Rattle.xc_agree.specs.declared.commits.Commits.{Commits};
+ghost use Rattle.xc_agree.specs.declared.commits.Commit.{Commit};
 ghost use Rattle.xc_record.specs.declared.record.Op.{Op};
 ghost use Rattle.xc_record.specs.Lists.{or_else};
-ghost use Rattle.xc_agree.specs.Tally.{time_of};
-ghost use Rattle.xc_agree.specs.Held.{is_start};
-ghost use Rattle.xc_agree.specs.Seen.{Takes, Began, IsEnd, waits_from, unseen, Seen, rank, earlier, IsLeast, with_kind, see_kind, see, since_in, pends_in, IsLook, IsLeastWith, KeepsPlace};
+ghost use Rattle.xc_agree.specs.Slots.{slot_of, time_of};
+ghost use Rattle.xc_agree.specs.Held.{is_start, is_since, InSlots};
+ghost use Rattle.xc_agree.specs.Seen.{Takes, Began, IsEnd, waits_from, unseen, Seen, rank, IsLeast, with_kind, see, waits_at, since_at, is_slot_of, pends_at, is_in_slot, AreInSlots, IsIdle, IsLook, IsLeastWith, KeepsPlace};
 
 use crate::commits::Commits;
 use crate::held::Held;
 use std::alloc::{AllocError, Global};
-use std::collections::BTreeMap;
 use xc_record::{AgreeKind, Header, Kind, Record};
 
 /// The least transaction with a case, and its first kind.
@@ -61,42 +60,83 @@ fn least_if(found: Option<Found>, stands: bool, txn: u32, kind: AgreeKind) -> Op
     }
 }
 
+/// A transaction that commits, and its slot among those that do.
+#[derive(Clone, Copy, PartialEq, Eq, Debug)]
+pub struct Waiter {
+    pub txn: u32,
+    pub slot: usize,
+}
+
 /// What a tablet's records so far say of all transactions that were applied.
 #[derive(Drop, Debug)]
 pub struct Look {
     // How many records there were.
-    place: usize,
+    place: u32,
     // The place of the last safe record, or 0, and its value.
-    safe: usize,
+    safe: u32,
     floor: u64,
-    // The place at which each waiting transaction began to wait, 0 for what waits from before the first record.
-    waiting: BTreeMap<u32, usize>,
-    // The transactions that began to wait, some that wait no more among them.
-    began: Vec<u32>,
+    // In each slot the place at which its transaction began to wait, where it waits; 0 for what waits from before the
+    // first record.
+    waiting: Vec<Option<u32>>,
+    // What began to wait, some that waits no more among it.
+    began: Vec<Waiter>,
     found: Option<Found>,
+    // The slot that was looked up last.
+    near: usize,
+}
+
+// Nothing waits in the slot any more.
+fn stop(waiting: &mut Vec<Option<u32>>, slot: usize)
+    ensures since { (i : ℕ) → waits_at waiting.new.items i ≡ (if i == slot then None else waits_at waiting.old.items i) }
+    ensures len { length waiting.new.items ≡ length waiting.old.items }
+{
+    if let Some(since) = waiting.get_mut(slot) {
+        *since = None;
+    }
+}
+
+// Nothing waits in the slots of these any more.
+fn stop_all(waiting: &mut Vec<Option<u32>>, waiters: &[Waiter])
+    ensures since { (i : ℕ) → waits_at waiting.new.items i ≡ (if is_slot_of i waiters.now then None else waits_at waiting.old.items i) }
+    ensures len { length waiting.new.items ≡ length waiting.old.items }
+{
+    for waiter in waiters {
+        stop(waiting, waiter.slot);
+    }
 }
 
 impl Look {
-    /// Before the first record of a tablet, where these operations are held from its parent's records.
-    pub fn begin(alloc: Global, header: &Header, held: &[Held]) -> Result<Look, AllocError>
-        ensures place { IfOk result (λ look. look.place ≡ 0) }
-        ensures begun { IfOk result (λ look. (commits : Commits) → ((n : ℕ) → time_of commits n ≡ None → waits_from header.now held.now n ≡ false)
-            → IsLook look commits (λ n c. unseen (waits_from header.now held.now n))) }
+    /// A look for all tablets, one after the other, with a slot for each transaction that commits.
+    pub fn new(alloc: Global, slots: usize) -> Result<Look, AllocError>
+        ensures { IfOk result (λ look. (commits : List Commit) → (slots ≡ length commits) → IsIdle look commits) }
     {
-        let mut look = Look {
+        Ok(Look {
             place: 0,
             safe: 0,
             floor: 0,
-            waiting: BTreeMap::new(alloc),
+            waiting: vec![in alloc; None; slots]?,
             began: Vec::new(alloc),
             found: None,
-        };
+            near: 0,
+        })
+    }
+
+    /// Before the first record of a tablet, where these operations are held from its parent's records.
+    pub fn begin(&mut self, header: &Header, held: &[Held]) -> Result<(), AllocError>
+        ensures place { OnOk result (self.new.place ≡ 0) }
+        ensures begun { OnOk result ((commits : List Commit) → IsIdle self.old commits → InSlots commits held.now
+            → IsLook self.new commits (λ n c. unseen (waits_from header.now held.now n))) }
+    {
+        self.place = 0;
+        self.safe = 0;
+        self.floor = 0;
+        self.found = None;
         for x in held {
             if header.holds(x.hash) {
-                look.wait(x.txn, 0)?;
+                self.wait(x.txn, x.slot, 0)?;
             }
         }
-        Ok(look)
+        Ok(())
     }
 
     /// What stands after the last record, where what waits may be a straggler.
@@ -104,83 +144,122 @@ impl Look {
         ensures { (seen : ℕ → ℕ → Seen) → IsLook self.now commits.now seen → IsEnd result commits.now seen }
     {
         let mut found = self.found;
-        for txn in self.began.as_slice() {
-            found = self.straggler(commits, found, *txn);
+        for waiter in self.began.as_slice() {
+            found = self.straggler(commits, found, *waiter);
         }
         found
     }
 
-    /// Whether the transaction waits from before the first record.
-    pub fn starts(&self, txn: u32) -> bool
-        ensures { result ≡ is_start (since_in self.now txn) }
+    /// Forgets what waits, before the next tablet.
+    pub fn clear(&mut self)
+        ensures { (commits : List Commit) (seen : ℕ → ℕ → Seen) → IsLook self.old commits seen → IsIdle self.new commits }
     {
-        match self.since(txn) {
+        stop_all(&mut self.waiting, self.began.as_slice());
+        self.began.clear();
+    }
+
+    /// Whether the transaction in the slot waits from before the first record.
+    pub fn starts(&self, slot: usize) -> bool
+        ensures { result ≡ is_start (since_at self.now slot) }
+    {
+        match self.since(slot) {
             Some(place) => place == 0,
             None => false,
         }
     }
 
     // With the transaction where it pends.
-    fn straggler(&self, commits: &Commits, found: Option<Found>, txn: u32) -> Option<Found>
-        ensures pends { (c : ℕ) → (time_of commits.now txn ≡ Some c) → IsLeastWith found (pends_in c self.now txn) txn Straggler result }
-        ensures same { time_of commits.now txn ≡ None → result ≡ found }
+    fn straggler(&self, commits: &Commits, found: Option<Found>, waiter: Waiter) -> Option<Found>
+        ensures { (c : Commit) → (slice_get commits.now waiter.slot ≡ Some c) → IsLeastWith found (pends_at c.time self.now waiter.slot) waiter.txn Straggler result }
     {
-        match commits.time_of(txn) {
+        match commits.get(waiter.slot) {
             None => found,
-            Some(commit) => match self.waiting.get(&txn) {
-                None => found,
-                Some(since) => {
-                    let pends = *since < self.safe && commit <= self.floor;
-                    least_if(found, pends, txn, AgreeKind::Straggler)
-                }
-            },
+            Some(commit) => {
+                let pends = self.pends(waiter.slot, commit.time);
+                least_if(found, pends, waiter.txn, AgreeKind::Straggler)
+            }
         }
     }
 
-    /// The place at which the transaction began to wait, where it waits.
-    pub fn since(&self, txn: u32) -> Option<usize>
-        ensures { result ≡ since_in self.now txn }
+    // The transaction in the slot waits, and waited at a safe record of value at or above its commit.
+    fn pends(&self, slot: usize, commit: u64) -> bool
+        ensures { result ≡ pends_at commit self.now slot }
     {
-        self.waiting.get(&txn).copied()
+        match self.since(slot) {
+            None => false,
+            Some(since) => since < self.safe && commit <= self.floor,
+        }
     }
 
-    // An operation of the transaction waits from this place on.
-    fn wait(&mut self, txn: u32, place: usize) -> Result<(), AllocError>
-        ensures since { OnOk result ((n : ℕ) → since_in self.new n ≡ (if n == txn then or_else (since_in self.old n) (Some place) else since_in self.old n)) }
+    // The place at which the transaction in the slot began to wait, where it waits.
+    fn since(&self, slot: usize) -> Option<u32>
+        ensures { result ≡ since_at self.now slot }
+    {
+        match self.waiting.get(slot) {
+            None => None,
+            Some(since) => *since,
+        }
+    }
+
+    /// Whether the transaction in the slot waits since the place or before.
+    pub fn waits_since(&self, slot: usize, place: usize) -> bool
+        ensures { result ≡ is_since place (since_at self.now slot) }
+    {
+        match self.since(slot) {
+            None => false,
+            Some(since) => since as usize <= place,
+        }
+    }
+
+    // An operation of the transaction in the slot waits from this place on.
+    fn wait(&mut self, txn: u32, slot: usize, place: u32) -> Result<(), AllocError>
+        ensures since { OnOk result ((slot < length self.old.waiting.items) → (i : ℕ) → since_at self.new i ≡ (if i == slot then or_else (since_at self.old i) (Some place) else since_at self.old i)) }
         ensures kept { OnOk result (KeepsPlace self.old self.new) }
         ensures found { OnOk result (self.new.found ≡ self.old.found) }
         ensures began { OnOk result (Began self.old → Began self.new) }
+        ensures waiters { OnOk result ((commits : List Commit) → (is_in_slot commits txn slot ≡ true) → AreInSlots commits self.old.began.items → AreInSlots commits self.new.began.items) }
     {
-        if self.waiting.get(&txn).is_none() {
-            self.began.push(txn)?;
-            self.waiting.insert(txn, place)?;
+        if slot < self.waiting.len() && self.waiting[slot].is_none() {
+            self.waiting[slot] = Some(place);
+            self.began.push(Waiter { txn, slot })?;
         }
         Ok(())
     }
 
-    // No operation of the transaction waits any more.
-    fn settle(&mut self, txn: u32, commit: u64)
-        ensures since { (n : ℕ) → since_in self.new n ≡ (if n == txn then None else since_in self.old n) }
+    // No operation of the transaction in the slot waits any more.
+    fn settle(&mut self, txn: u32, slot: usize, commit: u64)
+        ensures since { (i : ℕ) → since_at self.new i ≡ (if i == slot then None else since_at self.old i) }
         ensures kept { KeepsPlace self.old self.new }
-        ensures found { IsLeastWith self.old.found (pends_in commit self.old txn) txn Straggler self.new.found }
+        ensures found { IsLeastWith self.old.found (pends_at commit self.old slot) txn Straggler self.new.found }
         ensures began { Began self.old → Began self.new }
+        ensures waiters { self.new.began ≡ self.old.began }
     {
-        if let Some(since) = self.waiting.remove(&txn) {
-            let pends = since < self.safe && commit <= self.floor;
-            self.found = least_if(self.found, pends, txn, AgreeKind::Straggler);
-        }
+        let pends = self.pends(slot, commit);
+        self.found = least_if(self.found, pends, txn, AgreeKind::Straggler);
+        stop(&mut self.waiting, slot);
+    }
+
+    // The slot of the transaction and its commit, if it has one.
+    fn find(&mut self, commits: &Commits, txn: u32) -> Option<(usize, u64)>
+        ensures slot { option_map (λ p. p.0) result ≡ slot_of commits.now txn }
+        ensures time { option_map (λ p. p.1) result ≡ time_of commits.now txn }
+        ensures same { self.new ≡ record self.old { near = self.new.near } }
+    {
+        let slot = commits.slot(txn, self.near)?;
+        self.near = slot;
+        Some((slot, commits.at(slot).time))
     }
 
     fn take_intent(&mut self, commits: &Commits, txn: u32, time: u64) -> Result<(), AllocError>
-        requires { self.old.place < 2 ^ 63 }
+        requires { self.old.place + 1 < 2 ^ 32 }
         ensures place { OnOk result (self.new.place ≡ self.old.place + 1) }
         ensures taken { OnOk result ((ops : List Op) → Takes self.old self.new commits.now time (Intent txn ops)) }
     {
-        match commits.time_of(txn) {
+        match self.find(commits, txn) {
             None => self.place += 1,
-            Some(commit) => {
+            Some((slot, commit)) => {
                 self.found = least_if(self.found, commit <= time, txn, AgreeKind::LateIntent);
-                self.wait(txn, self.place + 1)?;
+                self.wait(txn, slot, self.place + 1)?;
                 self.place += 1;
             }
         }
@@ -188,39 +267,39 @@ impl Look {
     }
 
     fn take_apply(&mut self, commits: &Commits, txn: u32, named: u64)
-        requires { self.old.place < 2 ^ 63 }
+        requires { self.old.place + 1 < 2 ^ 32 }
         ensures place { self.new.place ≡ self.old.place + 1 }
         ensures taken { (time : ℕ) → Takes self.old self.new commits.now time (Apply txn named) }
     {
-        match commits.time_of(txn) {
+        match self.find(commits, txn) {
             None => self.place += 1,
-            Some(commit) => {
+            Some((slot, commit)) => {
                 self.found = least_if(self.found, named != commit, txn, AgreeKind::CommitDiffers);
-                self.settle(txn, commit);
+                self.settle(txn, slot, commit);
                 self.place += 1;
             }
         }
     }
 
     fn take_abort(&mut self, commits: &Commits, txn: u32)
-        requires { self.old.place < 2 ^ 63 }
+        requires { self.old.place + 1 < 2 ^ 32 }
         ensures place { self.new.place ≡ self.old.place + 1 }
         ensures taken { (time : ℕ) → Takes self.old self.new commits.now time (Abort txn) }
     {
-        match commits.time_of(txn) {
+        match self.find(commits, txn) {
             None => self.place += 1,
-            Some(commit) => {
+            Some((slot, commit)) => {
                 self.found = least(self.found, txn, AgreeKind::Aborted);
-                self.settle(txn, commit);
+                self.settle(txn, slot, commit);
                 self.place += 1;
             }
         }
     }
 
     fn take_safe(&mut self, value: u64)
-        requires { self.old.place < 2 ^ 63 }
+        requires { self.old.place + 1 < 2 ^ 32 }
         ensures place { self.new.place ≡ self.old.place + 1 }
-        ensures taken { (commits : Commits) (time : ℕ) → Takes self.old self.new commits time (Safe value) }
+        ensures taken { (commits : List Commit) (time : ℕ) → Takes self.old self.new commits time (Safe value) }
     {
         self.place += 1;
         self.safe = self.place;
@@ -228,7 +307,7 @@ impl Look {
     }
 
     fn take(&mut self, commits: &Commits, r: &Record) -> Result<(), AllocError>
-        requires { self.old.place < 2 ^ 63 }
+        requires { self.old.place + 1 < 2 ^ 32 }
         ensures place { OnOk result (self.new.place ≡ self.old.place + 1) }
         ensures taken { OnOk result (Takes self.old self.new commits.now r.now.time r.now.kind) }
     {
@@ -244,7 +323,7 @@ impl Look {
 
     /// Takes all records.
     pub fn take_all(&mut self, commits: &Commits, records: &[Record]) -> Result<(), AllocError>
-        requires { self.old.place + length records.now < 2 ^ 63 }
+        requires { self.old.place + length records.now < 2 ^ 32 }
         ensures { OnOk result ((seen : ℕ → ℕ → Seen) → IsLook self.old commits.now seen → IsLook self.new commits.now (λ n c. fold (see n c) (seen n c) records.now)) }
     {
         for r in records {

@@ -1,15 +1,20 @@
-use Rattle.std.proofs.Common.{get_or, refl, ap, ◌∙◌}
+use Rattle.std.proofs.Common.{get_or, refl, ap, ◌∙◌, subst}
 use Rattle.std.specs.Prelude.{◌&&◌, ◌||◌, ◌==◌}
-use Rattle.xc_record.specs.Hash.{holds}
 use Rattle.xc_agree.specs.declared.held.Held.{Held}
-use Rattle.xc_agree.specs.Seen.{since_in}
-use Rattle.xc_agree.specs.Held.{is_held, is_start}
-use Rattle.xc_agree.proofs.HeldLaws.{keep-more}
+use Rattle.xc_agree.specs.Held.{is_held, StaysHeld}
+use Rattle.xc_agree.proofs.Steps.{take_past}
+use Rattle.xc_agree.proofs.HeldLaws.{still-more}
 use Rattle.xc_agree.proofs.held.hold_still.Goals as goal
 
+pub loop-x-init : goal.loop-x-init
+loop-x-init c = λ commits slots. record { waits = λ n h. rw c.new-still.ensures.items refl; slots = rw c.new-still.ensures.items refl }
+
 pub loop-x-preserved : goal.loop-x-preserved
-loop-x-preserved c =
-    let none : Held = record { txn = 0; hash = 0 } in
+loop-x-preserved c = λ commits slots.
+    let none : Held = record { txn = 0; slot = 0; hash = 0 } in
     let x : Held = get_or c.args.held.now c.loop-x.x-index none in
-    keep-more (λ n h. holds c.args.header.now h && is_start (since_in c.args.look.now n)) (is_held c.loop-x.still.items) (is_held c.keep.new.held.items) c.args.held.now c.loop-x.x-index x none
-    c.loop-x-test.true refl c.loop-x.invariant (λ n h. c.in_ok-keep.ensures n h ∙ ap (λ b. is_held c.loop-x.still.items n h || (b && (x.txn == n && x.hash == h))) c.stays.ensures)
+    still-more commits c.args.look.now c.args.header.now c.args.held.now c.loop-x.still.items c.keep.new.held.items c.loop-x.x-index none slots c.loop-x-test.true (c.loop-x.invariant commits slots)
+    (λ n h. c.in_ok-keep.ensures.held n h ∙ ap (λ b. is_held c.loop-x.still.items n h || (b && (x.txn == n && x.hash == h))) c.stays.ensures) (c.in_ok-keep.ensures.slots commits)
+
+pub returns : goal.returns
+returns c = λ commits slots. subst (StaysHeld c.loop-x.still.items commits c.args.look.now c.args.header.now) (take_past c.loop-x.x-index c.args.held.now c.loop-x-test.false) (c.loop-x.invariant commits slots)

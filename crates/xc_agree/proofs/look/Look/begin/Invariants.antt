@@ -1,14 +1,12 @@
-use Rattle.std.proofs.Common.{◌≡◌, ℕ, take, Some, None}
-use Rattle.std.specs.Prelude.{if◌then◌else◌}
-use Rattle.xc_agree.specs.Seen.{since_in, waits_from, Began}
+use Rattle.std.proofs.Common.{◌≡◌, List, take, None}
+use Rattle.xc_agree.specs.declared.commits.Commit.{Commit}
+use Rattle.xc_agree.specs.Seen.{IsIdle}
+use Rattle.xc_agree.specs.Held.{InSlots}
+use Rattle.xc_agree.proofs.BeginLaws.{Beginning}
 use Rattle.xc_agree.proofs.look.Look.begin.Given as goal
 
 abbrev pub invariant-loop-x : goal.invariant-loop-x
 invariant-loop-x l = record {
-  since : (n : ℕ) → since_in l.look n ≡ (if waits_from l.header (take l.x-index l.held) n then Some 0 else None);
-  place : l.look.place ≡ 0;
-  safe : l.look.safe ≡ 0;
-  floor : l.look.floor ≡ 0;
-  found : l.look.found ≡ None;
-  began : Began l.look;
+  place : l.self.place ≡ 0;
+  begun : (commits : List Commit) → IsIdle l.initial.self commits → InSlots commits l.held → Beginning l.self commits l.header (take l.x-index l.held);
 }

@@ -1,5 +1,6 @@
 pub mod Steps
 pub mod RunLaws
+pub mod CommitLaws
 pub mod TallyLaws
 pub mod LookLaws
 pub mod HeldLaws

@@ -1,81 +1,78 @@
 // The commits of the transactions that were applied, and how many writes and transactions commit.
-ghost use Rattle.std.specs.Prelude.{◌≡◌, ◌+◌, ◌<◌, ◌≤◌, ◌^◌, ℕ, List, [], ◌∷◌, ◌++◌, OnOk, IfOk, length, take};
-ghost use Rattle.xc_record.specs.declared.record.Record.{Record};
-ghost use Rattle.xc_record.specs.declared.record.Kind.TheVariants.{Apply};
-ghost use Rattle.xc_agree.specs.Tally.{time_of, AreCommits};
+ghost use Rattle.std.specs.Prelude.{◌≡◌, ◌<◌, Some, IfSome, IfNone, length, slice_get, option_map};
+ghost use Rattle.xc_agree.specs.Tally.{slot_of, time_of};
 
 use std::alloc::{AllocError, Global};
-use std::collections::BTreeMap;
-use xc_record::{Kind, Record};
+use std::marker::Model;
 
-/// The commits of the records so far.
+/// A transaction that was applied, and its commit: that of its first apply.
+#[derive(Clone, Copy, PartialEq, Eq, Debug)]
+pub struct Commit {
+    pub txn: u32,
+    pub time: u64,
+}
+
+/// The transactions that were applied, in the order of their numbers.
 #[derive(Drop, Debug)]
 pub struct Commits {
-    // The commit of each transaction that was applied: that of its first apply.
-    times: BTreeMap<u32, u64>,
-    // How many writes and transactions commit.
-    count: u64,
+    items: Vec<Commit>,
+}
+
+impl Model for Commits {
+    ghost use Rattle.std.specs.Prelude.{List, map};
+    ghost use Rattle.std.specs.List.Sorted.{IsStrictlyIncreasing};
+    ghost use Rattle.xc_agree.specs.declared.commits.Commit.{Commit};
+
+    ghost Value = { List Commit };
+
+    ghost view = { λ c. c.items.items };
+
+    ghost invariant = { λ c. IsStrictlyIncreasing (map (λ commit. commit.txn) c.items.items) };
+}
+
+/// What commits by some records.
+#[derive(Drop, Debug)]
+pub struct Tally {
+    pub commits: Commits,
+    /// How many writes and transactions commit.
+    pub count: u64,
 }
 
 impl Commits {
-    pub fn new(alloc: Global) -> Commits
-        ensures { AreCommits result [] }
+    /// How many transactions were applied.
+    pub fn len(&self) -> usize
+        ensures { result ≡ length self.now }
     {
-        Commits {
-            times: BTreeMap::new(alloc),
-            count: 0,
+        self.items.len()
+    }
+
+    /// The transaction in this slot.
+    pub fn at(&self, slot: usize) -> Commit
+        requires { slot < length self.now }
+        ensures { slice_get self.now slot ≡ Some result }
+    {
+        self.items[slot]
+    }
+
+    // The slot, where the transaction is in it.
+    fn is_at(&self, txn: u32, slot: usize) -> bool {
+        match self.items.get(slot) {
+            Some(commit) => commit.txn == txn,
+            None => false,
         }
     }
 
-    /// The commit of the transaction, if it has one.
-    pub fn time_of(&self, txn: u32) -> Option<u64>
-        ensures { result ≡ time_of self.now txn }
+    /// The slot of the transaction, if it was applied. It is found at once where it is next to the slot `near`.
+    pub fn slot(&self, txn: u32, near: usize) -> Option<usize>
+        ensures { result ≡ slot_of self.now txn }
     {
-        self.times.get(&txn).copied()
-    }
-
-    pub fn count(&self) -> u64
-        ensures { result ≡ self.now.count }
-    {
-        self.count
-    }
-
-    fn add_time(&mut self, txn: u32, commit: u64) -> Result<(), AllocError>
-        requires { self.old.count < 2 ^ 63 }
-        ensures bound { self.new.count ≤ self.old.count + 1 }
-        ensures added { OnOk result ((rs : List Record) → AreCommits self.old rs → (r : Record) → (r.kind ≡ Apply txn commit) → AreCommits self.new (rs ++ r ∷ [])) }
-    {
-        if self.time_of(txn).is_none() {
-            self.times.insert(txn, commit)?;
-            self.count += 1;
+        match self
+            .items
+            .as_slice()
+            .binary_search_by_key(&txn, |commit| commit.txn)
+        {
+            Ok(slot) => Some(slot),
+            Err(_) => None,
         }
-        Ok(())
-    }
-
-    fn add(&mut self, r: &Record) -> Result<(), AllocError>
-        requires { self.old.count < 2 ^ 63 }
-        ensures bound { self.new.count ≤ self.old.count + 1 }
-        ensures added { OnOk result ((rs : List Record) → AreCommits self.old rs → AreCommits self.new (rs ++ r.now ∷ [])) }
-    {
-        match &r.kind {
-            Kind::Write { .. } => {
-                self.count += 1;
-            }
-            Kind::Apply { txn, commit } => self.add_time(*txn, commit.get())?,
-            _ => {}
-        }
-        Ok(())
-    }
-
-    /// With those of more records.
-    pub fn add_all(&mut self, records: &[Record]) -> Result<(), AllocError>
-        requires { self.old.count + length records.now < 2 ^ 63 }
-        ensures bound { self.new.count ≤ self.old.count + length records.now }
-        ensures added { OnOk result ((rs : List Record) → AreCommits self.old rs → AreCommits self.new (rs ++ records.now)) }
-    {
-        for r in records {
-            self.add(r)?;
-        }
-        Ok(())
     }
 }

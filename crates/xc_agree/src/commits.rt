@@ -1,6 +1,6 @@
 // The commits of the transactions that were applied, and how many writes and transactions commit.
-ghost use Rattle.std.specs.Prelude.{◌≡◌, ◌<◌, Some, IfSome, IfNone, length, slice_get, option_map};
-ghost use Rattle.xc_agree.specs.Tally.{slot_of, time_of};
+ghost use Rattle.std.specs.Prelude.{◌≡◌, ◌<◌, ◌↔◌, Some, IsTrue, length, slice_get};
+ghost use Rattle.xc_agree.specs.Tally.{slot_of};
 
 use std::alloc::{AllocError, Global};
 use std::marker::Model;
@@ -54,25 +54,39 @@ impl Commits {
         self.items[slot]
     }
 
-    // The slot, where the transaction is in it.
-    fn is_at(&self, txn: u32, slot: usize) -> bool {
+    // Whether the transaction is in this slot.
+    fn is_at(&self, txn: u32, slot: usize) -> bool
+        ensures { IsTrue result ↔ (slot_of self.now txn ≡ Some slot) }
+    {
         match self.items.get(slot) {
             Some(commit) => commit.txn == txn,
             None => false,
         }
     }
 
-    /// The slot of the transaction, if it was applied. It is found at once where it is next to the slot `near`.
+    fn search(&self, txn: u32) -> Option<usize>
+        ensures { result ≡ slot_of self.now txn }
+    {
+        self.items
+            .as_slice()
+            .binary_search_by_key(&txn, |commit| commit.txn)
+            .ok()
+    }
+
+    /// The slot of the transaction, if it was applied. It is found at once in the slot `near` and beside it.
     pub fn slot(&self, txn: u32, near: usize) -> Option<usize>
         ensures { result ≡ slot_of self.now txn }
     {
-        match self
-            .items
-            .as_slice()
-            .binary_search_by_key(&txn, |commit| commit.txn)
-        {
-            Ok(slot) => Some(slot),
-            Err(_) => None,
+        let next = near.saturating_add(1);
+        let previous = near.saturating_sub(1);
+        if self.is_at(txn, near) {
+            Some(near)
+        } else if self.is_at(txn, next) {
+            Some(next)
+        } else if self.is_at(txn, previous) {
+            Some(previous)
+        } else {
+            self.search(txn)
         }
     }
 }

@@ -8,14 +8,13 @@ use Rattle.std.proofs.lemmas.List.Quantifiers.{position-Some}
 use Rattle.std.proofs.lemmas.List.Sums.{position_or_len_is}
 use Rattle.std.proofs.lemmas.Option.{get_or_from_slice_get, slice_get_within, slice_get_read, slice_get-get_or}
 use Rattle.std.specs.Prelude.{Option, Some, None, Result, Ok, Err, IsTrue, ◌↔◌, if◌then◌else◌, ◌==◌, nat_lt, slice_get, option_map}
-use Rattle.std.specs.List.{position}
 use Rattle.std.specs.List.Sorted.{IsNonDecreasingBy, IsPartitionPoint, IsBinarySearchResult, IsSearchInRange}
 use Rattle.std.specs.Ordering.{nat_cmp, ordering_index}
 use Rattle.std.specs.Result.{result_ok}
 use Rattle.std.specs.declared.cmp.Ordering.TheVariants.{Less, Equal, Greater}
 use Rattle.xc_record.specs.Lists.{or_else}
 use Rattle.xc_agree.specs.declared.commits.Commit.{Commit}
-use Rattle.xc_agree.specs.Tally.{slot_of, time_at, time_of, Rises}
+use Rattle.xc_agree.specs.Slots.{slot_of, time_of, Rises}
 
 pub slot-below : (cs : List Commit) (n i : ℕ) → slot_of cs n ≡ Some i → i < length cs
 slot-below cs n i e = (position-Some (λ c. c.txn == n) cs i (record { txn = 0; time = 0 }) e).0

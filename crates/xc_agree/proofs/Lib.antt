@@ -2,6 +2,7 @@ pub mod Steps
 pub mod RunLaws
 pub mod CommitLaws
 pub mod TallyLaws
+pub mod ApplyLaws
 pub mod LookLaws
 pub mod HeldLaws
 pub mod WaitLaws
@@ -11,5 +12,6 @@ pub mod KeyLaws
 pub mod OpLaws
 pub mod StragglerLaws
 pub mod SplitLaws
+pub mod NoteLaws
 pub mod TabletLaws
 pub mod AuditLaws

@@ -1,8 +1,9 @@
-// The commits of the transactions that were applied, and how many writes and transactions commit.
-ghost use Rattle.std.specs.Prelude.{◌≡◌, ◌<◌, ◌↔◌, Some, IsTrue, length, slice_get};
-ghost use Rattle.xc_agree.specs.Tally.{slot_of};
+// The commits of the transactions that were applied.
+ghost use Rattle.std.specs.Prelude.{◌≡◌, ◌<◌, ◌↔◌, ℕ, Some, IfOk, IsTrue, length, map, slice_get};
+ghost use Rattle.xc_record.specs.Commits.{distinct};
+ghost use Rattle.xc_agree.specs.Slots.{slot_of, time_of};
 
-use std::alloc::{AllocError, Global};
+use std::alloc::AllocError;
 use std::marker::Model;
 
 /// A transaction that was applied, and its commit: that of its first apply.
@@ -30,15 +31,20 @@ impl Model for Commits {
     ghost invariant = { λ c. IsStrictlyIncreasing (map (λ commit. commit.txn) c.items.items) };
 }
 
-/// What commits by some records.
-#[derive(Drop, Debug)]
-pub struct Tally {
-    pub commits: Commits,
-    /// How many writes and transactions commit.
-    pub count: u64,
-}
-
 impl Commits {
+    /// The commits by some applies, in whose order the first of a transaction is the one that counts.
+    ///
+    /// Applies whose transactions rise already need no memory.
+    pub fn of_applies(applies: Vec<Commit>) -> Result<Commits, AllocError>
+        ensures times { IfOk result (λ commits. (n : ℕ) → time_of commits n ≡ time_of applies.items n) }
+        ensures count { IfOk result (λ commits. length commits ≡ length (distinct (map (λ c. c.txn) applies.items))) }
+    {
+        let mut items = applies;
+        items.sort_by_key(|commit| commit.txn)?;
+        items.dedup_by_key(|commit| commit.txn);
+        Ok(Commits { items })
+    }
+
     /// How many transactions were applied.
     pub fn len(&self) -> usize
         ensures { result ≡ length self.now }
@@ -52,6 +58,13 @@ impl Commits {
         ensures { slice_get self.now slot ≡ Some result }
     {
         self.items[slot]
+    }
+
+    /// The transaction in this slot, if there is such a slot.
+    pub fn get(&self, slot: usize) -> Option<Commit>
+        ensures { result ≡ slice_get self.now slot }
+    {
+        self.items.get(slot).copied()
     }
 
     // Whether the transaction is in this slot.

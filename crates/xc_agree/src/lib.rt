@@ -10,6 +10,7 @@ mod judgement;
 mod look;
 mod run;
 mod tablets;
+mod tally;
 
 pub use audit::{AgreeFail, Audit, End, EndState, Ends};
 pub use judgement::agree;

@@ -19,13 +19,13 @@ use Rattle.xc_agree.specs.declared.run.Run.{Run}
 use Rattle.xc_agree.specs.declared.held.Held.{Held}
 use Rattle.xc_agree.specs.declared.cases.Case.{Case}
 use Rattle.xc_agree.specs.declared.look.Found.{Found}
-use Rattle.xc_agree.specs.declared.commits.Commits.{Commits}
+use Rattle.xc_agree.specs.declared.commits.Commit.{Commit}
 use Rattle.xc_agree.specs.Runs.{IsRun}
-use Rattle.xc_agree.specs.Tally.{time_of, AreCommits}
+use Rattle.xc_agree.specs.Slots.{time_of}
 use Rattle.xc_agree.specs.Seen.{unseen, see, waits_from, kind_at_end, IsLeast, IsEnd}
 use Rattle.xc_agree.specs.Held.{is_held, writes_at, waits_by, IsLeft, HoldsCommits, seen_at_end}
 use Rattle.xc_agree.specs.Cases.{IsFirst, with_cases, case_of, held_from, items_of, line_through, AreLeft, cases_of, of_tablets, all_records}
-use Rattle.xc_agree.proofs.RunLaws.{accepted_tablets-snoc}
+use Rattle.xc_agree.proofs.RunLaws.{tablets-more}
 use Rattle.xc_agree.proofs.TallyLaws.{first-append}
 use Rattle.xc_agree.proofs.WaitLaws.{waits-append}
 use Rattle.xc_agree.proofs.EndLaws.{differs-all, late-all, aborted-all, straggles, any_op, stands, stands-all}
@@ -49,50 +49,6 @@ kind-here logs before b rest all tree n c held start own order =
     let s : stands c (fold (see n c) (unseen w) b.records) ≡ straggler logs n c b = kind-seen n c w b.start b.records order ∙ sym (straggler-held logs before b rest all tree n c held start own) in
     rw (differs-all n c (unseen w) b.records, late-all n c (unseen w) b.records, aborted-all n c (unseen w) b.records, s) refl
 
--- ---- the commits so far
-
-flat-append : (bs cs : List AcceptedTablet) → all_records (bs ++ cs) ≡ all_records bs ++ all_records cs
-flat-append [] cs = refl
-flat-append (b ∷ bs) cs = ap (λ xs. b.records ++ xs) (flat-append bs cs) ∙ sym (append_assoc b.records (all_records bs) (all_records cs))
-
-pub records-snoc : (bs : List AcceptedTablet) (b : AcceptedTablet) → all_records (bs ++ b ∷ []) ≡ all_records bs ++ b.records
-records-snoc bs b = flat-append bs (b ∷ []) ∙ ap (λ xs. all_records bs ++ xs) (append-nil b.records)
-
-pub tablets-more : (ts : List Tablet) (i : ℕ) (t : Tablet) → i < length ts → t ≡ get_or ts i t
-    → accepted_tablets_after [] (take (i + 1) ts) ≡ accepted_tablets_after [] (take i ts) ++ accepted_tablet_after (accepted_tablets_after [] (take i ts)) t ∷ []
-tablets-more ts i t h e = ap (accepted_tablets_after []) (take_more ts i t h ∙ ap (λ u. take i ts ++ u ∷ []) (sym e)) ∙ accepted_tablets-snoc [] (take i ts) t
-
-length-kept : (run : Run) (b : AcceptedTablet) (t : Tablet) → IsRun run b t → length (take run.walk.accepted t.records) ≤ length t.records
-length-kept run b t h = go run.walk.accepted t.records
-  where
-    go : (k : ℕ) (xs : List Record) → length (take k xs) ≤ length xs
-    go zero xs = omega arith
-    go (suc k) [] = omega arith
-    go (suc k) (x ∷ xs) = let r = go k xs in omega arith
-
-pub note-bound : (ts : List Tablet) (i count : ℕ) (t : Tablet) (run : Run) (b : AcceptedTablet) (rs : List Record) → IsSound ts → IsRun run b t → i < length ts → t ≡ get_or ts i t → rs ≡ take run.walk.accepted t.records
-    → count ≤ sum_by (λ t. length t.records) (take i ts) → count + length rs < 2 ^ 63
-note-bound ts i count t run b rs s h below is e le =
-    let k = sum-at ts i t below is in
-    let m : length rs ≤ length t.records = subst (λ xs. length xs ≤ length t.records) (sym e) (length-kept run b t h) in
-    omega (arith, s.records)
-
-pub note-more : (ts : List Tablet) (i : ℕ) (t : Tablet) (run : Run) (old new : Commits) (rs : List Record) → IsRun run (accepted_tablet_after (accepted_tablets_after [] (take i ts)) t) t → i < length ts → t ≡ get_or ts i t
-    → rs ≡ take run.walk.accepted t.records → old.count ≤ sum_by (λ t. length t.records) (take i ts) → AreCommits old (all_records (accepted_tablets_after [] (take i ts))) → new.count ≤ old.count + length rs
-    → ((rs' : List Record) → AreCommits old rs' → AreCommits new (rs' ++ rs))
-    → (new.count ≤ sum_by (λ t. length t.records) (take (i + 1) ts)) × AreCommits new (all_records (accepted_tablets_after [] (take (i + 1) ts)))
-note-more ts i t run old new rs h below is e le k bound step =
-    let bs : List AcceptedTablet = accepted_tablets_after [] (take i ts) in
-    let b : AcceptedTablet = accepted_tablet_after bs t in
-    let m : length rs ≤ length t.records = subst (λ xs. length xs ≤ length t.records) (sym e) (length-kept run b t h) in
-    let one : take (i + 1) ts ≡ take i ts ++ t ∷ [] = take_more ts i t below ∙ ap (λ u. take i ts ++ u ∷ []) (sym is) in
-    let sum : sum_by (λ t. length t.records) (take (i + 1) ts) ≡ sum_by (λ t. length t.records) (take i ts) + length t.records = ap (sum_by (λ (t : Tablet). length t.records)) one ∙ sum-snoc (take i ts) in
-    (omega arith, subst (AreCommits new) (sym (ap all_records (tablets-more ts i t below is) ∙ records-snoc bs b ∙ ap (λ xs. all_records bs ++ xs) (h.records ∙ sym e))) (step (all_records bs) k))
-  where
-    sum-snoc : (us : List Tablet) → sum_by (λ t. length t.records) (us ++ t ∷ []) ≡ sum_by (λ t. length t.records) us + length t.records
-    sum-snoc [] = omega (arith, sum-cons t [])
-    sum-snoc (u ∷ us) = let r = sum-snoc us in omega (arith, sum-cons u us, sum-cons u (us ++ t ∷ []))
-
 -- ---- what the parent held
 
 none-past : {X Y : Type 0} (xs : List X) (ys : List Y) (i : ℕ) → length xs ≡ length ys → slice_get ys i ≡ None → slice_get xs i ≡ None
@@ -101,7 +57,7 @@ none-past (x ∷ xs) [] i e f = absurd (omega arith)
 none-past (x ∷ xs) (y ∷ ys) zero e f = cc
 none-past (x ∷ xs) (y ∷ ys) (suc i) e f = none-past xs ys i (omega arith) f
 
-holds-commits : (lefts : List (Vec Held Global)) (commits : Commits) (bs : List AcceptedTablet) (parent : Option ℕ) → AreLeft lefts commits bs → HoldsCommits (held_from lefts parent) commits
+holds-commits : (lefts : List (Vec Held Global)) (commits : List Commit) (bs : List AcceptedTablet) (parent : Option ℕ) → AreLeft lefts commits bs → HoldsCommits (held_from lefts parent) commits
 holds-commits lefts commits bs None a n e h = refl
 holds-commits lefts commits bs (Some p) a n e h = go (slice_get bs p) refl
   where
@@ -110,7 +66,7 @@ holds-commits lefts commits bs (Some p) a n e h = go (slice_get bs p) refl
     go (Some b) f = a.each p b f n h ∙ rw e refl
 
 -- what is held at a hash of a tablet's range is what waits there after the path above it
-start-here : (lefts : List (Vec Held Global)) (commits : Commits) (bs : List AcceptedTablet) (b : AcceptedTablet) (rest : List AcceptedTablet) → AreLeft lefts commits bs → IsTree (bs ++ b ∷ rest) → (n c h : ℕ) → time_of commits n ≡ Some c
+start-here : (lefts : List (Vec Held Global)) (commits : List Commit) (bs : List AcceptedTablet) (b : AcceptedTablet) (rest : List AcceptedTablet) → AreLeft lefts commits bs → IsTree (bs ++ b ∷ rest) → (n c h : ℕ) → time_of commits n ≡ Some c
     → holds b.header h ≡ true → (parent : Option ℕ) → b.header.parent ≡ parent → is_held (held_from lefts parent) n h ≡ waits_by n (writes_at h) false (line_above bs h)
 start-here lefts commits bs b rest a tree n c h e s None p = sym (ap (λ xs. waits_by n (writes_at h) false (flat_map (λ b. b.records) xs)) (above_root h bs b rest tree s p))
 start-here lefts commits bs b rest a tree n c h e s (Some q) p = go (above_child h q bs b rest tree s p)
@@ -165,7 +121,7 @@ line-snoc (x ∷ bs) b h = elim (holds x.header h) as (λ c. flat_map (λ b. b.r
 ]
 
 -- what the next tablet left
-left-next : (lefts : List (Vec Held Global)) (left : Vec Held Global) (commits : Commits) (bs : List AcceptedTablet) (b : AcceptedTablet) (rest : List AcceptedTablet) → AreLeft lefts commits bs → IsTree (bs ++ b ∷ rest) → Each (OwnIn b.header) b.records
+left-next : (lefts : List (Vec Held Global)) (left : Vec Held Global) (commits : List Commit) (bs : List AcceptedTablet) (b : AcceptedTablet) (rest : List AcceptedTablet) → AreLeft lefts commits bs → IsTree (bs ++ b ∷ rest) → Each (OwnIn b.header) b.records
     → IsLeft left.items commits b.header (held_from lefts b.header.parent) b.records → (n h : ℕ)
     → is_held left.items n h ≡ (is_some (time_of commits n) && (holds b.header h && waits_by n (writes_at h) false (line_above (bs ++ b ∷ []) h)))
 left-next lefts left commits bs b rest a tree own l n h = l n h ∙ go (time_of commits n) refl (holds b.header h) refl
@@ -206,7 +162,7 @@ place_of (suc i) (suc k) = later (place_of i k)
     later (Same h) = Same (omega arith)
     later (High h) = High (omega arith)
 
-lefts-more : (lefts : List (Vec Held Global)) (left : Vec Held Global) (commits : Commits) (bs : List AcceptedTablet) (b : AcceptedTablet) → AreLeft lefts commits bs
+lefts-more : (lefts : List (Vec Held Global)) (left : Vec Held Global) (commits : List Commit) (bs : List AcceptedTablet) (b : AcceptedTablet) → AreLeft lefts commits bs
     → ((n h : ℕ) → is_held left.items n h ≡ (is_some (time_of commits n) && (holds b.header h && waits_by n (writes_at h) false (line_above (bs ++ b ∷ []) h)))) → AreLeft (lefts ++ left ∷ []) commits (bs ++ b ∷ [])
 lefts-more lefts left commits bs b a l = record {
   count = length-append lefts (left ∷ []) ∙ ap (λ k. k + 1) a.count ∙ sym (length-append bs (b ∷ []));
@@ -232,7 +188,7 @@ lefts-more lefts left commits bs b a l = record {
         none e = cc
 
 -- the cases with those of the next tablet
-cases-next : (ts : List Tablet) (commits : Commits) (bs : List AcceptedTablet) (b : AcceptedTablet) (rest : List AcceptedTablet) (lefts : List (Vec Held Global)) → accepted_tablets (of_tablets ts) ≡ bs ++ b ∷ rest → IsTree (bs ++ b ∷ rest)
+cases-next : (ts : List Tablet) (commits : List Commit) (bs : List AcceptedTablet) (b : AcceptedTablet) (rest : List AcceptedTablet) (lefts : List (Vec Held Global)) → accepted_tablets (of_tablets ts) ≡ bs ++ b ∷ rest → IsTree (bs ++ b ∷ rest)
     → AreLeft lefts commits bs → Each (OwnIn b.header) b.records → accepted_from b.start b.records ≡ b.records → (n : ℕ)
     → cases_of (of_tablets ts) commits (bs ++ b ∷ []) n ≡ with_cases b.header.id (λ n. option_and_then (λ c. kind_at_end c (seen_at_end b.header (held_from lefts b.header.parent) b.records n c)) (time_of commits n)) (cases_of (of_tablets ts) commits bs) n
 cases-next ts commits bs b rest lefts all tree a own order n = go (time_of commits n) refl
@@ -252,7 +208,7 @@ unfolding accepted_tablets
 tree-of ts s = refl
 
 -- one tablet more
-pub tablet-more : (ts : List Tablet) (i : ℕ) (t : Tablet) (run : Run) (commits : Commits) (lefts after : List (Vec Held Global)) (left : Vec Held Global) (found : Option Found) (first next : Option Case)
+pub tablet-more : (ts : List Tablet) (i : ℕ) (t : Tablet) (run : Run) (commits : List Commit) (lefts after : List (Vec Held Global)) (left : Vec Held Global) (found : Option Found) (first next : Option Case)
     → IsSound ts → i < length ts → t ≡ get_or ts i t → IsRun run (accepted_tablet_after (accepted_tablets_after [] (take i ts)) t) t → AreLeft lefts commits (accepted_tablets_after [] (take i ts))
     → IsFirst first (cases_of (of_tablets ts) commits (accepted_tablets_after [] (take i ts)))
     → (HoldsCommits (held_from lefts t.header.parent) commits → IsEnd found commits (seen_at_end t.header (held_from lefts t.header.parent) (take run.walk.accepted t.records)))
@@ -279,7 +235,7 @@ tablet-more ts i t run commits lefts after left found first next s below is r a 
     (subst (λ xs. AreLeft after commits xs) (sym one) (subst (λ xs. AreLeft xs commits (bs ++ b ∷ [])) (sym more_left) lefts_now), subst (λ xs. IsFirst next (cases_of (of_tablets ts) commits xs)) (sym one) first_now)
 
 -- the same, where what the tablets before left is seen as a slice
-pub tablet-next : (ts : List Tablet) (i : ℕ) (t : Tablet) (run : Run) (commits : Commits) (lefts now after : List (Vec Held Global)) (left : Vec Held Global) (found : Option Found) (first next : Option Case)
+pub tablet-next : (ts : List Tablet) (i : ℕ) (t : Tablet) (run : Run) (commits : List Commit) (lefts now after : List (Vec Held Global)) (left : Vec Held Global) (found : Option Found) (first next : Option Case)
     → now ≡ lefts → IsSound ts → i < length ts → t ≡ get_or ts i t → IsRun run (accepted_tablet_after (accepted_tablets_after [] (take i ts)) t) t → AreLeft lefts commits (accepted_tablets_after [] (take i ts))
     → IsFirst first (cases_of (of_tablets ts) commits (accepted_tablets_after [] (take i ts)))
     → (HoldsCommits (held_from now t.header.parent) commits → IsEnd found commits (seen_at_end t.header (held_from now t.header.parent) (take run.walk.accepted t.records)))

@@ -5,7 +5,8 @@ ghost use Rattle.xc_agree.specs.Runs.{end_from};
 
 use crate::audit::{AgreeFail, Audit, End, EndState, Ends};
 use crate::run::{Run, run_tablets};
-use crate::tablets::{first_case, note_commits};
+use crate::tablets::first_case;
+use crate::tally::note_commits;
 use std::alloc::{AllocError, Global};
 use xc_logs::LogSet;
 
@@ -63,10 +64,10 @@ pub fn agree(alloc: Global, logs: &LogSet) -> Result<Audit, AgreeFail>
     let Ok(runs) = run_tablets(alloc, tablets) else {
         return Err(AgreeFail::NoMemory);
     };
-    let Ok(commits) = note_commits(alloc, tablets, runs.as_slice()) else {
+    let Ok(tally) = note_commits(alloc, tablets, runs.as_slice()) else {
         return Err(AgreeFail::NoMemory);
     };
-    let Ok(first) = first_case(alloc, tablets, runs.as_slice(), &commits) else {
+    let Ok(first) = first_case(alloc, tablets, runs.as_slice(), &tally.commits) else {
         return Err(AgreeFail::NoMemory);
     };
     if let Some(case) = first {
@@ -80,7 +81,7 @@ pub fn agree(alloc: Global, logs: &LogSet) -> Result<Audit, AgreeFail>
         Err(_) => Err(AgreeFail::NoMemory),
         Ok(ends) => Ok(Audit {
             ends,
-            commits: commits.count(),
+            commits: tally.count,
         }),
     }
 }

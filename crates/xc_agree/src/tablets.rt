@@ -3,28 +3,14 @@ ghost use Rattle.std.specs.Prelude.{IfOk, IsTrue, []};
 ghost use Rattle.xc_record.specs.Accepted.{accepted_tablets_after};
 ghost use Rattle.xc_record.specs.Valid.{is_valid};
 ghost use Rattle.xc_agree.specs.Runs.{IsRuns};
-ghost use Rattle.xc_agree.specs.Tally.{AreCommits};
-ghost use Rattle.xc_agree.specs.Cases.{IsFirst, cases_of, of_tablets, all_records};
+ghost use Rattle.xc_agree.specs.Cases.{IsFirst, cases_of, of_tablets};
 
-use crate::cases::{Case, accepted_part, first_of, judge_tablet};
+use crate::cases::{Case, first_of, judge_tablet};
 use crate::commits::Commits;
 use crate::judge::Judged;
 use crate::run::Run;
 use std::alloc::{AllocError, Global};
 use xc_record::Tablet;
-
-/// The commits of all accepted records.
-pub fn note_commits(alloc: Global, tablets: &[Tablet], runs: &[Run]) -> Result<Commits, AllocError>
-    requires runs { IsRuns runs.now (accepted_tablets_after [] tablets.now) tablets.now }
-    requires valid { IsTrue (is_valid (of_tablets tablets.now)) }
-    ensures { IfOk result (λ commits. AreCommits commits (all_records (accepted_tablets_after [] tablets.now))) }
-{
-    let mut commits = Commits::new(alloc);
-    for i in 0..tablets.len() {
-        commits.add_all(accepted_part(&tablets[i], &runs[i]))?;
-    }
-    Ok(commits)
-}
 
 /// The first case of disagreement.
 pub fn first_case(

@@ -27,7 +27,7 @@ use Rattle.xc_agree.specs.Tally.{first_commit, writes, applied_in, IsTally}
 use Rattle.xc_agree.specs.declared.audit.Audit.{Audit}
 use Rattle.xc_agree.specs.Audit.{end_of, state_of, IsAudit}
 use Rattle.xc_agree.specs.Cases.{IsFirst, case_of, cases_of, of_tablets, all_records}
-use Rattle.xc_agree.proofs.TallyLaws.{has, has-distinct, has-applied, Rising, distinct-rising, first-append, filter_map-append}
+use Rattle.xc_agree.proofs.TallyLaws.{has, has-distinct, has-applied, Rising, distinct-rising, first-append, filter_map-append, writes-append}
 
 -- ---- the ends
 
@@ -101,9 +101,6 @@ writes-cons r rs tablet ih = go (write_ops r.kind)
 writes-in : (tablet : ℕ) (rs : List Record) → length (writes_in tablet rs) ≡ writes rs
 writes-in tablet [] = refl
 writes-in tablet (r ∷ rs) = writes-cons r rs tablet (writes-in tablet rs)
-
-writes-append : (xs ys : List Record) → writes (xs ++ ys) ≡ writes xs + writes ys
-writes-append xs ys = ap length (filter_map-append (λ (r : Record). write_ops r.kind) xs ys) ∙ length-append (filter_map (λ r. write_ops r.kind) xs) (filter_map (λ r. write_ops r.kind) ys)
 
 writes-flat : (bs : List AcceptedTablet) → length (flat_map (λ b. writes_in b.header.id b.records) bs) ≡ writes (all_records bs)
 writes-flat [] = refl

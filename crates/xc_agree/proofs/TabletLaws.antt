@@ -1,6 +1,6 @@
 -- Laws of the tablets one by one: the commits so far, what was left waiting, and the first case so far.
-use Rattle.std.proofs.Common.{◌≡◌, ℕ, zero, suc, ◌+◌, ◌<◌, ◌≤◌, ◌^◌, Bool, true, false, List, [], ◌∷◌, ◌++◌, length, take, drop, get_or, sum_by, refl, ap, sym, ◌∙◌, subst, arith, append_assoc, length-append}
-use Rattle.std.proofs.lemmas.List.{append-nil, take_more}
+use Rattle.std.proofs.Common.{◌≡◌, ℕ, zero, suc, ◌+◌, ◌<◌, ◌≤◌, Bool, true, false, List, [], ◌∷◌, ◌++◌, length, take, drop, get_or, refl, ap, sym, ◌∙◌, subst, arith, append_assoc, length-append}
+use Rattle.std.proofs.lemmas.List.{append-nil}
 use Rattle.std.specs.Prelude.{Option, Some, None, ◌&&◌, slice_get, flat_map, if◌then◌else◌, is_some, option_map, option_and_then, fold}
 use Rattle.std.specs.Option.{option_map_or}
 use Rattle.std.specs.declared.vec.Vec.{Vec}
@@ -24,14 +24,14 @@ use Rattle.xc_agree.specs.Runs.{IsRun}
 use Rattle.xc_agree.specs.Slots.{time_of}
 use Rattle.xc_agree.specs.Seen.{unseen, see, waits_from, kind_at_end, IsLeast, IsEnd}
 use Rattle.xc_agree.specs.Held.{is_held, writes_at, waits_by, IsLeft, HoldsCommits, seen_at_end}
-use Rattle.xc_agree.specs.Cases.{IsFirst, with_cases, case_of, held_from, items_of, line_through, AreLeft, cases_of, of_tablets, all_records}
+use Rattle.xc_agree.specs.Cases.{IsFirst, with_cases, case_of, held_from, items_of, line_through, AreLeft, cases_of, of_tablets}
 use Rattle.xc_agree.proofs.RunLaws.{tablets-more}
 use Rattle.xc_agree.proofs.TallyLaws.{first-append}
 use Rattle.xc_agree.proofs.WaitLaws.{waits-append}
 use Rattle.xc_agree.proofs.EndLaws.{differs-all, late-all, aborted-all, straggles, any_op, stands, stands-all}
 use Rattle.xc_agree.proofs.TreeLaws.{IsTree, at_hash, EndsAt, Before, Within, above_root, above_child, valid-tree}
 use Rattle.xc_agree.proofs.StragglerLaws.{OwnIn, line_above, straggler-held, nothing-waits}
-use Rattle.xc_agree.proofs.SplitLaws.{around, get-middle, IsSound, more, sum-at, sum-cons, own-here}
+use Rattle.xc_agree.proofs.SplitLaws.{around, get-middle, IsSound, more, own-here}
 use Rattle.xc_agree.proofs.Steps.{take_past}
 
 -- ---- the kind at a tablet

@@ -2,6 +2,7 @@
 use Rattle.std.proofs.Common.{◌≡◌, ℕ, ◌+◌, ◌<◌, ◌≤◌, Bool, true, false, cond, ◌||◌, List, [], ◌∷◌, ◌++◌, length, map, refl, ap, sym, ◌∙◌, arith}
 use Rattle.std.proofs.Common.{length-append}
 use Rattle.std.proofs.lemmas.Bool.Decides.{nat_tests}
+pub use Rattle.std.proofs.lemmas.List.Elements.{filter_map-append}
 use Rattle.std.specs.Prelude.{Option, Some, None, nat_lt, ◌==◌, is_some}
 use Rattle.std.specs.List.{list_any, filter_map, cons_option}
 use Rattle.xc_record.specs.declared.record.Kind.{Kind}
@@ -51,17 +52,9 @@ pub distinct-within : (ns : List ℕ) → length (distinct ns) ≤ length ns
 distinct-within [] = omega arith
 distinct-within (n ∷ ns) = omega (arith, insert-longer n (distinct ns), distinct-within ns)
 
-pub has-append : (n : ℕ) (xs ys : List ℕ) → has n (xs ++ ys) ≡ (has n xs || has n ys)
-has-append n [] ys = refl
-has-append n (x ∷ xs) ys = grind (arith, has-append n xs ys)
-
 pub first-append : {X Y : Type 0} (f : X → Option Y) (xs ys : List X) → first_some f (xs ++ ys) ≡ or_else (first_some f xs) (first_some f ys)
 first-append f [] ys = refl
 first-append f (x ∷ xs) ys = grind (arith, first-append f xs ys)
-
-pub filter_map-append : {X Y : Type 0} (f : X → Option Y) (xs ys : List X) → filter_map f (xs ++ ys) ≡ filter_map f xs ++ filter_map f ys
-filter_map-append f [] ys = refl
-filter_map-append f (x ∷ xs) ys = grind (arith, filter_map-append f xs ys)
 
 applies-txn : (n : ℕ) (kind : Kind) (ms : List ℕ) → has n (cons_option (applied_txn kind) ms) ≡ (is_some (applies n kind) || has n ms)
 applies-txn n (Apply txn commit) ms = grind (arith, nat_tests)

@@ -20,13 +20,14 @@ use Rattle.xc_agree.specs.declared.audit.EndState.TheVariants.{Unreached}
 use Rattle.xc_agree.specs.declared.cases.Case.{Case}
 use Rattle.xc_agree.specs.declared.run.Halt.{Halt}
 use Rattle.xc_agree.specs.declared.run.Run.{Run}
-use Rattle.xc_agree.specs.declared.commits.Commit.{Commit}
+use Rattle.xc_agree.specs.declared.tally.Tally.{Tally}
 use Rattle.xc_agree.specs.Runs.{IsRun, IsRuns, end_from, halt_state, halt_at}
-use Rattle.xc_agree.specs.Tally.{time_of, first_commit, writes, applied_in, AreCommits}
+use Rattle.xc_agree.specs.Slots.{time_of}
+use Rattle.xc_agree.specs.Tally.{first_commit, writes, applied_in, IsTally}
 use Rattle.xc_agree.specs.declared.audit.Audit.{Audit}
 use Rattle.xc_agree.specs.Audit.{end_of, state_of, IsAudit}
 use Rattle.xc_agree.specs.Cases.{IsFirst, case_of, cases_of, of_tablets, all_records}
-use Rattle.xc_agree.proofs.TallyLaws.{has, has-distinct, has-applied, Rising, distinct-rising, first-append, filter_map-append}
+use Rattle.xc_agree.proofs.TallyLaws.{has, has-distinct, has-applied, Rising, distinct-rising, first-append, filter_map-append, writes-append}
 
 -- ---- the ends
 
@@ -101,9 +102,6 @@ writes-in : (tablet : ℕ) (rs : List Record) → length (writes_in tablet rs) �
 writes-in tablet [] = refl
 writes-in tablet (r ∷ rs) = writes-cons r rs tablet (writes-in tablet rs)
 
-writes-append : (xs ys : List Record) → writes (xs ++ ys) ≡ writes xs + writes ys
-writes-append xs ys = ap length (filter_map-append (λ (r : Record). write_ops r.kind) xs ys) ∙ length-append (filter_map (λ r. write_ops r.kind) xs) (filter_map (λ r. write_ops r.kind) ys)
-
 writes-flat : (bs : List AcceptedTablet) → length (flat_map (λ b. writes_in b.header.id b.records) bs) ≡ writes (all_records bs)
 writes-flat [] = refl
 writes-flat (b ∷ bs) =
@@ -137,7 +135,7 @@ txns-here ts =
     (λ n h. ap (λ o. is_some o) (sym (commit-here ts n)) ∙ sym (has-applied n (all_records (accepted_tablets_after [] ts))) ∙ sym (has-distinct n (applied_in (all_records (accepted_tablets_after [] ts)))) ∙ ap (has n) (sym (applied-here ts)) ∙ h)
     ∙ ap length (applied-here ts)
 
-pub commits-here : (ts : List Tablet) (found : Commits) → AreCommits found (all_records (accepted_tablets_after [] ts)) → found.count ≡ length (commits (of_tablets ts))
+pub commits-here : (ts : List Tablet) (found : Tally) → IsTally found (all_records (accepted_tablets_after [] ts)) → found.count ≡ length (commits (of_tablets ts))
 unfolding commits
 commits-here ts found h =
     let a = length-sort commit_cmp (write_commits (of_tablets ts) ++ txn_commits (of_tablets ts)) in
@@ -164,17 +162,17 @@ none-first f (n ∷ ns) k = rw (k n) (none-first f ns k)
 abbrev case_at : Logs → ℕ → Option Disagreement
 case_at logs n = option_map_or (disagreement_on logs n) (commit_of logs n) None
 
-cases-here : (ts : List Tablet) (commits : List Commit) → AreCommits commits (all_records (accepted_tablets_after [] ts)) → (n : ℕ) → case_at (of_tablets ts) n ≡ cases_of (of_tablets ts) commits (accepted_tablets_after [] ts) n
+cases-here : (ts : List Tablet) (tally : Tally) → IsTally tally (all_records (accepted_tablets_after [] ts)) → (n : ℕ) → case_at (of_tablets ts) n ≡ cases_of (of_tablets ts) tally.commits (accepted_tablets_after [] ts) n
 unfolding disagreement_on
-cases-here ts commits h n = go (commit_of (of_tablets ts) n) (h.times n ∙ commit-here ts n)
+cases-here ts tally h n = go (commit_of (of_tablets ts) n) (h.times n ∙ commit-here ts n)
   where
-    go : (o : Option ℕ) → time_of commits n ≡ o → option_map_or (disagreement_on (of_tablets ts) n) o None ≡ cases_of (of_tablets ts) commits (accepted_tablets_after [] ts) n
+    go : (o : Option ℕ) → time_of tally.commits n ≡ o → option_map_or (disagreement_on (of_tablets ts) n) o None ≡ cases_of (of_tablets ts) tally.commits (accepted_tablets_after [] ts) n
     go None e = rw e refl
     go (Some c) e = rw e (ap (first_some (λ (b : AcceptedTablet). option_map (case_of n b.header.id) (kind_at (of_tablets ts) n c b))) (accepted-of ts))
 
-pub agrees-here : (ts : List Tablet) (commits : List Commit) → AreCommits commits (all_records (accepted_tablets_after [] ts)) → IsFirst None (cases_of (of_tablets ts) commits (accepted_tablets_after [] ts)) → disagreement (of_tablets ts) ≡ None
+pub agrees-here : (ts : List Tablet) (tally : Tally) → IsTally tally (all_records (accepted_tablets_after [] ts)) → IsFirst None (cases_of (of_tablets ts) tally.commits (accepted_tablets_after [] ts)) → disagreement (of_tablets ts) ≡ None
 unfolding disagreement
-agrees-here ts commits h f = none-first (case_at (of_tablets ts)) (applied (of_tablets ts)) (λ n. cases-here ts commits h n ∙ f n)
+agrees-here ts tally h f = none-first (case_at (of_tablets ts)) (applied (of_tablets ts)) (λ n. cases-here ts tally h n ∙ f n)
 
 has-case : (logs : Logs) (n : ℕ) (y : Disagreement) → case_at logs n ≡ Some y → has n (applied logs) ≡ true
 has-case logs n y e = go (commit_of logs n) refl e
@@ -183,30 +181,30 @@ has-case logs n y e = go (commit_of logs n) refl e
     go None f e = cc
     go (Some c) f e = commit-applied logs n c f
 
-pub disagrees-here : (ts : List Tablet) (commits : List Commit) (d : Case) → AreCommits commits (all_records (accepted_tablets_after [] ts)) → IsFirst (Some d) (cases_of (of_tablets ts) commits (accepted_tablets_after [] ts))
+pub disagrees-here : (ts : List Tablet) (tally : Tally) (d : Case) → IsTally tally (all_records (accepted_tablets_after [] ts)) → IsFirst (Some d) (cases_of (of_tablets ts) tally.commits (accepted_tablets_after [] ts))
     → disagreement (of_tablets ts) ≡ Some (case_of d.txn d.tablet d.kind)
 unfolding disagreement
-disagrees-here ts commits d h f =
-    let here : case_at (of_tablets ts) d.txn ≡ Some (case_of d.txn d.tablet d.kind) = cases-here ts commits h d.txn ∙ f.0 in
+disagrees-here ts tally d h f =
+    let here : case_at (of_tablets ts) d.txn ≡ Some (case_of d.txn d.tablet d.kind) = cases-here ts tally h d.txn ∙ f.0 in
     first-of-rising (case_at (of_tablets ts)) (case_of d.txn d.tablet d.kind) d.txn (applied (of_tablets ts))
-    (subst Rising (sym (applied-here ts)) (distinct-rising (applied_in (all_records (accepted_tablets_after [] ts))))) (has-case (of_tablets ts) d.txn (case_of d.txn d.tablet d.kind) here) here (λ m below. cases-here ts commits h m ∙ f.1 m below)
+    (subst Rising (sym (applied-here ts)) (distinct-rising (applied_in (all_records (accepted_tablets_after [] ts))))) (has-case (of_tablets ts) d.txn (case_of d.txn d.tablet d.kind) here) here (λ m below. cases-here ts tally h m ∙ f.1 m below)
 
 -- ---- the whole audit
 
-pub fails : (ts : List Tablet) (logs : Logs) (commits : List Commit) (first : Option Case) (d : Case) → ts ≡ logs.tablets → AreCommits commits (all_records (accepted_tablets_after [] ts))
-    → IsFirst first (cases_of (of_tablets ts) commits (accepted_tablets_after [] ts)) → first ≡ Some d → disagreement logs ≡ Some (case_of d.txn d.tablet d.kind)
-fails ts logs commits first d same h f is =
-    subst (λ l. disagreement l ≡ Some (case_of d.txn d.tablet d.kind)) (ap of_tablets same) (disagrees-here ts commits d h (subst (λ o. IsFirst o (cases_of (of_tablets ts) commits (accepted_tablets_after [] ts))) is f))
+pub fails : (ts : List Tablet) (logs : Logs) (tally : Tally) (first : Option Case) (d : Case) → ts ≡ logs.tablets → IsTally tally (all_records (accepted_tablets_after [] ts))
+    → IsFirst first (cases_of (of_tablets ts) tally.commits (accepted_tablets_after [] ts)) → first ≡ Some d → disagreement logs ≡ Some (case_of d.txn d.tablet d.kind)
+fails ts logs tally first d same h f is =
+    subst (λ l. disagreement l ≡ Some (case_of d.txn d.tablet d.kind)) (ap of_tablets same) (disagrees-here ts tally d h (subst (λ o. IsFirst o (cases_of (of_tablets ts) tally.commits (accepted_tablets_after [] ts))) is f))
 
-audits-tablets : (ts : List Tablet) (runs : List Run) (found : Commits) (first : Option Case) (a : Audit) → IsRuns runs (accepted_tablets_after [] ts) ts → AreCommits found (all_records (accepted_tablets_after [] ts))
-    → IsFirst first (cases_of (of_tablets ts) found (accepted_tablets_after [] ts)) → first ≡ None → a.ends ≡ map end_from runs → a.commits ≡ found.count → IsAudit (of_tablets ts) a
+audits-tablets : (ts : List Tablet) (runs : List Run) (found : Tally) (first : Option Case) (a : Audit) → IsRuns runs (accepted_tablets_after [] ts) ts → IsTally found (all_records (accepted_tablets_after [] ts))
+    → IsFirst first (cases_of (of_tablets ts) found.commits (accepted_tablets_after [] ts)) → first ≡ None → a.ends ≡ map end_from runs → a.commits ≡ found.count → IsAudit (of_tablets ts) a
 audits-tablets ts runs found first a r h f is ends count = record {
-  agrees = agrees-here ts found h (subst (λ o. IsFirst o (cases_of (of_tablets ts) found (accepted_tablets_after [] ts))) is f);
+  agrees = agrees-here ts found h (subst (λ o. IsFirst o (cases_of (of_tablets ts) found.commits (accepted_tablets_after [] ts))) is f);
   ends = λ s. ap (λ es. slice_get es s) ends ∙ ends-here ts runs r s;
   commits = count ∙ commits-here ts found h;
 }
 
-pub audits : (ts : List Tablet) (logs : Logs) (runs now : List Run) (found : Commits) (first : Option Case) (a : Audit) → ts ≡ logs.tablets → now ≡ runs → IsRuns runs (accepted_tablets_after [] ts) ts → AreCommits found (all_records (accepted_tablets_after [] ts))
-    → IsFirst first (cases_of (of_tablets ts) found (accepted_tablets_after [] ts)) → first ≡ None → a.ends ≡ map end_from now → a.commits ≡ found.count → IsAudit logs a
+pub audits : (ts : List Tablet) (logs : Logs) (runs now : List Run) (found : Tally) (first : Option Case) (a : Audit) → ts ≡ logs.tablets → now ≡ runs → IsRuns runs (accepted_tablets_after [] ts) ts → IsTally found (all_records (accepted_tablets_after [] ts))
+    → IsFirst first (cases_of (of_tablets ts) found.commits (accepted_tablets_after [] ts)) → first ≡ None → a.ends ≡ map end_from now → a.commits ≡ found.count → IsAudit logs a
 audits ts logs runs now found first a same slice r h f is ends count =
     subst (λ l. IsAudit l a) (ap of_tablets same) (audits-tablets ts runs found first a r h f is (ends ∙ ap (map end_from) slice) count)

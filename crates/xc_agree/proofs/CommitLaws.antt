@@ -1,14 +1,20 @@
 -- Laws of the slots of a list of commits.
-use Rattle.std.proofs.Common.{◌≡◌, ℕ, zero, suc, ◌+◌, ◌<◌, Bool, true, false, cond, List, [], ◌∷◌, length, get_or, refl, ap, sym, ◌∙◌, subst, arith}
-use Rattle.std.proofs.lemmas.Bool.{eqb-true, eq-eqb}
+use Rattle.std.proofs.Common.{◌≡◌, ◌≢◌, ℕ, zero, suc, ◌+◌, ◌<◌, ◌≤◌, Bool, true, false, List, [], ◌∷◌, length, map, get_or, refl, ap, sym, ◌∙◌, subst, arith}
+use Rattle.std.proofs.lemmas.Bool.{eqb-true, eq-eqb, ltb-true, ltb-false, lt-ltb, le-ltb}
 use Rattle.std.proofs.lemmas.Bool.Decides.{nat_tests}
+use Rattle.std.proofs.lemmas.List.{get_or-map, length-map}
+use Rattle.std.proofs.lemmas.List.Kept.{AllPairs-from_increasing}
 use Rattle.std.proofs.lemmas.List.Quantifiers.{position-Some}
-use Rattle.std.proofs.lemmas.Option.{get_or_from_slice_get}
-use Rattle.std.specs.Prelude.{Option, Some, None, if◌then◌else◌, ◌==◌, slice_get, option_map}
-use Rattle.std.specs.List.{position}
+use Rattle.std.proofs.lemmas.List.Sums.{position_or_len_is}
+use Rattle.std.proofs.lemmas.Option.{get_or_from_slice_get, slice_get_within, slice_get_read, slice_get-get_or}
+use Rattle.std.specs.Prelude.{Option, Some, None, Result, Ok, Err, IsTrue, ◌↔◌, if◌then◌else◌, ◌==◌, nat_lt, slice_get, option_map}
+use Rattle.std.specs.List.Sorted.{IsNonDecreasingBy, IsPartitionPoint, IsBinarySearchResult, IsSearchInRange}
+use Rattle.std.specs.Ordering.{nat_cmp, ordering_index}
+use Rattle.std.specs.Result.{result_ok}
+use Rattle.std.specs.declared.cmp.Ordering.TheVariants.{Less, Equal, Greater}
 use Rattle.xc_record.specs.Lists.{or_else}
 use Rattle.xc_agree.specs.declared.commits.Commit.{Commit}
-use Rattle.xc_agree.specs.Slots.{slot_of, time_at, time_of}
+use Rattle.xc_agree.specs.Slots.{slot_of, time_of, Rises}
 
 pub slot-below : (cs : List Commit) (n i : ℕ) → slot_of cs n ≡ Some i → i < length cs
 slot-below cs n i e = (position-Some (λ c. c.txn == n) cs i (record { txn = 0; time = 0 }) e).0
@@ -70,3 +76,70 @@ slots-differ cs n m i e f = sym (at n e) ∙ at m f
 
     at : (k : ℕ) → slot_of cs k ≡ Some i → (get_or cs i none).txn ≡ k
     at k e = eqb-true (get_or cs i none).txn k (position-Some (λ c. c.txn == k) cs i none e).1
+
+-- ---- where the transactions rise
+
+txn-at : (cs : List Commit) (i : ℕ) (d : Commit) → i < length cs → get_or (map (λ c. c.txn) cs) i 0 ≡ (get_or cs i d).txn
+txn-at cs i d h = get_or-map (λ (c : Commit). c.txn) cs i d 0 h
+
+txn-below : (cs : List Commit) → Rises cs → (i j : ℕ) (d : Commit) → i < j → j < length cs → (get_or cs i d).txn < (get_or cs j d).txn
+txn-below cs rises i j d h below =
+    let pairs = AllPairs-from_increasing (map (λ c. c.txn) cs) rises i j 0 h (rw length-map below) in
+    omega (arith, pairs, txn-at cs i d (omega arith), txn-at cs j d below)
+
+pub slot-here : (cs : List Commit) (n i : ℕ) (c : Commit) → Rises cs → slice_get cs i ≡ Some c → c.txn ≡ n → slot_of cs n ≡ Some i
+slot-here cs n i c rises e f = rw (position_or_len_is (λ c. c.txn == n) cs i c (omega (arith, slice_get_within cs i c e)) before (λ _. rw (get_or_from_slice_get cs i c c e) (eq-eqb c.txn n f)), lt-ltb i (length cs) within) refl
+  where
+    within : i < length cs
+    within = slice_get_within cs i c e
+
+    before : (k : ℕ) → k < i → ((get_or cs k c).txn == n) ≡ false
+    before k h = grind (arith, nat_tests, txn-below cs rises k i c h within, get_or_from_slice_get cs i c c e)
+
+-- what a read of a slot says
+pub slot-read : (cs : List Commit) (n i : ℕ) (c : Commit) → Rises cs → i < length cs → c ≡ get_or cs i c → IsTrue (c.txn == n) ↔ (slot_of cs n ≡ Some i)
+slot-read cs n i c rises below is =
+    let e : slice_get cs i ≡ Some c = slice_get_read cs (length cs) i c refl below is in
+    (λ same. slot-here cs n i c rises e (eqb-true c.txn n same), λ f. eq-eqb c.txn n (slot-at cs n i c f e))
+
+slot-absent : (cs : List Commit) (n : ℕ) → ((k : ℕ) (d : Commit) → k < length cs → (get_or cs k d).txn ≢ n) → slot_of cs n ≡ None
+slot-absent cs n absent = rw (position_or_len_is (λ c. c.txn == n) cs (length cs) none (omega arith) (λ k h. apart k h) (λ h. absurd (omega arith)), le-ltb (length cs) (length cs) (omega arith)) refl
+  where
+    none : Commit
+    none = record { txn = 0; time = 0 }
+
+    apart : (k : ℕ) → k < length cs → ((get_or cs k none).txn == n) ≡ false
+    apart k h = grind (arith, nat_tests, absent k none h)
+
+txn-rank : (a b n : ℕ) → a ≤ b → ordering_index (nat_cmp a n) ≤ ordering_index (nat_cmp b n)
+txn-rank a b n h = grind (arith, nat_tests)
+
+txn-ordered : (cs : List Commit) → Rises cs → (n : ℕ) → IsNonDecreasingBy (λ c. ordering_index (nat_cmp c.txn n)) cs
+txn-ordered cs rises n i j d h below = txn-rank (get_or cs i d).txn (get_or cs j d).txn n (go (nat_lt i j) refl)
+  where
+    go : (b : Bool) → nat_lt i j ≡ b → (get_or cs i d).txn ≤ (get_or cs j d).txn
+    go true e = let lt = txn-below cs rises i j d (ltb-true i j e) below in omega arith
+    go false e = let same : i ≡ j = omega (arith, ltb-false i j e) in rw same (omega arith)
+
+cmp-equal : (a b : ℕ) → nat_cmp a b ≡ Equal → a ≡ b
+cmp-equal a b e = grind (arith, nat_tests)
+
+cmp-apart : (a b : ℕ) → (nat_cmp a b ≡ Equal → ⊥) → a ≢ b
+cmp-apart a b e = grind (arith, nat_tests)
+
+-- what a binary search answers
+pub slot-searched : (cs : List Commit) (n : ℕ) (r : Result ℕ ℕ) → Rises cs → IsSearchInRange r (length cs) → IsBinarySearchResult (λ c. nat_cmp c.txn n) cs r → result_ok r ≡ slot_of cs n
+slot-searched cs n (Ok i) rises below h =
+    let none : Commit = record { txn = 0; time = 0 } in
+    sym (slot-here cs n i (get_or cs i none) rises (slice_get-get_or cs i none below) (cmp-equal (get_or cs i none).txn n (h none)))
+slot-searched cs n (Err i) rises below h = sym (slot-absent cs n absent)
+  where
+    parted : IsPartitionPoint (λ c. nat_cmp c.txn n ≡ Less) (λ c. nat_cmp c.txn n ≡ Greater) cs i
+    parted = h (txn-ordered cs rises n)
+
+    absent : (k : ℕ) (d : Commit) → k < length cs → (get_or cs k d).txn ≢ n
+    absent k d below = go (nat_lt k i) refl
+      where
+        go : (b : Bool) → nat_lt k i ≡ b → (get_or cs k d).txn ≢ n
+        go true e = let less : nat_cmp (get_or cs k d).txn n ≡ Less = parted.0 k d (omega arith) (ltb-true k i e) in cmp-apart (get_or cs k d).txn n (λ f. cc)
+        go false e = let more : nat_cmp (get_or cs k d).txn n ≡ Greater = parted.1 k d (ltb-false k i e) below in cmp-apart (get_or cs k d).txn n (λ f. cc)

@@ -3,6 +3,7 @@ pub mod RunLaws
 pub mod CommitLaws
 pub mod TallyLaws
 pub mod SlotLaws
+pub mod ApplyLaws
 pub mod LookLaws
 pub mod BeginLaws
 pub mod HeldLaws
@@ -13,5 +14,6 @@ pub mod KeyLaws
 pub mod OpLaws
 pub mod StragglerLaws
 pub mod SplitLaws
+pub mod NoteLaws
 pub mod TabletLaws
 pub mod AuditLaws

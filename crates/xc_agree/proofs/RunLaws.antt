@@ -89,3 +89,8 @@ add_run runs more ts i t run start before rs below is h same begins all r e =
     next_run runs (accepted_tablets_after [] (take i ts)) (take i ts) t run h (subst (λ s. IsRunOf run s t.records) (begins ∙ ap (λ x. start_from x t.header.parent) same) (subst (λ x. IsRunOf run start x) all r)) in
     let one : take (i + 1) ts ≡ take i ts ++ t ∷ [] = take_more ts i t below ∙ ap (λ u. take i ts ++ u ∷ []) (sym is) in
     rw (e, one, accepted_tablets-snoc [] (take i ts) t) (IsRuns-snoc runs (accepted_tablets_after [] (take i ts)) (take i ts) run (accepted_tablet_after (accepted_tablets_after [] (take i ts)) t) t h next)
+
+-- the accepted tablets of one tablet more
+pub tablets-more : (ts : List Tablet) (i : ℕ) (t : Tablet) → i < length ts → t ≡ get_or ts i t
+    → accepted_tablets_after [] (take (i + 1) ts) ≡ accepted_tablets_after [] (take i ts) ++ accepted_tablet_after (accepted_tablets_after [] (take i ts)) t ∷ []
+tablets-more ts i t h e = ap (accepted_tablets_after []) (take_more ts i t h ∙ ap (λ u. take i ts ++ u ∷ []) (sym e)) ∙ accepted_tablets-snoc [] (take i ts) t

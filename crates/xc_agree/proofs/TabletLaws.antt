@@ -1,6 +1,6 @@
 -- Laws of the tablets one by one: the commits so far, what was left waiting, and the first case so far.
-use Rattle.std.proofs.Common.{◌≡◌, ℕ, zero, suc, ◌+◌, ◌<◌, ◌≤◌, ◌^◌, Bool, true, false, List, [], ◌∷◌, ◌++◌, length, take, drop, get_or, sum_by, refl, ap, sym, ◌∙◌, subst, arith, append_assoc, length-append}
-use Rattle.std.proofs.lemmas.List.{append-nil, take_more}
+use Rattle.std.proofs.Common.{◌≡◌, ℕ, zero, suc, ◌+◌, ◌<◌, ◌≤◌, Bool, true, false, List, [], ◌∷◌, ◌++◌, length, take, drop, get_or, refl, ap, sym, ◌∙◌, subst, arith, append_assoc, length-append}
+use Rattle.std.proofs.lemmas.List.{append-nil}
 use Rattle.std.specs.Prelude.{Option, Some, None, ◌&&◌, slice_get, flat_map, if◌then◌else◌, is_some, option_map, option_and_then, fold}
 use Rattle.std.specs.Option.{option_map_or}
 use Rattle.std.specs.declared.vec.Vec.{Vec}
@@ -21,17 +21,17 @@ use Rattle.xc_agree.specs.declared.cases.Case.{Case}
 use Rattle.xc_agree.specs.declared.look.Found.{Found}
 use Rattle.xc_agree.specs.declared.commits.Commit.{Commit}
 use Rattle.xc_agree.specs.Runs.{IsRun}
-use Rattle.xc_agree.specs.Tally.{time_of, AreCommits}
+use Rattle.xc_agree.specs.Slots.{time_of}
 use Rattle.xc_agree.specs.Seen.{unseen, see, waits_from, kind_at_end, IsLeast, IsEnd}
 use Rattle.xc_agree.specs.Held.{is_held, writes_at, waits_by, IsLeft, HoldsCommits, seen_at_end}
-use Rattle.xc_agree.specs.Cases.{IsFirst, with_cases, case_of, held_from, items_of, line_through, AreLeft, cases_of, of_tablets, all_records}
-use Rattle.xc_agree.proofs.RunLaws.{accepted_tablets-snoc}
+use Rattle.xc_agree.specs.Cases.{IsFirst, with_cases, case_of, held_from, items_of, line_through, AreLeft, cases_of, of_tablets}
+use Rattle.xc_agree.proofs.RunLaws.{tablets-more}
 use Rattle.xc_agree.proofs.TallyLaws.{first-append}
 use Rattle.xc_agree.proofs.WaitLaws.{waits-append}
 use Rattle.xc_agree.proofs.EndLaws.{differs-all, late-all, aborted-all, straggles, any_op, stands, stands-all}
 use Rattle.xc_agree.proofs.TreeLaws.{IsTree, at_hash, EndsAt, Before, Within, above_root, above_child, valid-tree}
 use Rattle.xc_agree.proofs.StragglerLaws.{OwnIn, line_above, straggler-held, nothing-waits}
-use Rattle.xc_agree.proofs.SplitLaws.{around, get-middle, IsSound, more, sum-at, sum-cons, own-here}
+use Rattle.xc_agree.proofs.SplitLaws.{around, get-middle, IsSound, more, own-here}
 use Rattle.xc_agree.proofs.Steps.{take_past}
 
 -- ---- the kind at a tablet
@@ -48,50 +48,6 @@ kind-here logs before b rest all tree n c held start own order =
     let w : Bool = waits_from b.header held n in
     let s : stands c (fold (see n c) (unseen w) b.records) ≡ straggler logs n c b = kind-seen n c w b.start b.records order ∙ sym (straggler-held logs before b rest all tree n c held start own) in
     rw (differs-all n c (unseen w) b.records, late-all n c (unseen w) b.records, aborted-all n c (unseen w) b.records, s) refl
-
--- ---- the commits so far
-
-flat-append : (bs cs : List AcceptedTablet) → all_records (bs ++ cs) ≡ all_records bs ++ all_records cs
-flat-append [] cs = refl
-flat-append (b ∷ bs) cs = ap (λ xs. b.records ++ xs) (flat-append bs cs) ∙ sym (append_assoc b.records (all_records bs) (all_records cs))
-
-pub records-snoc : (bs : List AcceptedTablet) (b : AcceptedTablet) → all_records (bs ++ b ∷ []) ≡ all_records bs ++ b.records
-records-snoc bs b = flat-append bs (b ∷ []) ∙ ap (λ xs. all_records bs ++ xs) (append-nil b.records)
-
-pub tablets-more : (ts : List Tablet) (i : ℕ) (t : Tablet) → i < length ts → t ≡ get_or ts i t
-    → accepted_tablets_after [] (take (i + 1) ts) ≡ accepted_tablets_after [] (take i ts) ++ accepted_tablet_after (accepted_tablets_after [] (take i ts)) t ∷ []
-tablets-more ts i t h e = ap (accepted_tablets_after []) (take_more ts i t h ∙ ap (λ u. take i ts ++ u ∷ []) (sym e)) ∙ accepted_tablets-snoc [] (take i ts) t
-
-length-kept : (run : Run) (b : AcceptedTablet) (t : Tablet) → IsRun run b t → length (take run.walk.accepted t.records) ≤ length t.records
-length-kept run b t h = go run.walk.accepted t.records
-  where
-    go : (k : ℕ) (xs : List Record) → length (take k xs) ≤ length xs
-    go zero xs = omega arith
-    go (suc k) [] = omega arith
-    go (suc k) (x ∷ xs) = let r = go k xs in omega arith
-
-pub note-bound : (ts : List Tablet) (i count : ℕ) (t : Tablet) (run : Run) (b : AcceptedTablet) (rs : List Record) → IsSound ts → IsRun run b t → i < length ts → t ≡ get_or ts i t → rs ≡ take run.walk.accepted t.records
-    → count ≤ sum_by (λ t. length t.records) (take i ts) → count + length rs < 2 ^ 63
-note-bound ts i count t run b rs s h below is e le =
-    let k = sum-at ts i t below is in
-    let m : length rs ≤ length t.records = subst (λ xs. length xs ≤ length t.records) (sym e) (length-kept run b t h) in
-    omega (arith, s.records)
-
-pub note-more : (ts : List Tablet) (i : ℕ) (t : Tablet) (run : Run) (old new : Commits) (rs : List Record) → IsRun run (accepted_tablet_after (accepted_tablets_after [] (take i ts)) t) t → i < length ts → t ≡ get_or ts i t
-    → rs ≡ take run.walk.accepted t.records → old.count ≤ sum_by (λ t. length t.records) (take i ts) → AreCommits old (all_records (accepted_tablets_after [] (take i ts))) → new.count ≤ old.count + length rs
-    → ((rs' : List Record) → AreCommits old rs' → AreCommits new (rs' ++ rs))
-    → (new.count ≤ sum_by (λ t. length t.records) (take (i + 1) ts)) × AreCommits new (all_records (accepted_tablets_after [] (take (i + 1) ts)))
-note-more ts i t run old new rs h below is e le k bound step =
-    let bs : List AcceptedTablet = accepted_tablets_after [] (take i ts) in
-    let b : AcceptedTablet = accepted_tablet_after bs t in
-    let m : length rs ≤ length t.records = subst (λ xs. length xs ≤ length t.records) (sym e) (length-kept run b t h) in
-    let one : take (i + 1) ts ≡ take i ts ++ t ∷ [] = take_more ts i t below ∙ ap (λ u. take i ts ++ u ∷ []) (sym is) in
-    let sum : sum_by (λ t. length t.records) (take (i + 1) ts) ≡ sum_by (λ t. length t.records) (take i ts) + length t.records = ap (sum_by (λ (t : Tablet). length t.records)) one ∙ sum-snoc (take i ts) in
-    (omega arith, subst (AreCommits new) (sym (ap all_records (tablets-more ts i t below is) ∙ records-snoc bs b ∙ ap (λ xs. all_records bs ++ xs) (h.records ∙ sym e))) (step (all_records bs) k))
-  where
-    sum-snoc : (us : List Tablet) → sum_by (λ t. length t.records) (us ++ t ∷ []) ≡ sum_by (λ t. length t.records) us + length t.records
-    sum-snoc [] = omega (arith, sum-cons t [])
-    sum-snoc (u ∷ us) = let r = sum-snoc us in omega (arith, sum-cons u us, sum-cons u (us ++ t ∷ []))
 
 -- ---- what the parent held
 

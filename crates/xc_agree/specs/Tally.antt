@@ -1,16 +1,28 @@
 -- What commits by some records.
+--     commit_by kind      the commit of an apply
+--     applies_in rs      the commits of all applies among the records rs
 --     tally rs      how many writes and transactions commit by the records rs
 --     IsTally t rs      t has the commits of the records rs, and counts what commits
-use Rattle.std.specs.Prelude.{◌≡◌, ℕ, ◌+◌, List, Option, length}
+use Rattle.std.specs.Prelude.{◌≡◌, ℕ, ◌+◌, List, Option, Some, None, length}
 use Rattle.std.specs.List.{filter_map}
+use Rattle.xc_record.specs.declared.record.Kind.{Kind}
+use Rattle.xc_record.specs.declared.record.Kind.TheVariants.{Apply}
 use Rattle.xc_record.specs.declared.record.Record.{Record}
 use Rattle.xc_record.specs.Lists.{first_some}
 use Rattle.xc_record.specs.Commits.{applies, applied_txn, distinct, write_ops}
+use Rattle.xc_agree.specs.declared.commits.Commit.{Commit}
 use Rattle.xc_agree.specs.declared.tally.Tally.{Tally}
 use Rattle.xc_agree.specs.Slots.{time_of}
 
 abbrev pub first_commit : ℕ → List Record → Option ℕ
 first_commit n rs = first_some (λ r. applies n r.kind) rs
+
+abbrev pub commit_by : Kind → Option Commit
+commit_by (Apply txn commit) = Some (record { txn = txn; time = commit })
+commit_by _ = None
+
+abbrev pub applies_in : List Record → List Commit
+applies_in rs = filter_map (λ r. commit_by r.kind) rs
 
 abbrev pub writes : List Record → ℕ
 writes rs = length (filter_map (λ r. write_ops r.kind) rs)

@@ -1,7 +1,9 @@
 // The commits of the transactions that were applied.
-ghost use Rattle.std.specs.Prelude.{◌≡◌, ◌<◌, Some, length, slice_get};
-ghost use Rattle.xc_agree.specs.Slots.{slot_of};
+ghost use Rattle.std.specs.Prelude.{◌≡◌, ◌<◌, ◌↔◌, ℕ, Some, IfOk, IsTrue, length, map, slice_get};
+ghost use Rattle.xc_record.specs.Commits.{distinct};
+ghost use Rattle.xc_agree.specs.Slots.{slot_of, time_of};
 
+use std::alloc::AllocError;
 use std::marker::Model;
 
 /// A transaction that was applied, and its commit: that of its first apply.
@@ -30,6 +32,19 @@ impl Model for Commits {
 }
 
 impl Commits {
+    /// The commits by some applies, in whose order the first of a transaction is the one that counts.
+    ///
+    /// Applies whose transactions rise already need no memory.
+    pub fn of_applies(applies: Vec<Commit>) -> Result<Commits, AllocError>
+        ensures times { IfOk result (λ commits. (n : ℕ) → time_of commits n ≡ time_of applies.items n) }
+        ensures count { IfOk result (λ commits. length commits ≡ length (distinct (map (λ c. c.txn) applies.items))) }
+    {
+        let mut items = applies;
+        items.sort_by_key(|commit| commit.txn)?;
+        items.dedup_by_key(|commit| commit.txn);
+        Ok(Commits { items })
+    }
+
     /// How many transactions were applied.
     pub fn len(&self) -> usize
         ensures { result ≡ length self.now }
@@ -52,21 +67,39 @@ impl Commits {
         self.items.get(slot).copied()
     }
 
-    // The slot, where the transaction is in it.
-    fn is_at(&self, txn: u32, slot: usize) -> bool {
+    // Whether the transaction is in this slot.
+    fn is_at(&self, txn: u32, slot: usize) -> bool
+        ensures { IsTrue result ↔ (slot_of self.now txn ≡ Some slot) }
+    {
         match self.items.get(slot) {
             Some(commit) => commit.txn == txn,
             None => false,
         }
     }
 
-    /// The slot of the transaction, if it was applied. It is found at once where it is next to the slot `near`.
+    fn search(&self, txn: u32) -> Option<usize>
+        ensures { result ≡ slot_of self.now txn }
+    {
+        self.items
+            .as_slice()
+            .binary_search_by_key(&txn, |commit| commit.txn)
+            .ok()
+    }
+
+    /// The slot of the transaction, if it was applied. It is found at once in the slot `near` and beside it.
     pub fn slot(&self, txn: u32, near: usize) -> Option<usize>
         ensures { result ≡ slot_of self.now txn }
     {
-        match self.items.as_slice().binary_search_by_key(&txn, |commit| commit.txn) {
-            Ok(slot) => Some(slot),
-            Err(_) => None,
+        let next = near.saturating_add(1);
+        let previous = near.saturating_sub(1);
+        if self.is_at(txn, near) {
+            Some(near)
+        } else if self.is_at(txn, next) {
+            Some(next)
+        } else if self.is_at(txn, previous) {
+            Some(previous)
+        } else {
+            self.search(txn)
         }
     }
 }

@@ -1,7 +1,0 @@
-use Rattle.xc_agree.proofs.commits.Commits.slot.Goals as goal
-
-pub returns-in-Ok : goal.returns-in-Ok
-returns-in-Ok c = ?
-
-pub returns-in-Err : goal.returns-in-Err
-returns-in-Err c = ?

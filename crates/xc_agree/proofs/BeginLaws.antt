@@ -1,20 +1,18 @@
 -- Laws of a tablet's begin, where what its parent held begins to wait, and of the clearing at its end.
-use Rattle.std.proofs.Common.{◌≡◌, ℕ, ◌+◌, ◌<◌, Bool, true, false, ◌||◌, List, [], ◌∷◌, ◌++◌, length, take, get_or, zero, suc, refl, ap, sym, ◌∙◌, subst, arith}
+use Rattle.std.proofs.Common.{◌≡◌, ℕ, ◌+◌, ◌<◌, Bool, true, false, ◌||◌, List, [], ◌∷◌, ◌++◌, length, take, get_or, zero, suc, refl, ap, sym, ◌∙◌, arith}
 use Rattle.std.proofs.lemmas.Bool.{eqb-true, eq-eqb}
 use Rattle.std.proofs.lemmas.Bool.Decides.{nat_tests}
 use Rattle.std.proofs.lemmas.List.Folds.{list_any_more, list_any-append}
 use Rattle.std.specs.Prelude.{Option, Some, None, if◌then◌else◌, ◌==◌, ◌&&◌, option_and_then, is_some, slice_set}
-use Rattle.std.specs.List.{list_any, list_all}
-use Rattle.std.specs.Option.{option_map_or}
+use Rattle.std.specs.List.{list_all}
 use Rattle.xc_record.specs.declared.record.Header.{Header}
 use Rattle.xc_record.specs.Hash.{holds}
 use Rattle.xc_record.specs.Lists.{or_else}
 use Rattle.xc_agree.specs.declared.commits.Commit.{Commit}
 use Rattle.xc_agree.specs.declared.held.Held.{Held}
-use Rattle.xc_agree.specs.declared.look.Found.{Found}
 use Rattle.xc_agree.specs.declared.look.Look.{Look}
 use Rattle.xc_agree.specs.declared.look.Waiter.{Waiter}
-use Rattle.xc_agree.specs.Slots.{slot_of, time_of}
+use Rattle.xc_agree.specs.Slots.{slot_of}
 use Rattle.xc_agree.specs.Seen.{unseen, Seen, waits_from, waits_at, since_at, since_in, is_slot_of, is_in_slot, AreInSlots, Began, IsIdle, IsLook, KeepsPlace}
 use Rattle.xc_agree.specs.Held.{InSlots}
 use Rattle.xc_agree.proofs.CommitLaws.{slot-below, no-time}

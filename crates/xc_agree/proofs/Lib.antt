@@ -15,5 +15,6 @@ pub mod OpLaws
 pub mod StragglerLaws
 pub mod SplitLaws
 pub mod NoteLaws
+pub mod ChildLaws
 pub mod TabletLaws
 pub mod AuditLaws

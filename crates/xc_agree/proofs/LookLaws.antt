@@ -27,7 +27,7 @@ use Rattle.xc_agree.specs.declared.commits.Commit.{Commit}
 use Rattle.xc_agree.specs.Slots.{time_of, slot_of}
 use Rattle.xc_agree.proofs.SlotLaws.{slot-at-item}
 use Rattle.xc_agree.proofs.CommitLaws.{slot-below, slots-differ, time-at-slot}
-use Rattle.xc_agree.specs.Seen.{Seen, see, pends, passes, settles, see_kind, kind_of, kind_seen, earlier, IsLeast, with_kind, IsLeastWith, since_at, since_in, pends_at, pends_in, is_in_slot, AreInSlots, IsIdle, IsLook, Takes, Began, IsEnd, waits_from, unseen, kind_at_end, kind_tried, is_among}
+use Rattle.xc_agree.specs.Seen.{Seen, see, pends, passes, settles, see_kind, kind_of, kind_seen, earlier, IsLeast, with_kind, IsLeastWith, since_at, since_in, pends_at, pends_in, is_in_slot, AreInSlots, IsLook, Takes, Began, IsEnd, waits_from, unseen, kind_at_end, kind_tried, is_among}
 
 -- found goes by the kinds alone
 pub least-same : (found : Option Found) (kinds more : ℕ → Option AgreeKind) → ((n : ℕ) → more n ≡ kinds n) → IsLeast found kinds → IsLeast found more

@@ -1,7 +1,10 @@
 -- Laws of the tablets one by one: the commits so far, what was left waiting, and the first case so far.
 use Rattle.std.proofs.Common.{◌≡◌, ℕ, zero, suc, ◌+◌, ◌<◌, ◌≤◌, Bool, true, false, List, [], ◌∷◌, ◌++◌, length, take, drop, get_or, refl, ap, sym, ◌∙◌, subst, arith, append_assoc, length-append}
 use Rattle.std.proofs.lemmas.List.{append-nil}
-use Rattle.std.specs.Prelude.{Option, Some, None, ◌&&◌, slice_get, flat_map, if◌then◌else◌, is_some, option_map, option_and_then, fold}
+use Rattle.std.proofs.lemmas.Option.{slice_get-get_or, slice_get_within, slice_get_past, slice_get_read}
+use Rattle.std.proofs.lemmas.Bool.Decides.{nat_tests}
+use Rattle.std.specs.List.{list_all}
+use Rattle.std.specs.Prelude.{Option, Some, None, ◌&&◌, ◌==◌, nat_le, nat_lt, slice_get, flat_map, if◌then◌else◌, is_some, option_map, option_and_then, fold}
 use Rattle.std.specs.Option.{option_map_or}
 use Rattle.std.specs.declared.vec.Vec.{Vec}
 use Rattle.std.specs.declared.alloc.Global.{Global}
@@ -22,17 +25,17 @@ use Rattle.xc_agree.specs.declared.look.Found.{Found}
 use Rattle.xc_agree.specs.declared.commits.Commit.{Commit}
 use Rattle.xc_agree.specs.Runs.{IsRun}
 use Rattle.xc_agree.specs.Slots.{time_of}
-use Rattle.xc_agree.specs.Seen.{unseen, see, waits_from, kind_at_end, IsLeast, IsEnd}
-use Rattle.xc_agree.specs.Held.{is_held, writes_at, waits_by, IsLeft, HoldsCommits, seen_at_end}
-use Rattle.xc_agree.specs.Cases.{IsFirst, with_cases, case_of, held_from, items_of, line_through, AreLeft, cases_of, of_tablets}
+use Rattle.xc_agree.specs.Seen.{unseen, see, waits_from, is_in_slot, kind_at_end, IsLeast, IsEnd}
+use Rattle.xc_agree.specs.Held.{is_held, writes_at, waits_by, IsLeft, InSlots, seen_at_end}
+use Rattle.xc_agree.specs.Cases.{IsFirst, with_cases, case_of, held_from, left_of, items_of, line_through, AreLast, AreLeft, is_done, Drops, cases_of, of_tablets}
 use Rattle.xc_agree.proofs.RunLaws.{tablets-more}
 use Rattle.xc_agree.proofs.TallyLaws.{first-append}
 use Rattle.xc_agree.proofs.WaitLaws.{waits-append}
 use Rattle.xc_agree.proofs.EndLaws.{differs-all, late-all, aborted-all, straggles, any_op, stands, stands-all}
 use Rattle.xc_agree.proofs.TreeLaws.{IsTree, at_hash, EndsAt, Before, Within, above_root, above_child, valid-tree}
 use Rattle.xc_agree.proofs.StragglerLaws.{OwnIn, line_above, straggler-held, nothing-waits}
-use Rattle.xc_agree.proofs.SplitLaws.{around, get-middle, IsSound, more, own-here}
-use Rattle.xc_agree.proofs.Steps.{take_past}
+use Rattle.xc_agree.proofs.SplitLaws.{around, count-after, take-count, get-middle, IsSound, more, own-here}
+use Rattle.xc_agree.proofs.Steps.{take_past, get-before, Where, Low, Same, High, place_of}
 
 -- ---- the kind at a tablet
 
@@ -51,36 +54,33 @@ kind-here logs before b rest all tree n c held start own order =
 
 -- ---- what the parent held
 
-none-past : {X Y : Type 0} (xs : List X) (ys : List Y) (i : ℕ) → length xs ≡ length ys → slice_get ys i ≡ None → slice_get xs i ≡ None
-none-past [] ys i e f = refl
-none-past (x ∷ xs) [] i e f = absurd (omega arith)
-none-past (x ∷ xs) (y ∷ ys) zero e f = cc
-none-past (x ∷ xs) (y ∷ ys) (suc i) e f = none-past xs ys i (omega arith) f
+held-slots : (lefts : List (Vec Held Global)) (lasts : List ℕ) (commits : List Commit) (bs : List AcceptedTablet) (parent : Option ℕ) → AreLeft lefts lasts commits bs → InSlots commits (held_from lefts parent)
+held-slots lefts lasts commits bs None a = refl
+held-slots lefts lasts commits bs (Some p) a = a.slots p
 
-holds-commits : (lefts : List (Vec Held Global)) (commits : List Commit) (bs : List AcceptedTablet) (parent : Option ℕ) → AreLeft lefts commits bs → HoldsCommits (held_from lefts parent) commits
-holds-commits lefts commits bs None a n e h = refl
-holds-commits lefts commits bs (Some p) a n e h = go (slice_get bs p) refl
-  where
-    go : (o : Option AcceptedTablet) → slice_get bs p ≡ o → is_held (option_map_or items_of (slice_get lefts p) []) n h ≡ false
-    go None f = rw (none-past lefts bs p a.count f) refl
-    go (Some b) f = a.each p b f n h ∙ rw e refl
+-- the next tablet is no later than its parent's last child
+record Comes (lasts : List ℕ) (bs : List AcceptedTablet) (parent : Option ℕ) : Type 0 where
+  room : length bs ≤ length lasts
+  last : (q k : ℕ) → parent ≡ Some q → slice_get lasts q ≡ Some k → length bs ≤ k
 
 -- what is held at a hash of a tablet's range is what waits there after the path above it
-start-here : (lefts : List (Vec Held Global)) (commits : List Commit) (bs : List AcceptedTablet) (b : AcceptedTablet) (rest : List AcceptedTablet) → AreLeft lefts commits bs → IsTree (bs ++ b ∷ rest) → (n c h : ℕ) → time_of commits n ≡ Some c
-    → holds b.header h ≡ true → (parent : Option ℕ) → b.header.parent ≡ parent → is_held (held_from lefts parent) n h ≡ waits_by n (writes_at h) false (line_above bs h)
-start-here lefts commits bs b rest a tree n c h e s None p = sym (ap (λ xs. waits_by n (writes_at h) false (flat_map (λ b. b.records) xs)) (above_root h bs b rest tree s p))
-start-here lefts commits bs b rest a tree n c h e s (Some q) p = go (above_child h q bs b rest tree s p)
+start-here : (lefts : List (Vec Held Global)) (lasts : List ℕ) (commits : List Commit) (bs : List AcceptedTablet) (b : AcceptedTablet) (rest : List AcceptedTablet) → AreLeft lefts lasts commits bs → IsTree (bs ++ b ∷ rest) → (n c h : ℕ)
+    → time_of commits n ≡ Some c → holds b.header h ≡ true → (parent : Option ℕ) → Comes lasts bs parent → b.header.parent ≡ parent → is_held (held_from lefts parent) n h ≡ waits_by n (writes_at h) false (line_above bs h)
+start-here lefts lasts commits bs b rest a tree n c h e s None k p = sym (ap (λ xs. waits_by n (writes_at h) false (flat_map (λ b. b.records) xs)) (above_root h bs b rest tree s p))
+start-here lefts lasts commits bs b rest a tree n c h e s (Some q) k p = go (above_child h q bs b rest tree s p)
   where
     no : None ≡ Some q → ⊥
     no f = cc
 
-    go : EndsAt h 0 q None bs → is_held (option_map_or items_of (slice_get lefts q) []) n h ≡ waits_by n (writes_at h) false (line_above bs h)
+    go : EndsAt h 0 q None bs → is_held (left_of lefts q) n h ≡ waits_by n (writes_at h) false (line_above bs h)
     go (Before none f) = absurd (no f)
     go (Within j x at get there same) =
         let number : q ≡ j = omega arith in
         let one : j + 1 ≡ suc j = omega arith in
         let line : line_through bs j h ≡ line_above bs h = ap (λ k. flat_map (λ (b : AcceptedTablet). b.records) (at_hash h (take k bs))) one ∙ ap (flat_map (λ (b : AcceptedTablet). b.records)) (sym same) in
-        ap (λ k. is_held (option_map_or items_of (slice_get lefts k) []) n h) number ∙ a.each j x get n h ∙ rw (e, there) (ap (waits_by n (writes_at h) false) line)
+        let here : j < length bs = slice_get_within bs j x get in
+        let last : slice_get lasts j ≡ Some (get_or lasts j 0) = slice_get-get_or lasts j 0 (let r = k.room in omega arith) in
+        ap (λ m. is_held (left_of lefts m) n h) number ∙ a.each j (get_or lasts j 0) x get last (k.last q (get_or lasts j 0) refl (ap (slice_get lasts) number ∙ last)) n h ∙ rw (e, there) (ap (waits_by n (writes_at h) false) line)
 
 -- ---- one tablet more
 
@@ -91,16 +91,6 @@ first-same (Some d) cases other e f = (e d.txn ∙ f.0, λ n below. e n ∙ f.1 
 or-none : {X : Type 0} (o : Option X) → or_else o None ≡ o
 or-none None = refl
 or-none (Some x) = refl
-
-get-before : {X : Type 0} (xs ys : List X) (i : ℕ) → i < length xs → slice_get (xs ++ ys) i ≡ slice_get xs i
-get-before [] ys i h = absurd (omega arith)
-get-before (x ∷ xs) ys zero h = refl
-get-before (x ∷ xs) ys (suc i) h = get-before xs ys i (omega arith)
-
-get-past : {X : Type 0} (xs : List X) (i : ℕ) → length xs ≤ i → slice_get xs i ≡ None
-get-past [] i h = refl
-get-past (x ∷ xs) zero h = absurd (omega arith)
-get-past (x ∷ xs) (suc i) h = get-past xs i (omega arith)
 
 take-before : {X : Type 0} (xs ys : List X) (k : ℕ) → k ≤ length xs → take k (xs ++ ys) ≡ take k xs
 take-before xs ys zero h = refl
@@ -121,10 +111,10 @@ line-snoc (x ∷ bs) b h = elim (holds x.header h) as (λ c. flat_map (λ b. b.r
 ]
 
 -- what the next tablet left
-left-next : (lefts : List (Vec Held Global)) (left : Vec Held Global) (commits : List Commit) (bs : List AcceptedTablet) (b : AcceptedTablet) (rest : List AcceptedTablet) → AreLeft lefts commits bs → IsTree (bs ++ b ∷ rest) → Each (OwnIn b.header) b.records
-    → IsLeft left.items commits b.header (held_from lefts b.header.parent) b.records → (n h : ℕ)
+left-next : (lefts : List (Vec Held Global)) (lasts : List ℕ) (left : Vec Held Global) (commits : List Commit) (bs : List AcceptedTablet) (b : AcceptedTablet) (rest : List AcceptedTablet) → AreLeft lefts lasts commits bs
+    → Comes lasts bs b.header.parent → IsTree (bs ++ b ∷ rest) → Each (OwnIn b.header) b.records → IsLeft left.items commits b.header (held_from lefts b.header.parent) b.records → (n h : ℕ)
     → is_held left.items n h ≡ (is_some (time_of commits n) && (holds b.header h && waits_by n (writes_at h) false (line_above (bs ++ b ∷ []) h)))
-left-next lefts left commits bs b rest a tree own l n h = l n h ∙ go (time_of commits n) refl (holds b.header h) refl
+left-next lefts lasts left commits bs b rest a k tree own l n h = l n h ∙ go (time_of commits n) refl (holds b.header h) refl
   where
     held : List Held
     held = held_from lefts b.header.parent
@@ -133,7 +123,7 @@ left-next lefts left commits bs b rest a tree own l n h = l n h ∙ go (time_of 
         → (is_some o && waits_by n (writes_at h) (is_held (held_from lefts b.header.parent) n h && holds b.header h) b.records) ≡ (is_some o && (s && waits_by n (writes_at h) false (line_above (bs ++ b ∷ []) h)))
     go None e s f = refl
     go (Some c) e true f =
-        let start : is_held (held_from lefts b.header.parent) n h ≡ waits_by n (writes_at h) false (line_above bs h) = start-here lefts commits bs b rest a tree n c h e f b.header.parent refl in
+        let start : is_held (held_from lefts b.header.parent) n h ≡ waits_by n (writes_at h) false (line_above bs h) = start-here lefts lasts commits bs b rest a tree n c h e f b.header.parent k refl in
         let line : line_above (bs ++ b ∷ []) h ≡ line_above bs h ++ b.records = line-snoc bs b h ∙ rw f refl in
         rw (start, f, line) (ap (λ w. waits_by n (writes_at h) w b.records) (and-true (waits_by n (writes_at h) false (line_above bs h))) ∙ sym (waits-append n (writes_at h) false (line_above bs h) b.records))
       where
@@ -146,52 +136,53 @@ left-next lefts left commits bs b rest a tree own l n h = l n h ∙ go (time_of 
         and-false true = refl
         and-false false = refl
 
-data Where (i k : ℕ) : Type 0 where
-  Low : i < k → Where i k
-  Same : i ≡ k → Where i k
-  High : k < i → Where i k
-
-place_of : (i k : ℕ) → Where i k
-place_of zero zero = Same refl
-place_of zero (suc k) = Low (omega arith)
-place_of (suc i) zero = High (omega arith)
-place_of (suc i) (suc k) = later (place_of i k)
-  where
-    later : Where i k → Where (suc i) (suc k)
-    later (Low h) = Low (omega arith)
-    later (Same h) = Same (omega arith)
-    later (High h) = High (omega arith)
-
-lefts-more : (lefts : List (Vec Held Global)) (left : Vec Held Global) (commits : List Commit) (bs : List AcceptedTablet) (b : AcceptedTablet) → AreLeft lefts commits bs
-    → ((n h : ℕ) → is_held left.items n h ≡ (is_some (time_of commits n) && (holds b.header h && waits_by n (writes_at h) false (line_above (bs ++ b ∷ []) h)))) → AreLeft (lefts ++ left ∷ []) commits (bs ++ b ∷ [])
-lefts-more lefts left commits bs b a l = record {
-  count = length-append lefts (left ∷ []) ∙ ap (λ k. k + 1) a.count ∙ sym (length-append bs (b ∷ []));
-  each = λ i x get n h. at_place i x get n h (place_of i (length bs));
+-- what the tablets left, with the next one
+lefts-more : (lefts after : List (Vec Held Global)) (lasts : List ℕ) (left : Vec Held Global) (commits : List Commit) (bs : List AcceptedTablet) (b : AcceptedTablet) → AreLeft lefts lasts commits bs → InSlots commits left.items
+    → ((k : ℕ) → slice_get lasts (length bs) ≡ Some k → length bs < k → (n h : ℕ) → is_held left.items n h ≡ (is_some (time_of commits n) && (holds b.header h && waits_by n (writes_at h) false (line_above (bs ++ b ∷ []) h))))
+    → Drops (lefts ++ left ∷ []) after lasts b.header.parent (length bs) → AreLeft after lasts commits (bs ++ b ∷ [])
+lefts-more lefts after lasts left commits bs b a slots l drops = record {
+  count = drops.count ∙ length-append lefts (left ∷ []) ∙ ap (λ k. k + 1) a.count ∙ sym (length-append bs (b ∷ []));
+  slots = λ i. ap (InSlotsOf commits) (drops.each i) ∙ slots_at i (is_done lasts b.header.parent (length bs) i) (place_of i (length bs));
+  each = λ i k x get last le n h.
+      let bound : length bs + 1 ≤ k = (let e = length-append bs (b ∷ []) in omega arith) in
+      ap (λ xs. is_held xs n h) (drops.each i ∙ ap (λ d. if d then [] else left_of (lefts ++ left ∷ []) i) (awaited i k last bound (option_map_or (λ p. p == i) b.header.parent false))) ∙ at_place i k x get last bound n h (place_of i (length bs));
 }
   where
     some-same : {X : Type 0} {x y : X} → Some x ≡ Some y → x ≡ y
     some-same e = cc
 
-    at_place : (i : ℕ) (x : AcceptedTablet) → slice_get (bs ++ b ∷ []) i ≡ Some x → (n h : ℕ) → Where i (length bs)
-        → is_held (option_map_or items_of (slice_get (lefts ++ left ∷ []) i) []) n h ≡ (is_some (time_of commits n) && (holds x.header h && waits_by n (writes_at h) false (line_through (bs ++ b ∷ []) i h)))
-    at_place i x get n h (Low low) =
+    InSlotsOf : List Commit → List Held → Bool
+    InSlotsOf commits held = list_all (λ x. is_in_slot commits x.txn x.slot) held
+
+    awaited : (i k : ℕ) → slice_get lasts i ≡ Some k → length bs + 1 ≤ k → (p : Bool) → (p && option_map_or (λ last. nat_le last (length bs)) (slice_get lasts i) false) ≡ false
+    awaited i k last bound p = rw last (grind (arith, nat_tests))
+
+    slots_at : (i : ℕ) (d : Bool) → Where i (length bs) → InSlotsOf commits (if d then [] else left_of (lefts ++ left ∷ []) i) ≡ true
+    slots_at i true w = refl
+    slots_at i false (Low low) = ap (λ o. InSlotsOf commits (option_map_or items_of o [])) (get-before lefts (left ∷ []) i (let k = a.count in omega arith)) ∙ a.slots i
+    slots_at i false (Same same) = ap (λ o. InSlotsOf commits (option_map_or items_of o [])) (get-middle lefts left [] i (a.count ∙ sym same)) ∙ slots
+    slots_at i false (High high) = ap (λ o. InSlotsOf commits (option_map_or items_of o [])) (slice_get_past (lefts ++ left ∷ []) i (let k = a.count in let e = length-append lefts (left ∷ []) in omega arith))
+
+    at_place : (i k : ℕ) (x : AcceptedTablet) → slice_get (bs ++ b ∷ []) i ≡ Some x → slice_get lasts i ≡ Some k → length bs + 1 ≤ k → (n h : ℕ) → Where i (length bs)
+        → is_held (left_of (lefts ++ left ∷ []) i) n h ≡ (is_some (time_of commits n) && (holds x.header h && waits_by n (writes_at h) false (line_through (bs ++ b ∷ []) i h)))
+    at_place i k x get last bound n h (Low low) =
         let old : slice_get bs i ≡ Some x = sym (get-before bs (b ∷ []) i low) ∙ get in
         let line : line_through (bs ++ b ∷ []) i h ≡ line_through bs i h = ap (λ xs. flat_map (λ (b : AcceptedTablet). b.records) (at_hash h xs)) (take-before bs (b ∷ []) (i + 1) (omega arith)) in
-        rw (get-before lefts (left ∷ []) i (let k = a.count in omega arith), line) (a.each i x old n h)
-    at_place i x get n h (Same same) =
+        rw (get-before lefts (left ∷ []) i (let k = a.count in omega arith), line) (a.each i k x old last (omega arith) n h)
+    at_place i k x get last bound n h (Same same) =
         let mine : b ≡ x = some-same (sym (get-middle bs b [] i (sym same)) ∙ get) in
         let line : line_through (bs ++ b ∷ []) i h ≡ line_above (bs ++ b ∷ []) h = ap (λ xs. flat_map (λ (b : AcceptedTablet). b.records) (at_hash h xs)) (take-snoc bs b (i + 1) (omega arith)) in
-        rw (get-middle lefts left [] i (a.count ∙ sym same), line, ← mine) (l n h)
-    at_place i x get n h (High high) = absurd (none (sym (get-past (bs ++ b ∷ []) i (let k = length-append bs (b ∷ []) in omega arith)) ∙ get))
+        rw (get-middle lefts left [] i (a.count ∙ sym same), line, ← mine) (l k (ap (slice_get lasts) (sym same) ∙ last) (omega arith) n h)
+    at_place i k x get last bound n h (High high) = absurd (none (sym (slice_get_past (bs ++ b ∷ []) i (let k = length-append bs (b ∷ []) in omega arith)) ∙ get))
       where
         none : None ≡ Some x → ⊥
         none e = cc
 
 -- the cases with those of the next tablet
 cases-next : (ts : List Tablet) (commits : List Commit) (bs : List AcceptedTablet) (b : AcceptedTablet) (rest : List AcceptedTablet) (lefts : List (Vec Held Global)) → accepted_tablets (of_tablets ts) ≡ bs ++ b ∷ rest → IsTree (bs ++ b ∷ rest)
-    → AreLeft lefts commits bs → Each (OwnIn b.header) b.records → accepted_from b.start b.records ≡ b.records → (n : ℕ)
+    → (lasts : List ℕ) → AreLeft lefts lasts commits bs → Comes lasts bs b.header.parent → Each (OwnIn b.header) b.records → accepted_from b.start b.records ≡ b.records → (n : ℕ)
     → cases_of (of_tablets ts) commits (bs ++ b ∷ []) n ≡ with_cases b.header.id (λ n. option_and_then (λ c. kind_at_end c (seen_at_end b.header (held_from lefts b.header.parent) b.records n c)) (time_of commits n)) (cases_of (of_tablets ts) commits bs) n
-cases-next ts commits bs b rest lefts all tree a own order n = go (time_of commits n) refl
+cases-next ts commits bs b rest lefts all tree lasts a k own order n = go (time_of commits n) refl
   where
     go : (o : Option ℕ) → time_of commits n ≡ o
         → option_and_then (λ c. first_some (λ b. option_map (case_of n b.header.id) (kind_at (of_tablets ts) n c b)) (bs ++ b ∷ [])) o
@@ -199,23 +190,23 @@ cases-next ts commits bs b rest lefts all tree a own order n = go (time_of commi
         (option_map (case_of n b.header.id) (option_and_then (λ c. kind_at_end c (seen_at_end b.header (held_from lefts b.header.parent) b.records n c)) o))
     go None e = refl
     go (Some c) e =
-        let k = kind-here (of_tablets ts) bs b rest all tree n c (held_from lefts b.header.parent) (λ h s. start-here lefts commits bs b rest a tree n c h e s b.header.parent refl) own order in
+        let same = kind-here (of_tablets ts) bs b rest all tree n c (held_from lefts b.header.parent) (λ h s. start-here lefts lasts commits bs b rest a tree n c h e s b.header.parent k refl) own order in
         first-append (λ (b : AcceptedTablet). option_map (case_of n b.header.id) (kind_at (of_tablets ts) n c b)) bs (b ∷ [])
-        ∙ ap (or_else (first_some (λ (b : AcceptedTablet). option_map (case_of n b.header.id) (kind_at (of_tablets ts) n c b)) bs)) (or-none (option_map (case_of n b.header.id) (kind_at (of_tablets ts) n c b)) ∙ ap (option_map (case_of n b.header.id)) (sym k))
+        ∙ ap (or_else (first_some (λ (b : AcceptedTablet). option_map (case_of n b.header.id) (kind_at (of_tablets ts) n c b)) bs)) (or-none (option_map (case_of n b.header.id) (kind_at (of_tablets ts) n c b)) ∙ ap (option_map (case_of n b.header.id)) (sym same))
 
 tree-of : (ts : List Tablet) → IsSound ts → accepted_tablets (of_tablets ts) ≡ accepted_tablets_after [] ts
 unfolding accepted_tablets
 tree-of ts s = refl
 
 -- one tablet more
-pub tablet-more : (ts : List Tablet) (i : ℕ) (t : Tablet) (run : Run) (commits : List Commit) (lefts after : List (Vec Held Global)) (left : Vec Held Global) (found : Option Found) (first next : Option Case)
-    → IsSound ts → i < length ts → t ≡ get_or ts i t → IsRun run (accepted_tablet_after (accepted_tablets_after [] (take i ts)) t) t → AreLeft lefts commits (accepted_tablets_after [] (take i ts))
+pub tablet-more : (ts : List Tablet) (i : ℕ) (t : Tablet) (run : Run) (lasts : List ℕ) (commits : List Commit) (lefts after : List (Vec Held Global)) (left : Vec Held Global) (found : Option Found) (first next : Option Case)
+    → IsSound ts → i < length ts → t ≡ get_or ts i t → IsRun run (accepted_tablet_after (accepted_tablets_after [] (take i ts)) t) t → length lasts ≡ length ts → AreLast lasts ts → AreLeft lefts lasts commits (accepted_tablets_after [] (take i ts))
     → IsFirst first (cases_of (of_tablets ts) commits (accepted_tablets_after [] (take i ts)))
-    → (HoldsCommits (held_from lefts t.header.parent) commits → IsEnd found commits (seen_at_end t.header (held_from lefts t.header.parent) (take run.walk.accepted t.records)))
-    → (HoldsCommits (held_from lefts t.header.parent) commits → IsLeft left.items commits t.header (held_from lefts t.header.parent) (take run.walk.accepted t.records))
-    → ((cases : ℕ → Option Disagreement) (kinds : ℕ → Option AgreeKind) → IsFirst first cases → IsLeast found kinds → IsFirst next (with_cases t.header.id kinds cases)) → after ≡ lefts ++ left ∷ []
-    → AreLeft after commits (accepted_tablets_after [] (take (i + 1) ts)) × IsFirst next (cases_of (of_tablets ts) commits (accepted_tablets_after [] (take (i + 1) ts)))
-tablet-more ts i t run commits lefts after left found first next s below is r a f is_end is_left step more_left =
+    → IsEnd found commits (seen_at_end t.header (held_from lefts t.header.parent) (take run.walk.accepted t.records))
+    → ((k : ℕ) → slice_get lasts i ≡ Some k → i < k → IsLeft left.items commits t.header (held_from lefts t.header.parent) (take run.walk.accepted t.records)) → InSlots commits left.items
+    → ((cases : ℕ → Option Disagreement) (kinds : ℕ → Option AgreeKind) → IsFirst first cases → IsLeast found kinds → IsFirst next (with_cases t.header.id kinds cases)) → Drops (lefts ++ left ∷ []) after lasts t.header.parent i
+    → AreLeft after lasts commits (accepted_tablets_after [] (take (i + 1) ts)) × IsFirst next (cases_of (of_tablets ts) commits (accepted_tablets_after [] (take (i + 1) ts)))
+tablet-more ts i t run lasts commits lefts after left found first next s below is r count last a f is_end is_left slots step drops =
     let bs : List AcceptedTablet = accepted_tablets_after [] (take i ts) in
     let b : AcceptedTablet = accepted_tablet_after bs t in
     let rest : List AcceptedTablet = more (bs ++ b ∷ []) (drop (suc i) ts) in
@@ -224,26 +215,49 @@ tablet-more ts i t run commits lefts after left found first next s below is r a 
     let all : accepted_tablets (of_tablets ts) ≡ bs ++ b ∷ rest = tree-of ts s ∙ split in
     let own : Each (OwnIn b.header) b.records = own-here ts i run b t s below is r in
     let order : accepted_from b.start b.records ≡ b.records = (accepted_tablet_after-grown bs t).in_order in
-    let k : HoldsCommits (held_from lefts t.header.parent) commits = holds-commits lefts commits bs t.header.parent a in
-    let ends : IsEnd found commits (seen_at_end b.header (held_from lefts b.header.parent) b.records) = subst (λ xs. IsEnd found commits (seen_at_end t.header (held_from lefts t.header.parent) xs)) (sym r.records) (is_end k) in
-    let leaves : IsLeft left.items commits b.header (held_from lefts b.header.parent) b.records = subst (λ xs. IsLeft left.items commits t.header (held_from lefts t.header.parent) xs) (sym r.records) (is_left k) in
+    let place : length bs ≡ i = (let n = count-after [] (take i ts) in let m = take-count i ts (omega arith) in omega arith) in
+    let comes : Comes lasts bs t.header.parent = record { room = omega (arith, count, place); last = λ q k p get. subst (λ m. m ≤ k) (sym place) (last i q k t (slice_get_read ts (length ts) i t refl below is) p get) } in
+    let ends : IsEnd found commits (seen_at_end b.header (held_from lefts b.header.parent) b.records) = subst (λ xs. IsEnd found commits (seen_at_end t.header (held_from lefts t.header.parent) xs)) (sym r.records) is_end in
+    let leaves : (k : ℕ) → slice_get lasts (length bs) ≡ Some k → length bs < k → IsLeft left.items commits b.header (held_from lefts b.header.parent) b.records =
+    λ k get more. subst (λ xs. IsLeft left.items commits t.header (held_from lefts t.header.parent) xs) (sym r.records) (is_left k (ap (slice_get lasts) (sym place) ∙ get) (subst (λ m. m < k) place more)) in
     let one : accepted_tablets_after [] (take (i + 1) ts) ≡ accepted_tablets_after [] (take i ts) ++ accepted_tablet_after (accepted_tablets_after [] (take i ts)) t ∷ [] = tablets-more ts i t below is in
-    let lefts_now : AreLeft (lefts ++ left ∷ []) commits (bs ++ b ∷ []) = lefts-more lefts left commits bs b a (left-next lefts left commits bs b rest a tree own leaves) in
+    let lefts_now : AreLeft after lasts commits (bs ++ b ∷ []) =
+    lefts-more lefts after lasts left commits bs b a slots (λ k get more. left-next lefts lasts left commits bs b rest a comes tree own (leaves k get more)) (subst (Drops (lefts ++ left ∷ []) after lasts t.header.parent) (sym place) drops) in
     let first_now : IsFirst next (cases_of (of_tablets ts) commits (bs ++ b ∷ [])) =
-    first-same next _ (cases_of (of_tablets ts) commits (bs ++ b ∷ [])) (cases-next ts commits bs b rest lefts all tree a own order)
+    first-same next _ (cases_of (of_tablets ts) commits (bs ++ b ∷ [])) (cases-next ts commits bs b rest lefts all tree lasts a comes own order)
     (step (cases_of (of_tablets ts) commits bs) (λ n. option_and_then (λ c. kind_at_end c (seen_at_end b.header (held_from lefts b.header.parent) b.records n c)) (time_of commits n)) f ends) in
-    (subst (λ xs. AreLeft after commits xs) (sym one) (subst (λ xs. AreLeft xs commits (bs ++ b ∷ [])) (sym more_left) lefts_now), subst (λ xs. IsFirst next (cases_of (of_tablets ts) commits xs)) (sym one) first_now)
+    (subst (λ xs. AreLeft after lasts commits xs) (sym one) lefts_now, subst (λ xs. IsFirst next (cases_of (of_tablets ts) commits xs)) (sym one) first_now)
+
+-- before the first tablet
+pub none-left : (lasts : List ℕ) (commits : List Commit) → AreLeft [] lasts commits []
+none-left lasts commits = record { count = refl; slots = λ i. refl; each = λ i k b get last le n h. absurd (none get) }
+  where
+    none : {X : Type 0} {x : X} → None ≡ Some x → ⊥
+    none e = cc
 
 -- the same, where what the tablets before left is seen as a slice
-pub tablet-next : (ts : List Tablet) (i : ℕ) (t : Tablet) (run : Run) (commits : List Commit) (lefts now after : List (Vec Held Global)) (left : Vec Held Global) (found : Option Found) (first next : Option Case)
-    → now ≡ lefts → IsSound ts → i < length ts → t ≡ get_or ts i t → IsRun run (accepted_tablet_after (accepted_tablets_after [] (take i ts)) t) t → AreLeft lefts commits (accepted_tablets_after [] (take i ts))
-    → IsFirst first (cases_of (of_tablets ts) commits (accepted_tablets_after [] (take i ts)))
-    → (HoldsCommits (held_from now t.header.parent) commits → IsEnd found commits (seen_at_end t.header (held_from now t.header.parent) (take run.walk.accepted t.records)))
-    → (HoldsCommits (held_from now t.header.parent) commits → IsLeft left.items commits t.header (held_from now t.header.parent) (take run.walk.accepted t.records))
-    → ((cases : ℕ → Option Disagreement) (kinds : ℕ → Option AgreeKind) → IsFirst first cases → IsLeast found kinds → IsFirst next (with_cases t.header.id kinds cases)) → after ≡ lefts ++ left ∷ []
-    → AreLeft after commits (accepted_tablets_after [] (take (i + 1) ts)) × IsFirst next (cases_of (of_tablets ts) commits (accepted_tablets_after [] (take (i + 1) ts)))
-tablet-next ts i t run commits lefts now after left found first next same s below is r a f is_end is_left step more_left =
-    tablet-more ts i t run commits lefts after left found first next s below is r a f
-    (subst (λ xs. HoldsCommits (held_from xs t.header.parent) commits → IsEnd found commits (seen_at_end t.header (held_from xs t.header.parent) (take run.walk.accepted t.records))) same is_end)
-    (subst (λ xs. HoldsCommits (held_from xs t.header.parent) commits → IsLeft left.items commits t.header (held_from xs t.header.parent) (take run.walk.accepted t.records)) same is_left)
-    step more_left
+pub tablet-next : (ts : List Tablet) (i : ℕ) (t : Tablet) (run : Run) (lasts : List ℕ) (commits : List Commit) (lefts now after : List (Vec Held Global)) (left : Vec Held Global) (found : Option Found) (first next : Option Case) (last : ℕ)
+    → now ≡ lefts → IsSound ts → i < length ts → t ≡ get_or ts i t → IsRun run (accepted_tablet_after (accepted_tablets_after [] (take i ts)) t) t → length lasts ≡ length ts → last ≡ get_or lasts i last → AreLast lasts ts
+    → AreLeft lefts lasts commits (accepted_tablets_after [] (take i ts)) → IsFirst first (cases_of (of_tablets ts) commits (accepted_tablets_after [] (take i ts)))
+    → (InSlots commits (held_from now t.header.parent) → IsEnd found commits (seen_at_end t.header (held_from now t.header.parent) (take run.walk.accepted t.records)))
+    → (InSlots commits (held_from now t.header.parent) → nat_lt i last ≡ true → IsLeft left.items commits t.header (held_from now t.header.parent) (take run.walk.accepted t.records))
+    → (InSlots commits (held_from now t.header.parent) → InSlots commits left.items)
+    → ((cases : ℕ → Option Disagreement) (kinds : ℕ → Option AgreeKind) → IsFirst first cases → IsLeast found kinds → IsFirst next (with_cases t.header.id kinds cases)) → Drops (lefts ++ left ∷ []) after lasts t.header.parent i
+    → AreLeft after lasts commits (accepted_tablets_after [] (take (i + 1) ts)) × IsFirst next (cases_of (of_tablets ts) commits (accepted_tablets_after [] (take (i + 1) ts)))
+tablet-next ts i t run lasts commits lefts now after left found first next last same s below is r count at all a f is_end is_left slots step drops =
+    let k : InSlots commits (held_from now t.header.parent) = subst (λ xs. InSlots commits (held_from xs t.header.parent)) (sym same) (held-slots lefts lasts commits (accepted_tablets_after [] (take i ts)) t.header.parent a) in
+    let get : slice_get lasts i ≡ Some last = slice_get_read lasts (length ts) i last (sym count) below at in
+    tablet-more ts i t run lasts commits lefts after left found first next s below is r count all a f
+    (subst (λ xs. IsEnd found commits (seen_at_end t.header (held_from xs t.header.parent) (take run.walk.accepted t.records))) same (is_end k))
+    (λ m e more. subst (λ xs. IsLeft left.items commits t.header (held_from xs t.header.parent) (take run.walk.accepted t.records)) same (is_left k (lt_true i last (subst (λ x. i < x) (some-same (sym e ∙ get)) more))))
+    (slots k) step drops
+  where
+    some-same : {x y : ℕ} → Some x ≡ Some y → x ≡ y
+    some-same e = cc
+
+    lt_true : (a b : ℕ) → a < b → nat_lt a b ≡ true
+    lt_true a b h = grind (arith, nat_tests)
+
+-- what is held from the tablets before is in its slots
+pub held-in : (lefts now : List (Vec Held Global)) (lasts : List ℕ) (commits : List Commit) (bs : List AcceptedTablet) (parent : Option ℕ) → now ≡ lefts → AreLeft lefts lasts commits bs → InSlots commits (held_from now parent)
+held-in lefts now lasts commits bs parent same a = subst (λ xs. InSlots commits (held_from xs parent)) (sym same) (held-slots lefts lasts commits bs parent a)

@@ -4,7 +4,7 @@
 --     intends n h rs      one of the records is an intent of n with an operation there
 --     intends_since n h since rs      the same from the place on
 --     waits_by n p w rs      whether n waits after the records rs, by an operation that the test p passes, where w says whether it did before
-use Rattle.std.specs.Prelude.{◌≡◌, ℕ, ◌-◌, Bool, true, false, List, [], ◌∷◌, Option, None, if◌then◌else◌, is_some, fold, ◌&&◌, ◌==◌, drop, nat_le}
+use Rattle.std.specs.Prelude.{◌≡◌, ℕ, ◌-◌, Bool, true, false, List, [], ◌∷◌, Option, if◌then◌else◌, is_some, fold, ◌&&◌, ◌==◌, drop, nat_le}
 use Rattle.std.specs.List.{list_any, list_all}
 use Rattle.std.specs.Option.{option_map_or}
 use Rattle.xc_record.specs.declared.record.Kind.{Kind}

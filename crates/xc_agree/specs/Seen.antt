@@ -4,7 +4,7 @@
 --     see n commit s r      the same after the record r, for the transaction n, which commits at `commit`
 --     kind_seen s      the first kind of the cases that stand
 --     IsLeast found kinds      found has the least transaction with a kind, and that kind
-use Rattle.std.specs.Prelude.{◌≡◌, ℕ, ◌+◌, ◌<◌, Bool, true, false, List, [], ◌∷◌, Option, Some, None, ◌&&◌, ◌||◌, ◌==◌, not, nat_le, nat_lt, if◌then◌else◌, MatchOption, option_and_then, is_some, slice_get, length, map}
+use Rattle.std.specs.Prelude.{◌≡◌, ℕ, ◌+◌, ◌<◌, Bool, true, false, List, [], ◌∷◌, Option, Some, None, ◌&&◌, ◌||◌, ◌==◌, not, nat_le, nat_lt, if◌then◌else◌, MatchOption, option_and_then, is_some, slice_get, length}
 use Rattle.std.specs.List.{list_any, list_all}
 use Rattle.std.specs.Option.{option_map_or}
 use Rattle.xc_record.specs.declared.record.AgreeKind.{AgreeKind}

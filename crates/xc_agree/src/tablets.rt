@@ -1,5 +1,6 @@
 // All tablets of logs within the rules, from the first to the last.
-ghost use Rattle.std.specs.Prelude.{◌≡◌, IfOk, IsTrue, [], length};
+ghost use Rattle.std.specs.Prelude.{◌≡◌, ◌==◌, ℕ, IfOk, IsTrue, [], false, length, slice_get, option_map, if◌then◌else◌};
+ghost use Rattle.std.specs.Option.{option_map_or};
 ghost use Rattle.xc_record.specs.Accepted.{accepted_tablets_after};
 ghost use Rattle.xc_record.specs.Valid.{is_valid};
 ghost use Rattle.xc_agree.specs.Runs.{IsRuns};
@@ -21,23 +22,37 @@ fn last_children(alloc: Global, tablets: &[Tablet]) -> Result<Vec<usize>, AllocE
 {
     let mut lasts = vec![in alloc; 0; tablets.len()]?;
     for (i, t) in tablets.iter().enumerate() {
-        if let Some(parent) = t.header.parent {
-            if let Some(last) = lasts.get_mut(parent as usize) {
-                *last = i;
-            }
-        }
+        note_child(&mut lasts, t.header.parent, i);
     }
     Ok(lasts)
 }
 
-// Drops what the parent of the tablet left, after its last child.
-fn drop_left(alloc: Global, lefts: &mut [Vec<Held>], lasts: &[usize], parent: Option<u32>, id: usize)
-    ensures { Drops lefts.old lefts.new lasts.now parent id }
+// The tablet is the last child of its parent so far.
+fn note_child(lasts: &mut Vec<usize>, parent: Option<u32>, id: usize)
+    ensures count { length lasts.new.items ≡ length lasts.old.items }
+    ensures last { (i : ℕ) → slice_get lasts.new.items i ≡ (if option_map_or (λ p. p == i) parent false then option_map (λ _. id) (slice_get lasts.old.items i) else slice_get lasts.old.items i) }
 {
-    let Some(parent) = parent else { return };
-    if let (Some(left), Some(last)) = (lefts.get_mut(parent as usize), lasts.get(parent as usize)) {
-        if *last <= id {
-            *left = Vec::new(alloc);
+    if let Some(parent) = parent {
+        if let Some(last) = lasts.get_mut(parent as usize) {
+            *last = id;
+        }
+    }
+}
+
+// Drops what the parent of the tablet left, where the tablet is its last child.
+fn drop_left(
+    alloc: Global,
+    lefts: &mut Vec<Vec<Held>>,
+    lasts: &[usize],
+    parent: Option<u32>,
+    id: usize,
+)
+    ensures { Drops lefts.old.items lefts.new.items lasts.now parent id }
+{
+    if let Some(parent) = parent {
+        let parent = parent as usize;
+        if parent < lefts.len() && parent < lasts.len() && lasts[parent] <= id {
+            lefts[parent] = Vec::new(alloc);
         }
     }
 }
@@ -59,11 +74,19 @@ pub fn first_case(
     let mut first = None;
     for i in 0..tablets.len() {
         let t = &tablets[i];
-        let judged = judge_tablet(alloc, &mut look, commits, t, &runs[i], lefts.as_slice(), i < lasts[i])?;
+        let judged = judge_tablet(
+            alloc,
+            &mut look,
+            commits,
+            t,
+            &runs[i],
+            lefts.as_slice(),
+            i < lasts[i],
+        )?;
         let Judged { found, left } = judged;
         first = first_of(first, found, t.header.id);
         lefts.push(left)?;
-        drop_left(alloc, lefts.as_mut_slice(), lasts.as_slice(), t.header.parent, i);
+        drop_left(alloc, &mut lefts, lasts.as_slice(), t.header.parent, i);
     }
     Ok(first)
 }

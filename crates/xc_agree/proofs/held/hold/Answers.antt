@@ -1,4 +1,4 @@
-use Rattle.std.proofs.Common.{◌≡◌, ℕ, List, subst, ◌∙◌}
+use Rattle.std.proofs.Common.{◌≡◌, List, subst, ◌∙◌}
 use Rattle.std.specs.Prelude.{◌&&◌, ◌||◌}
 use Rattle.xc_record.specs.Hash.{holds}
 use Rattle.xc_record.specs.declared.record.Record.{Record}
@@ -25,5 +25,5 @@ loop-i-preserved c = record {
 pub returns-clause-held : goal.returns-clause-held
 returns-clause-held c = λ slots n h.
     subst (λ (rs : List Record). is_held c.loop-i.more.items n h
-        ≡ ((is_held c.args.held.now n h && (holds c.args.header.now h && is_start (since_in c.args.commits.now c.args.look.now n))) || intends_since n h (since_in c.args.commits.now c.args.look.now n) rs))
+    ≡ ((is_held c.args.held.now n h && (holds c.args.header.now h && is_start (since_in c.args.commits.now c.args.look.now n))) || intends_since n h (since_in c.args.commits.now c.args.look.now n) rs))
     (take_past c.loop-i.i c.args.records.now c.loop-i-test.false) (c.loop-i.invariant.held slots n h)

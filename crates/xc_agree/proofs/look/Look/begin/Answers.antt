@@ -1,5 +1,4 @@
-use Rattle.std.proofs.Common.{◌≡◌, ◌+◌, List, get_or, take, subst, refl, sym, ◌∙◌}
-use Rattle.std.specs.Prelude.{None}
+use Rattle.std.proofs.Common.{◌≡◌, ◌+◌, take, subst, refl, sym, ◌∙◌}
 use Rattle.xc_agree.specs.declared.held.Held.{Held}
 use Rattle.xc_agree.specs.declared.look.Look.{Look}
 use Rattle.xc_agree.proofs.Steps.{take_past}
@@ -17,11 +16,11 @@ loop-x-preserved c = record {
       let none : Held = record { txn = 0; slot = 0; hash = 0 } in
       let was = c.loop-x.invariant.begun commits idle slots in
       elim c.if-holds.branch [
-        then-holds+in_ok-wait w ↦ subst (λ look. Beginning look commits c.args.header.now (take (c.loop-x.x-index + 1) c.args.held.now)) (sym w.self-is)
-        (begin-more c.loop-x.self w.wait.new.self commits c.args.header.now c.args.held.now c.loop-x.x-index none slots c.loop-x-test.true was (sym c.holds.ensures ∙ w.if-holds.true)
-        w.in_ok-wait.ensures.since w.in_ok-wait.ensures.kept w.in_ok-wait.ensures.found w.in_ok-wait.ensures.began (w.in_ok-wait.ensures.waiters commits))
+        | then-holds+in_ok-wait w ↦ subst (λ look. Beginning look commits c.args.header.now (take (c.loop-x.x-index + 1) c.args.held.now)) (sym w.self-is)
+            (begin-more c.loop-x.self w.wait.new.self commits c.args.header.now c.args.held.now c.loop-x.x-index none slots c.loop-x-test.true was (sym c.holds.ensures ∙ w.if-holds.true)
+            w.in_ok-wait.ensures.since w.in_ok-wait.ensures.kept w.in_ok-wait.ensures.found w.in_ok-wait.ensures.began (w.in_ok-wait.ensures.waiters commits))
         | else-holds w ↦ subst (λ look. Beginning look commits c.args.header.now (take (c.loop-x.x-index + 1) c.args.held.now)) (sym w.self-is)
-        (begin-past c.loop-x.self commits c.args.header.now c.args.held.now c.loop-x.x-index none c.loop-x-test.true was (sym c.holds.ensures ∙ w.if-holds.false))
+            (begin-past c.loop-x.self commits c.args.header.now c.args.held.now c.loop-x.x-index none c.loop-x-test.true was (sym c.holds.ensures ∙ w.if-holds.false))
       ];
 }
 

@@ -1,4 +1,4 @@
-use Rattle.std.proofs.Common.{◌≡◌, List, take, None}
+use Rattle.std.proofs.Common.{◌≡◌, List, take}
 use Rattle.xc_agree.specs.declared.commits.Commit.{Commit}
 use Rattle.xc_agree.specs.Seen.{IsIdle}
 use Rattle.xc_agree.specs.Held.{InSlots}

@@ -1,4 +1,4 @@
-use Rattle.std.proofs.Common.{ℕ, ◌+◌, List, subst, take, get_or, ◌∙◌}
+use Rattle.std.proofs.Common.{List, subst, ◌∙◌}
 use Rattle.std.specs.Prelude.{option_and_then, map}
 use Rattle.xc_agree.specs.Slots.{time_of}
 use Rattle.xc_agree.specs.Seen.{IsLeast, kind_tried, is_among}

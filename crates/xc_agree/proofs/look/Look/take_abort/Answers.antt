@@ -1,4 +1,4 @@
-use Rattle.std.proofs.Common.{ap, sym, ◌∙◌, ◌+◌, ◌≡◌, subst}
+use Rattle.std.proofs.Common.{ap, sym, ◌+◌, ◌≡◌, subst}
 use Rattle.std.specs.Prelude.{Some, None}
 use Rattle.xc_agree.specs.Slots.{slot_of, time_of}
 use Rattle.xc_agree.specs.Seen.{IsLeastWith}

@@ -1,5 +1,5 @@
-use Rattle.std.proofs.Common.{ap, sym, ◌∙◌, ◌+◌, ◌≡◌, subst}
-use Rattle.std.specs.Prelude.{Some, None, not, ◌==◌}
+use Rattle.std.proofs.Common.{ap, sym, ◌+◌, ◌≡◌, subst}
+use Rattle.std.specs.Prelude.{Some, None}
 use Rattle.xc_agree.specs.Slots.{slot_of, time_of}
 use Rattle.xc_agree.specs.Seen.{IsLeastWith}
 use Rattle.xc_record.specs.declared.record.AgreeKind.TheVariants.{Straggler}

@@ -1,4 +1,4 @@
-use Rattle.std.proofs.Common.{ap, sym, ◌∙◌, ◌+◌, ◌<◌, ◌≡◌, subst, length, arith}
+use Rattle.std.proofs.Common.{ap, sym, ◌+◌, ◌≡◌, subst, length, arith}
 use Rattle.std.specs.Prelude.{if◌then◌else◌, nat_le, Some}
 use Rattle.xc_record.specs.Lists.{or_else}
 use Rattle.xc_record.specs.declared.record.AgreeKind.TheVariants.{LateIntent}

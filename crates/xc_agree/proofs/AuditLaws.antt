@@ -26,7 +26,8 @@ use Rattle.xc_agree.specs.Tally.{time_of, first_commit, writes, applied_in, AreC
 use Rattle.xc_agree.specs.declared.audit.Audit.{Audit}
 use Rattle.xc_agree.specs.Audit.{end_of, state_of, IsAudit}
 use Rattle.xc_agree.specs.Cases.{IsFirst, case_of, cases_of, of_tablets, all_records}
-use Rattle.xc_agree.proofs.TallyLaws.{has, has-distinct, has-applied, Rising, distinct-rising, first-append, filter_map-append}
+use Rattle.xc_agree.proofs.TallyLaws.{has-applied, first-append, filter_map-append}
+use Rattle.xc_record.proofs.NumberLaws.{has, has-distinct, Rising, distinct-rising}
 
 -- ---- the ends
 

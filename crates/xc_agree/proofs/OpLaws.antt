@@ -12,7 +12,8 @@ use Rattle.xc_record.specs.declared.record.Logs.{Logs}
 use Rattle.xc_record.specs.Accepted.{AcceptedTablet, accepted_tablets}
 use Rattle.xc_record.specs.Commits.{Provisional, provisional_cmp, intent_ops, intents_in, txn_ops}
 use Rattle.xc_record.specs.Lists.{insert_by, sort_by}
-use Rattle.xc_record.proofs.AcceptedLaws.{Each, Each-append}
+use Rattle.xc_record.proofs.AcceptedLaws.{Each}
+use Rattle.xc_record.proofs.ListLaws.{Each-append}
 
 any-insert : {X : Type 0} (q : X → Bool) (cmp : X → X → Ordering) (x : X) (ys : List X) → list_any q (insert_by cmp x ys) ≡ (q x || list_any q ys)
 any-insert q cmp x [] = refl

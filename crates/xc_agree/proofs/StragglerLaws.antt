@@ -16,7 +16,7 @@ use Rattle.xc_record.specs.Order.{safe_value}
 use Rattle.xc_record.specs.Accepted.{AcceptedTablet, accepted_tablets}
 use Rattle.xc_record.specs.Commits.{txn_ops}
 use Rattle.xc_record.specs.Agreement.{straggles_at, path_above, straggler}
-use Rattle.xc_record.proofs.AcceptedLaws.{Each, Each-filter}
+use Rattle.xc_record.proofs.AcceptedLaws.{Each}
 use Rattle.xc_agree.specs.declared.held.Held.{Held}
 use Rattle.xc_agree.specs.Seen.{waits_from}
 use Rattle.xc_agree.specs.Held.{is_held, writes_at, wait_kind, waits_by}
@@ -25,6 +25,7 @@ use Rattle.xc_agree.proofs.EndLaws.{straggles, any_op}
 use Rattle.xc_agree.proofs.KeyLaws.{at_key, straggles-key}
 use Rattle.xc_agree.proofs.OpLaws.{OpsIn, ops-in, each-flat}
 use Rattle.xc_agree.proofs.TreeLaws.{IsTree, at_hash, below_number}
+use Rattle.xc_record.proofs.ListLaws.{Each-filter}
 
 -- ---- a wider test
 

@@ -1,10 +1,10 @@
 -- Laws of the commits of some records.
-use Rattle.std.proofs.Common.{◌≡◌, ℕ, ◌+◌, ◌<◌, Bool, true, false, cond, ◌||◌, List, [], ◌∷◌, ◌++◌, length, refl, ap, sym, ◌∙◌, arith}
+use Rattle.std.proofs.Common.{◌≡◌, ℕ, ◌+◌, true, false, ◌||◌, List, [], ◌∷◌, ◌++◌, length, refl, ap, sym, ◌∙◌, arith}
 use Rattle.std.proofs.lemmas.List.{append-nil}
 use Rattle.std.proofs.Common.{length-append}
 use Rattle.std.proofs.lemmas.Bool.Decides.{nat_tests}
-use Rattle.std.specs.Prelude.{Option, Some, None, nat_lt, if◌then◌else◌, ◌==◌, is_some}
-use Rattle.std.specs.List.{list_any, filter_map, cons_option}
+use Rattle.std.specs.Prelude.{Option, Some, None, if◌then◌else◌, ◌==◌, is_some}
+use Rattle.std.specs.List.{filter_map, cons_option}
 use Rattle.xc_record.specs.declared.record.Kind.{Kind}
 use Rattle.xc_record.specs.declared.record.Kind.TheVariants.{Write, Intent, Apply, Abort, Safe, Split}
 use Rattle.xc_record.specs.declared.record.Op.{Op}
@@ -13,36 +13,7 @@ use Rattle.xc_record.specs.Commits.{applies, applied_txn, insert_number, distinc
 use Rattle.xc_record.specs.Lists.{first_some, or_else}
 use Rattle.xc_agree.specs.declared.commits.Commits.{Commits}
 use Rattle.xc_agree.specs.Tally.{first_commit, writes, applied_in, tally, time_of, AreCommits}
-
-abbrev pub has : ℕ → List ℕ → Bool
-has n ms = list_any (λ m. m == n) ms
-
-pub has-insert : (n m : ℕ) (ms : List ℕ) → has n (insert_number m ms) ≡ (m == n || has n ms)
-has-insert n m [] = refl
-has-insert n m (k ∷ ms) = grind (arith, nat_tests, has-insert n m ms)
-
-pub has-distinct : (n : ℕ) (ms : List ℕ) → has n (distinct ms) ≡ has n ms
-has-distinct n [] = refl
-has-distinct n (m ∷ ms) = has-insert n m (distinct ms) ∙ ap (λ b. m == n || b) (has-distinct n ms)
-
--- the numbers rise
-abbrev pub Rising : List ℕ → Type 0
-Rising [] = Unit {0}
-Rising (n ∷ ns) = ((m : ℕ) → has m ns ≡ true → n < m) × Rising ns
-
-insert-rising : (n : ℕ) (ms : List ℕ) → Rising ms → Rising (insert_number n ms)
-insert-rising n [] h = (λ m e. cc, tt)
-insert-rising n (m ∷ ms) h = elim (nat_lt n m) as (λ b. nat_lt n m ≡ b → Rising (cond b (n ∷ m ∷ ms) (cond (n == m) (m ∷ ms) (m ∷ insert_number n ms)))) [
-  | true ↦ λ e. (λ k is. grind (arith, nat_tests, h.0 k), h)
-  | false ↦ λ e. elim (n == m) as (λ b. n == m ≡ b → Rising (cond b (m ∷ ms) (m ∷ insert_number n ms))) [
-    | true ↦ λ _. h
-    | false ↦ λ apart. (λ k is. grind (arith, nat_tests, h.0 k, has-insert k n ms), insert-rising n ms h.1)
-  ] refl
-] refl
-
-pub distinct-rising : (ns : List ℕ) → Rising (distinct ns)
-distinct-rising [] = tt
-distinct-rising (n ∷ ns) = insert-rising n (distinct ns) (distinct-rising ns)
+use Rattle.xc_record.proofs.NumberLaws.{has, has-distinct, has-append, Rising, distinct-rising}
 
 length-insert : (n : ℕ) (ms : List ℕ) → Rising ms → length (insert_number n ms) ≡ length ms + (if has n ms then 0 else 1)
 length-insert n [] h = refl
@@ -50,10 +21,6 @@ length-insert n (m ∷ ms) h = grind (arith, nat_tests, length-insert n ms h.1, 
 
 length-distinct : (n : ℕ) (ns : List ℕ) → length (distinct (n ∷ ns)) ≡ length (distinct ns) + (if has n ns then 0 else 1)
 length-distinct n ns = length-insert n (distinct ns) (distinct-rising ns) ∙ ap (λ b. length (distinct ns) + (if b then 0 else 1)) (has-distinct n ns)
-
-pub has-append : (n : ℕ) (xs ys : List ℕ) → has n (xs ++ ys) ≡ (has n xs || has n ys)
-has-append n [] ys = refl
-has-append n (x ∷ xs) ys = grind (arith, has-append n xs ys)
 
 distinct-snoc : (ns : List ℕ) (n : ℕ) → length (distinct (ns ++ n ∷ [])) ≡ length (distinct ns) + (if has n ns then 0 else 1)
 distinct-snoc [] n = refl

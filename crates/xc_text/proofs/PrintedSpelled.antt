@@ -1,8 +1,7 @@
 -- What is printed of valid logs spells them: the entries of tablet 0, then those of tablet 1 and so on.
 use Rattle.std.proofs.Common.{◌≡◌, ℕ, zero, suc, ◌+◌, ◌<◌, ◌≤◌, ◌==◌, Bool, true, false, ◌&&◌, nat_lt, List, [], ◌∷◌, ◌++◌, length, map, flat_map, Some, Ok, if◌then◌else◌, slice_get, refl, sym, ap, ◌∙◌, append_assoc, codes, arith}
-use Rattle.std.proofs.lemmas.Bool.{and_parts}
-use Rattle.std.proofs.lemmas.Bool.Decides.{nat_tests}
-use Rattle.std.proofs.lemmas.List.{length_push}
+use Rattle.std.proofs.lemmas.Bool.{and_parts, lt-ltb, eqb-true, ne_eqb, eq-eqb}
+use Rattle.std.proofs.lemmas.List.{length_push, append-nil}
 use Rattle.std.proofs.lemmas.List.Folds.{list_all-append}
 use Rattle.std.specs.List.{list_all}
 use Rattle.xc_record.specs.Headers.{fit_from, fits, next_after, headers_fit}
@@ -16,8 +15,6 @@ use Rattle.xc_record.specs.declared.record.Logs.{Logs}
 use Rattle.xc_text.specs.LogText.{logs_of}
 use Rattle.xc_text.specs.Printed.{header_text, record_text, records_text, text_of}
 use Rattle.xc_text.specs.Spelled.{Entry, entry_text, given, PrintedIsSpelled}
-use Rattle.xc_text.proofs.PrintedHeaders.{eq_of}
-use Rattle.xc_text.proofs.PrintedLaws.{append-nil}
 use Rattle.xc_text.proofs.SpelledRun.{spelled_is_read}
 
 -- headers by number, from n on
@@ -75,18 +72,6 @@ given_other : (id : ℕ) (rs : List Record) (n : ℕ) → (n == id) ≡ false �
 given_other id [] n h = refl
 given_other id (r ∷ rs) n h = rw h (given_other id rs n h)
 
-same : (a b : ℕ) → a ≡ b → (a == b) ≡ true
-same a b h = grind (arith, nat_tests)
-
-above : (a b : ℕ) → b < a → (a == b) ≡ false
-above a b h = grind (arith, nat_tests)
-
-below : (a b : ℕ) → a < b → (a == b) ≡ false
-below a b h = grind (arith, nat_tests)
-
-lt_test : (a b : ℕ) → a < b → nat_lt a b ≡ true
-lt_test a b h = grind (arith, nat_tests)
-
 -- the records of a tablet, and what the others are given
 given_parts : (id : ℕ) (t : Tablet) (ts : List Tablet) (own rest : List Record) → given id (entries t.header.id t.records) ≡ own → given id (printed ts) ≡ rest → given id (printed (t ∷ ts)) ≡ own ++ rest
 given_parts id t ts own rest a b =
@@ -96,22 +81,22 @@ given_before : (n id : ℕ) (ts : List Tablet) → numbered n (headers_of ts) �
 given_before n id [] ids l = refl
 given_before n id (t ∷ ts) ids l =
     let p = and_parts (t.header.id == n) (numbered (n + 1) (headers_of ts)) ids in
-    let is : t.header.id ≡ n = eq_of t.header.id n p.0 in
-    given_parts id t ts [] [] (given_other id t.records t.header.id (above t.header.id id (omega arith))) (given_before (n + 1) id ts p.1 (omega arith))
+    let is : t.header.id ≡ n = eqb-true t.header.id n p.0 in
+    given_parts id t ts [] [] (given_other id t.records t.header.id (ne_eqb t.header.id id (λ same. omega arith))) (given_before (n + 1) id ts p.1 (omega arith))
 
 given_printed : (n j : ℕ) (ts : List Tablet) (t : Tablet) → numbered n (headers_of ts) ≡ true → slice_get ts j ≡ Some t → given (n + j) (printed ts) ≡ t.records
 given_printed n j [] t ids e = cc
 given_printed n zero (x ∷ ts) t ids e =
     let p = and_parts (x.header.id == n) (numbered (n + 1) (headers_of ts)) ids in
-    let is : x.header.id ≡ n = eq_of x.header.id n p.0 in
+    let is : x.header.id ≡ n = eqb-true x.header.id n p.0 in
     let here : x ≡ t = cc in
-    given_parts (n + 0) x ts x.records [] (given_own (n + 0) x.records x.header.id (same x.header.id (n + 0) (omega arith))) (given_before (n + 1) (n + 0) ts p.1 (omega arith))
+    given_parts (n + 0) x ts x.records [] (given_own (n + 0) x.records x.header.id (eq-eqb x.header.id (n + 0) (omega arith))) (given_before (n + 1) (n + 0) ts p.1 (omega arith))
     ∙ append-nil x.records ∙ ap (λ u. u.records) here
 given_printed n (suc j) (x ∷ ts) t ids e =
     let p = and_parts (x.header.id == n) (numbered (n + 1) (headers_of ts)) ids in
-    let is : x.header.id ≡ n = eq_of x.header.id n p.0 in
+    let is : x.header.id ≡ n = eqb-true x.header.id n p.0 in
     let at : n + suc j ≡ n + 1 + j = omega arith in
-    given_parts (n + suc j) x ts [] t.records (given_other (n + suc j) x.records x.header.id (below x.header.id (n + suc j) (omega arith)))
+    given_parts (n + suc j) x ts [] t.records (given_other (n + suc j) x.records x.header.id (ne_eqb x.header.id (n + suc j) (λ same. omega arith)))
     (ap (λ id. given id (printed ts)) at ∙ given_printed (n + 1) j ts t p.1 e)
 
 -- ---- their numbers
@@ -121,13 +106,13 @@ all_below count es = list_all (λ e. nat_lt e.id count) es
 
 own_known : (count id : ℕ) (rs : List Record) → id < count → all_below count (entries id rs) ≡ true
 own_known count id [] l = refl
-own_known count id (r ∷ rs) l = rw (lt_test id count l) (own_known count id rs l)
+own_known count id (r ∷ rs) l = rw (lt-ltb id count l) (own_known count id rs l)
 
 printed_known : (count n : ℕ) (ts : List Tablet) → numbered n (headers_of ts) ≡ true → n + length ts ≤ count → all_below count (printed ts) ≡ true
 printed_known count n [] ids l = refl
 printed_known count n (t ∷ ts) ids l =
     let p = and_parts (t.header.id == n) (numbered (n + 1) (headers_of ts)) ids in
-    let is : t.header.id ≡ n = eq_of t.header.id n p.0 in
+    let is : t.header.id ≡ n = eqb-true t.header.id n p.0 in
     list_all-append (λ e. nat_lt e.id count) (entries t.header.id t.records) (printed ts)
     ∙ rw (own_known count t.header.id t.records (omega arith)) (printed_known count (n + 1) ts p.1 (omega arith))
 

@@ -4,8 +4,7 @@ use Rattle.std.specs.Prelude.{Option, Some, None, fold, if◌then◌else◌, ◌
 use Rattle.std.specs.List.{list_any, list_all}
 use Rattle.std.specs.Option.{option_map_or}
 use Rattle.std.proofs.lemmas.List.{take-append-drop, length-take-le}
-use Rattle.std.proofs.lemmas.Bool.{eqb-true, and_parts, ne_eqb}
-use Rattle.std.proofs.lemmas.Bool.Decides.{nat_tests}
+use Rattle.std.proofs.lemmas.Bool.{eqb-true, and_parts, ne_eqb, eq-eqb}
 use Rattle.xc_record.specs.declared.record.Record.{Record}
 use Rattle.xc_record.specs.declared.record.Header.{Header}
 use Rattle.xc_record.specs.declared.record.Tablet.{Tablet}
@@ -135,22 +134,19 @@ none_either : (b : Bool) (o : Option (ℕ × Break)) → o ≡ None → (if b th
 none_either true o e = e
 none_either false o e = refl
 
-same_eqb : (a b : ℕ) → a ≡ b → (a == b) ≡ true
-same_eqb a b e = grind (arith, nat_tests)
-
 at_end-one : (lo hi place n : ℕ) (rs : List Record) (order : Progress) → IsPulled rs place order → place ≡ length rs
     → poll_answer (one lo hi rs) (session_at place) 0 n ≡ poll.AtEnd
 at_end-one lo hi place n rs order p e =
     let rest : drop place rs ≡ [] = drop_of_length-le rs (omega arith) in
     let none : halt_from root_start 1 rs ≡ None = halt_rest rs place order p ∙ ap (halt_from order (1 + place)) rest in
-    poll_answer-one lo hi place n rs ∙ rw (none_either (place == length (accepted_from root_start rs)) (halt_from root_start 1 rs) none, same_eqb place (length rs) e) refl
+    poll_answer-one lo hi place n rs ∙ rw (none_either (place == length (accepted_from root_start rs)) (halt_from root_start 1 rs) none, eq-eqb place (length rs) e) refl
 
 halted-one : (lo hi place n : ℕ) (rs : List Record) (order : Progress) (r : Record) (kind : Break) → IsPulled rs place order → place < length rs → r ≡ get_or rs place r → break_of order r ≡ Some kind
     → poll_answer (one lo hi rs) (session_at place) 0 n ≡ poll.Halted (1 + place) kind
 halted-one lo hi place n rs order r kind p within is broken =
     let none : length (accepted_from order (drop place rs)) ≡ 0 = ap length (accepted_none rs place order r kind within is broken) in
     let count = accepted_count rs place order p in
-    let here : (place == length (accepted_from root_start rs)) ≡ true = same_eqb _ _ (omega arith) in
+    let here : (place == length (accepted_from root_start rs)) ≡ true = eq-eqb _ _ (omega arith) in
     let found : halt_from root_start 1 rs ≡ Some (1 + place, kind) = halt_rest rs place order p ∙ ap (halt_from order (1 + place)) (next_record rs place r within is) ∙ rw broken refl in
     poll_answer-one lo hi place n rs ∙ rw (here, found) refl
 

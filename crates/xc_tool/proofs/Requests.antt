@@ -5,6 +5,7 @@ use Rattle.std.specs.List.{list_any}
 use Rattle.std.specs.Io.KnownBytes.{Appends}
 use Rattle.std.proofs.KnownBytes.{Appends-trans}
 use Rattle.std.proofs.lemmas.Bool.Decides.{nat_tests}
+use Rattle.std.proofs.Math.Bool.{or_assoc, or-false}
 use Rattle.xc_base.specs.Told.{IsPrefix}
 use Rattle.xc_base.specs.Ran.{IsCutShort, Wrote}
 use Rattle.xc_base.specs.Streams.{Stream, RoseIn}
@@ -56,14 +57,6 @@ starts_at : (logs : Logs) (rs : List Record) → IsOne logs rs → start logs �
 starts_at logs rs is = subst (λ l. start l ≡ session_at 0) (sym is.is) refl
 
 -- ---- the requests
-
-or_assoc : (a b c : Bool) → ((a || b) || c) ≡ (a || (b || c))
-or_assoc true b c = refl
-or_assoc false b c = refl
-
-or_none : (a : Bool) → (a || false) ≡ a
-or_none true = refl
-or_none false = refl
 
 -- all lines of the requests
 abbrev pub all_lines : Logs → List Request → List Line
@@ -144,7 +137,7 @@ pub ended_halted : (out : Stream) (logs : Logs) (all rest : List Request) (went 
     → Wrote (lines_output (all_lines logs all)) ⊥ status.Halted out
 ended_halted out logs all rest went halted place none goes e wrote =
     let at_end : GoesOn logs all went halted place [] = subst (GoesOn logs all went halted place) none goes in
-    let met : list_any is_halt (all_lines logs all) ≡ true = sym at_end.halts ∙ or_none halted ∙ e in
+    let met : list_any is_halt (all_lines logs all) ≡ true = sym at_end.halts ∙ or-false halted ∙ e in
     record {
       shown = (sym (ap (λ b. if b then status.Halted else status.Ok) met), subst (Appends out.before out.after) (all_text logs all went halted place at_end) wrote);
       read_fault = λ e. cc;
@@ -155,7 +148,7 @@ pub ended_ok : (out : Stream) (logs : Logs) (all rest : List Request) (went : Li
     → Wrote (lines_output (all_lines logs all)) ⊥ status.Ok out
 ended_ok out logs all rest went halted place none goes e wrote =
     let at_end : GoesOn logs all went halted place [] = subst (GoesOn logs all went halted place) none goes in
-    let met : list_any is_halt (all_lines logs all) ≡ false = sym at_end.halts ∙ or_none halted ∙ e in
+    let met : list_any is_halt (all_lines logs all) ≡ false = sym at_end.halts ∙ or-false halted ∙ e in
     record {
       shown = (sym (ap (λ b. if b then status.Halted else status.Ok) met), subst (Appends out.before out.after) (all_text logs all went halted place at_end) wrote);
       read_fault = λ e. cc;

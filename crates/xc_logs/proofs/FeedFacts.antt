@@ -1,13 +1,11 @@
 -- Well-formed logs make a feed, and their records keep their headers.
-use Rattle.std.proofs.Common.{◌≡◌, ℕ, zero, suc, ◌+◌, ◌-◌, ◌<◌, ◌≤◌, ◌++◌, Bool, true, false, List, [], ◌∷◌, length, get_or, inl, inr, take, drop, map, refl, sym, ap, ◌∙◌, subst, add-zero, zero-add, length-append, arith}
+use Rattle.std.proofs.Common.{◌≡◌, ℕ, zero, suc, ◌+◌, ◌-◌, ◌<◌, ◌≤◌, Bool, true, false, List, [], ◌∷◌, length, get_or, inl, inr, take, drop, map, refl, sym, ap, ◌∙◌, subst, add-zero, zero-add, arith}
 use Rattle.std.specs.Prelude.{Option, Some, None, ◌⊎◌, IsTrue, IsSome, is_some, slice_get, slice_index, sum_by, ◌&&◌, ◌==◌, nat_le, if◌then◌else◌, option_map}
 use Rattle.std.specs.Option.{option_map_or}
 use Rattle.std.proofs.lemmas.List.{length-map}
 use Rattle.std.proofs.lemmas.List.Sums.{get_or-le-sum_by}
 use Rattle.std.proofs.lemmas.Option.{slice_get_cases}
 use Rattle.xc_base.specs.Names.{is_key, is_value}
-use Rattle.xc_record.specs.declared.rules.Next.{Next}
-use Rattle.xc_record.specs.declared.rules.Next.TheVariants.{RootAt}
 use Rattle.xc_record.specs.Accepted.{records}
 use Rattle.xc_record.proofs.HeaderLists.{get_of_headers}
 use Rattle.std.specs.List.{list_all}
@@ -22,11 +20,12 @@ use Rattle.xc_record.specs.declared.record.Tablet.{Tablet}
 use Rattle.xc_record.specs.declared.record.Logs.{Logs}
 use Rattle.xc_record.specs.Hash.{hash_of, holds}
 use Rattle.xc_record.specs.Order.{is_split}
-use Rattle.xc_record.specs.Headers.{children, headers_fit, fits, fit_from, next_after, parent_fits}
+use Rattle.xc_record.specs.Headers.{children, headers_fit}
 use Rattle.xc_record.specs.Valid.{is_valid, headers_of, tablet_fits, record_fits, kind_fits, op_fits, ops_fit, ends_fit, is_time, is_txn}
 use Rattle.xc_logs.specs.Feed.{IsFeed, KeepHeader, counts_of, fetched, ops_keep, kind_keeps, keep_from}
 use Rattle.xc_logs.proofs.ValidFacts.{valid_parts}
 use Rattle.xc_record.proofs.ListLaws.{all-at}
+use Rattle.xc_record.proofs.HeaderLaws.{Numbered-at, headers_fit-all}
 
 -- ---- records that fit keep the header
 
@@ -109,21 +108,8 @@ keep_from-take header pair count number (suc k) (r ∷ rs) e =
 
 -- ---- a tablet by its number
 
-numbered : (before : List Header) (next : Next) (hs : List Header) → fit_from before next hs ≡ true → (i : ℕ) (h : Header) → slice_get hs i ≡ Some h → h.id ≡ length before + i
-numbered before next [] e i h there = cc
-numbered before next (x ∷ hs) e zero h there =
-    let fit = and_parts (fits before next x) (fit_from (before ++ x ∷ []) (next_after before next x x.parent) hs) e in
-    let id = eqb-true x.id (length before) (and_parts (x.id == length before) (nat_le x.lo x.hi && parent_fits before next x x.parent) fit.0).0 in
-    let same : x ≡ h = cc in
-    omega (arith, id, ap (λ (y : Header). y.id) same)
-numbered before next (x ∷ hs) e (suc i) h there =
-    let fit = and_parts (fits before next x) (fit_from (before ++ x ∷ []) (next_after before next x x.parent) hs) e in
-    let later = numbered (before ++ x ∷ []) (next_after before next x x.parent) hs fit.1 i h there in
-    omega (arith, later, length-append before (x ∷ []))
-
 number_is : (hs : List Header) (i : ℕ) (h : Header) → headers_fit hs ≡ true → slice_get hs i ≡ Some h → h.id ≡ i
-unfolding headers_fit
-number_is hs i h e there = numbered [] (RootAt 0) hs e i h there ∙ zero-add i
+number_is hs i h e there = Numbered-at 0 hs i h (headers_fit-all hs e).1.numbered there ∙ zero-add i
 
 count_at : (ts : List Tablet) (i : ℕ) (t : Tablet) → slice_get ts i ≡ Some t → slice_index (map (λ (t : Tablet). length t.records) ts) i ≡ length t.records
 count_at [] i t there = cc

@@ -2,7 +2,7 @@
 use Rattle.std.proofs.Common.{◌≡◌, ◌≢◌, ℕ, ◌+◌, ◌<◌, ◌≤◌, Bool, true, false, cond, List, [], ◌∷◌, ◌++◌, map, length, Some, None, refl, ap, sym, ◌∙◌, arith, subst, append_assoc, append-nil, inl, inr, ⊎_elim}
 use Rattle.std.proofs.lemmas.Bool.Decides.{nat_tests}
 use Rattle.std.proofs.lemmas.Bool.{cases_Bool, cases_lt, true≢false}
-use Rattle.std.proofs.lemmas.List.{map-append}
+use Rattle.std.proofs.lemmas.List.{map-append, length-map}
 use Rattle.xc_model.proofs.StableSort.{Each, Exists}
 use Rattle.xc_record.specs.declared.record.Record.{Record}
 use Rattle.xc_record.specs.declared.record.Header.{Header}
@@ -134,8 +134,7 @@ all-below : (hs : List Header) (i : ℕ) → Numbered 0 hs → i ≡ length hs �
 all-below hs i m e = Each-weaker (λ d. d.id < 0 + length hs) (λ d. d.id < i) (λ d q. omega arith) hs (numbered-below 0 hs m)
 
 pub heads-length : (es : List AcceptedTablet) → length (heads es) ≡ length es
-heads-length [] = refl
-heads-length (e ∷ es) = omega (arith, heads-length es)
+heads-length es = length-map es (λ e. e.header)
 
 -- a child whose parent is at `id`
 child-at : (done : List AcceptedTablet) (id : ℕ) (t p : Header) → Numbered 0 (heads done) → t.id ≡ length (heads done) → slice_get (heads done) id ≡ Some p → t.parent ≡ Some id → p.lo ≤ t.lo → t.hi ≤ p.hi

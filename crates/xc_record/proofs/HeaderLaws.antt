@@ -206,19 +206,21 @@ Fits-snoc before next t f e = go t.parent refl (and_parts _ _ rest.1)
     go None p h = root_fits-snoc before next t f (eqb-true _ _ rest.0) (leb-true _ _ h.0) p h.1
     go (Some id) p h = child_fits-snoc before next id t f (eqb-true _ _ rest.0) (leb-true _ _ h.0) p h.1
 
-fit_from-lines : (before : List Header) (next : Next) (hs : List Header) → Fits before next → fit_from before next hs ≡ true → (hash : ℕ) → Line None (line hash (before ++ hs))
-fit_from-lines before next [] f e hash = rw append-nil (f.lines hash)
-fit_from-lines before next (h ∷ hs) f e hash =
-    rw (← append_assoc before (h ∷ []) hs) (fit_from-lines (before ++ h ∷ []) (next_after before next h h.parent) hs (Fits-snoc before next h f (and_parts _ _ e).0) (and_parts _ _ e).1 hash)
-
 -- before the first header
 pub Fits-none : Fits [] (RootAt 0)
 Fits-none = record { numbered = tt; lines = λ hash. tt; awaited = tt }
 
--- the tablets that hold a hash form a line from a root down
-pub headers_fit-line : (hs : List Header) → headers_fit hs ≡ true → (hash : ℕ) → Line None (line hash hs)
+abbrev pub FitsAll : List Header → Type 0
+FitsAll hs = (next : Next) × Fits hs next
+
+fit_from-all : (before : List Header) (next : Next) (hs : List Header) → Fits before next → fit_from before next hs ≡ true → FitsAll (before ++ hs)
+fit_from-all before next [] f e = subst FitsAll (sym (append-nil before)) (next, f)
+fit_from-all before next (h ∷ hs) f e =
+    subst FitsAll (append_assoc before (h ∷ []) hs) (fit_from-all (before ++ h ∷ []) (next_after before next h h.parent) hs (Fits-snoc before next h f (and_parts _ _ e).0) (and_parts _ _ e).1)
+
+pub headers_fit-all : (hs : List Header) → headers_fit hs ≡ true → FitsAll hs
 unfolding headers_fit
-headers_fit-line hs e hash = fit_from-lines [] (RootAt 0) hs Fits-none e hash
+headers_fit-all hs e = fit_from-all [] (RootAt 0) hs Fits-none e
 
 -- a child's parent stands before it
 pub parent_stands : (before : List Header) (next : Next) (t : Header) (id : ℕ) → Fits before next → fits before next t ≡ true → t.parent ≡ Some id → (parent : Header) × (slice_get before id ≡ Some parent)

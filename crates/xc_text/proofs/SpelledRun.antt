@@ -21,7 +21,7 @@ use Rattle.xc_text.specs.LogText.{BadLine, begun, is_inner, in_range, is_split_o
 use Rattle.xc_text.specs.Printed.{header_text, record_text}
 use Rattle.xc_text.specs.Spelled.{Entry, entry_text, given, SpelledIsRead, SpellsOne}
 use Rattle.xc_text.proofs.ValidParts.{split_off_is, place}
-use Rattle.xc_text.proofs.ValidLaws.{records_of, operations_of}
+use Rattle.xc_text.proofs.ValidLaws.{records_of, operations_of, bare}
 use Rattle.xc_text.proofs.PrintedHeaders.{all_small}
 use Rattle.xc_text.proofs.PrintedLines.{EntryFits, entry_bytes, entry_line, entry_is}
 use Rattle.xc_text.proofs.PrintedLaws.{Gives, back, step_is, at, at_headers, headers_run, kind_good, not_zero, no_split_yet, part}
@@ -112,8 +112,7 @@ no_operations [] = refl
 no_operations (t ∷ ts) = let e = sum_by-cons (λ u. sum_by (λ q. ops_in q.kind) u.records) (part t.header []) (bares ts) in let more = no_operations ts in omega arith
 
 length_bares : (ts : List Tablet) → length (bares ts) ≡ length ts
-length_bares [] = refl
-length_bares (t ∷ ts) = let e = length_bares ts in omega arith
+length_bares ts = length-map ts (λ t. bare t.header)
 
 abbrev spelled_text : Logs → List Entry → List ℕ
 spelled_text logs es = codes "xclog 1\n" ++ (flat_map (λ t. header_text t.header) logs.tablets ++ (flat_map entry_text es ++ codes "end\n"))

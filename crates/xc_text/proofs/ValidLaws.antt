@@ -4,7 +4,7 @@ use Rattle.std.proofs.lemmas.Bool.{and_parts, ltb-true, le-leb, leb-false, ltb-f
 use Rattle.std.proofs.lemmas.Bool.Decides.{nat_tests}
 use Rattle.std.proofs.lemmas.List.Folds.{list_all-append}
 use Rattle.std.proofs.lemmas.List.Sums.{sum_by-append, sum_by-cons, sum_by_push}
-use Rattle.std.proofs.lemmas.List.{length_push, append-nil, length-map}
+use Rattle.std.proofs.lemmas.List.{length_push, append-nil, length-map, map-append}
 use Rattle.std.specs.List.{list_all, list_any}
 use Rattle.xc_base.specs.Words.{split_on}
 use Rattle.xc_record.specs.Grown.{grown, with_record}
@@ -88,8 +88,7 @@ bare_at_header Records next ts h m b a = cc
 bare_at_header Ended next ts h m b a = cc
 
 headers_append : (xs ys : List Tablet) → headers_of (xs ++ ys) ≡ headers_of xs ++ headers_of ys
-headers_append [] ys = refl
-headers_append (x ∷ xs) ys = ap (λ hs. x.header ∷ hs) (headers_append xs ys)
+headers_append xs ys = map-append (λ t. t.header) xs ys
 
 abbrev pub bare : Header → Tablet
 bare h = record { header = h; records = [] }

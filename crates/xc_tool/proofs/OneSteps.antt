@@ -20,12 +20,13 @@ use Rattle.xc_record.specs.Accepted.{accepted_tablets, root_start, halt_from, ha
 use Rattle.xc_record.specs.Headers.{headers_fit, parent_fits, children, fits}
 use Rattle.xc_record.specs.Order.{Progress, after, accepted_from, break_of}
 use Rattle.xc_record.specs.Step.{step, open_step, poll_step, poll_answer}
-use Rattle.xc_record.specs.Valid.{is_valid, record_fits, ends_fit, headers_of, tablet_fits}
+use Rattle.xc_record.specs.Valid.{record_fits, ends_fit, tablet_fits}
 use Rattle.xc_tool.specs.declared.script.Request.TheVariants.{Poll, Read}
 use Rattle.xc_tool.specs.Later.{is_of_transaction, is_later, has_transaction, IsTaken}
 use Rattle.xc_tool.specs.OneTablet.{session_at, IsPulled, HasRecords, Answers, visible_ops, value_after}
 use Rattle.xc_tool.proofs.OneTablet.{accepted_rest, accepted_none, accepted_one, next_record, halts_later, visible_pulled}
 use Rattle.xc_tool.proofs.OneLogs.{one, IsOne, row-one, safe_time-one}
+use Rattle.xc_logs.proofs.ValidFacts.{valid_parts}
 
 -- ---- logs that are taken have one root tablet
 
@@ -44,13 +45,6 @@ one_header h e =
     let range = and_parts _ (parent_fits [] (RootAt 0) h h.parent) id.1 in
     (eqb-true h.id 0 id.0, parent_none h h.parent range.1)
 
-pub valid_parts : (logs : Logs) → is_valid logs ≡ true → (headers_fit (headers_of logs.tablets) ≡ true) × (list_all (tablet_fits (headers_of logs.tablets)) logs.tablets ≡ true)
-unfolding is_valid
-valid_parts logs e =
-    let outer = and_parts (headers_fit (headers_of logs.tablets)) _ e in
-    let inner = and_parts (list_all (tablet_fits (headers_of logs.tablets)) logs.tablets) _ outer.1 in
-    (outer.0, inner.0)
-
 abbrev logs_of_one : Tablet → Logs
 logs_of_one t = record { tablets = t ∷ [] }
 
@@ -60,8 +54,8 @@ plain_one t e = elim (has_transaction t) as (λ b. (b || false) ≡ false → b 
 one_tablet : (t : Tablet) → IsTaken (logs_of_one t) → IsOne (logs_of_one t) t.records
 one_tablet t taken =
     let parts = valid_parts (logs_of_one t) taken.valid in
-    let head = one_header t.header parts.0 in
-    let tablet = and_parts (tablet_fits (t.header ∷ []) t) _ parts.1 in
+    let head = one_header t.header parts.headers in
+    let tablet = and_parts (tablet_fits (t.header ∷ []) t) _ parts.tablets in
     let fit = and_parts (list_all (record_fits t.header (children (t.header ∷ []) t.header.id)) t.records) _ tablet.0 in
     let none : children (t.header ∷ []) t.header.id ≡ None = children_none t.header t.header.id head.1 in
     let header : t.header ≡ record { id = 0; lo = t.header.lo; hi = t.header.hi; parent = None } = header_is t.header head.0 head.1 in

@@ -24,7 +24,8 @@ use Rattle.xc_tool.specs.OneTablet.{session_at, HasRecords, Answers}
 use Rattle.xc_tool.specs.Outcome.{lines_output}
 use Rattle.xc_tool.specs.Script.{asked}
 use Rattle.xc_tool.proofs.OneLogs.{IsOne}
-use Rattle.xc_tool.proofs.OneSteps.{one_of, valid_parts}
+use Rattle.xc_tool.proofs.OneSteps.{one_of}
+use Rattle.xc_logs.proofs.ValidFacts.{valid_parts}
 
 -- ---- the one tablet
 
@@ -42,14 +43,14 @@ pub has_first : (logs : Logs) → IsTaken logs → 0 < length logs.tablets
 has_first logs taken = go logs.tablets taken
   where
     go : (ts : List Tablet) → IsTaken (record { tablets = ts }) → 0 < length ts
-    go [] k = absurd (no_header (valid_parts (record { tablets = [] }) k.valid).0)
+    go [] k = absurd (no_header (valid_parts (record { tablets = [] }) k.valid).headers)
     go (t ∷ ts) k = omega arith
 
 pub has_records : (logs : Logs) (t : Tablet) (rs : List Record) → IsTaken logs → t ≡ get_or logs.tablets 0 t → rs ≡ t.records → HasRecords logs rs
 has_records logs t rs taken is e = go logs.tablets taken is
   where
     go : (ts : List Tablet) → IsTaken (record { tablets = ts }) → t ≡ get_or ts 0 t → map (λ t. t.records) ts ≡ rs ∷ []
-    go [] k i = absurd (no_header (valid_parts (record { tablets = [] }) k.valid).0)
+    go [] k i = absurd (no_header (valid_parts (record { tablets = [] }) k.valid).headers)
     go (u ∷ []) k i = let same : t ≡ u = i in ap (λ (t : Tablet). t.records ∷ []) (sym same) ∙ ap (λ r. r ∷ []) (sym e)
     go (u ∷ v ∷ ts) k i = absurd (two_later u v ts k.now)
 

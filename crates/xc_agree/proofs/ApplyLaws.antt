@@ -13,7 +13,7 @@ use Rattle.std.specs.Ordering.{nat_cmp, is_lt}
 use Rattle.xc_record.specs.Commits.{distinct}
 use Rattle.xc_agree.specs.declared.commits.Commit.{Commit}
 use Rattle.xc_agree.specs.Slots.{time_of, Rises}
-use Rattle.xc_agree.proofs.TallyLaws.{has, has-distinct, Rising, distinct-rising}
+use Rattle.xc_record.proofs.NumberLaws.{has, has-distinct, Rising, distinct-rising}
 use denote.Ref.{Bor}
 use denote.Param.Members.{Mut}
 

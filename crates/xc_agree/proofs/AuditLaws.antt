@@ -27,7 +27,9 @@ use Rattle.xc_agree.specs.Tally.{first_commit, writes, applied_in, IsTally}
 use Rattle.xc_agree.specs.declared.audit.Audit.{Audit}
 use Rattle.xc_agree.specs.Audit.{end_of, state_of, IsAudit}
 use Rattle.xc_agree.specs.Cases.{IsFirst, case_of, cases_of, of_tablets, all_records}
-use Rattle.xc_agree.proofs.TallyLaws.{has, has-distinct, has-applied, Rising, distinct-rising, first-append, filter_map-append, writes-append}
+use Rattle.xc_record.proofs.NumberLaws.{has, has-distinct, Rising, distinct-rising}
+use Rattle.xc_agree.proofs.TallyLaws.{has-applied, first-append, filter_map-append, writes-append}
+use Rattle.std.proofs.lemmas.Bool.{or_right}
 
 -- ---- the ends
 
@@ -114,12 +116,8 @@ writes-here ts = ap (λ bs. length (flat_map (λ (b : AcceptedTablet). writes_in
 
 each-one : (f : ℕ → Option ℕ) (g : ℕ → ℕ → Commit) (ns : List ℕ) → ((n : ℕ) → has n ns ≡ true → is_some (f n) ≡ true) → length (flat_map (λ n. option_map_or (λ c. g n c ∷ []) (f n) []) ns) ≡ length ns
 each-one f g [] k = refl
-each-one f g (n ∷ ns) k = go (f n) refl (k n (rw (eq-eqb n n refl) refl)) (each-one f g ns (λ m h. k m (or-right (n == m) h)))
+each-one f g (n ∷ ns) k = go (f n) refl (k n (rw (eq-eqb n n refl) refl)) (each-one f g ns (λ m h. k m (or_right (n == m) _ h)))
   where
-    or-right : (a : Bool) {b : Bool} → b ≡ true → (a || b) ≡ true
-    or-right true e = refl
-    or-right false e = e
-
     go : (o : Option ℕ) → f n ≡ o → is_some (f n) ≡ true → length (flat_map (λ n. option_map_or (λ c. g n c ∷ []) (f n) []) ns) ≡ length ns
         → length (option_map_or (λ c. g n c ∷ []) o [] ++ flat_map (λ n. option_map_or (λ c. g n c ∷ []) (f n) []) ns) ≡ length (n ∷ ns)
     go None e h ih = absurd (no (sym h ∙ ap (λ o. is_some o) e))

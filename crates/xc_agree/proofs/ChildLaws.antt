@@ -9,6 +9,7 @@ use Rattle.xc_record.specs.declared.record.Tablet.{Tablet}
 use Rattle.xc_agree.specs.Cases.{AreLast}
 use Rattle.xc_agree.proofs.SplitLaws.{get-middle, take-count}
 use Rattle.xc_agree.proofs.Steps.{get-before, Where, Low, Same, High, place_of}
+use Rattle.xc_agree.proofs.Steps.{some-same}
 
 pub none-last : (lasts : List ℕ) → AreLast lasts []
 none-last lasts i p k t get parent last = absurd (none get)
@@ -21,9 +22,6 @@ pub last-more : (old new : List ℕ) (ts : List Tablet) (i : ℕ) (t : Tablet) �
     → ((q : ℕ) → slice_get new q ≡ (if option_map_or (λ p. p == q) t.header.parent false then option_map (λ _. i) (slice_get old q) else slice_get old q)) → AreLast new (take (i + 1) ts)
 last-more old new ts i t below is was step j p k u get parent last = go (option_map_or (λ q. q == p) t.header.parent false) refl (sym (step p) ∙ last)
   where
-    some-same : {X : Type 0} {x y : X} → Some x ≡ Some y → x ≡ y
-    some-same e = cc
-
     within : j < i + 1
     within = let n = slice_get_within (take (i + 1) ts) j u get in let m = take-count (i + 1) ts (omega arith) in omega arith
 

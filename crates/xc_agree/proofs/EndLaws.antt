@@ -17,14 +17,7 @@ use Rattle.xc_agree.specs.Seen.{Seen, see, see_kind, settles, passes, pends}
 use Rattle.xc_agree.specs.Held.{wait_kind}
 use Rattle.xc_record.proofs.SafeLaws.{break_of-floor}
 use Rattle.xc_agree.proofs.WaitLaws.{Below, below-see}
-
-or-assoc : (a b c : Bool) → ((a || b) || c) ≡ (a || (b || c))
-or-assoc true b c = refl
-or-assoc false b c = refl
-
-or-false : (b : Bool) → (b || false) ≡ b
-or-false true = refl
-or-false false = refl
+use Rattle.std.proofs.Math.Bool.{or-false, or-true, or_assoc}
 
 -- ---- the cases of single records
 
@@ -48,7 +41,7 @@ differs-see n c s time (Apply txn commit) =
 
 pub differs-all : (n c : ℕ) (s : Seen) (rs : List Record) → (fold (see n c) s rs).differs ≡ (s.differs || list_any (differs_at n c) rs)
 differs-all n c s [] = sym (or-false s.differs)
-differs-all n c s (r ∷ rs) = differs-all n c (see n c s r) rs ∙ ap (λ b. b || list_any (differs_at n c) rs) (differs-see n c s r.time r.kind) ∙ or-assoc s.differs (differs_at n c r) (list_any (differs_at n c) rs)
+differs-all n c s (r ∷ rs) = differs-all n c (see n c s r) rs ∙ ap (λ b. b || list_any (differs_at n c) rs) (differs-see n c s r.time r.kind) ∙ or_assoc s.differs (differs_at n c r) (list_any (differs_at n c) rs)
 
 late-see : (n c : ℕ) (s : Seen) (time : ℕ) (kind : Kind) → (see_kind n c s time kind).late ≡ (s.late || (is_some (intent_ops n kind) && nat_le c time))
 late-see n c s time (Write ops) = sym (or-false s.late)
@@ -63,17 +56,13 @@ late-see n c s time (Apply txn commit) =
 
 pub late-all : (n c : ℕ) (s : Seen) (rs : List Record) → (fold (see n c) s rs).late ≡ (s.late || list_any (late_at n c) rs)
 late-all n c s [] = sym (or-false s.late)
-late-all n c s (r ∷ rs) = late-all n c (see n c s r) rs ∙ ap (λ b. b || list_any (late_at n c) rs) (late-see n c s r.time r.kind) ∙ or-assoc s.late (late_at n c r) (list_any (late_at n c) rs)
+late-all n c s (r ∷ rs) = late-all n c (see n c s r) rs ∙ ap (λ b. b || list_any (late_at n c) rs) (late-see n c s r.time r.kind) ∙ or_assoc s.late (late_at n c r) (list_any (late_at n c) rs)
 
 aborted-see : (n c : ℕ) (s : Seen) (time : ℕ) (kind : Kind) → (see_kind n c s time kind).aborted ≡ (s.aborted || aborts n kind)
 aborted-see n c s time (Write ops) = sym (or-false s.aborted)
 aborted-see n c s time (Safe value) = sym (or-false s.aborted)
 aborted-see n c s time (Split at left right) = sym (or-false s.aborted)
 aborted-see n c s time (Abort txn) = elim (txn == n) as (λ b. (if b then record (settles c s) { aborted = true } else passes s).aborted ≡ (s.aborted || b)) [ true ↦ sym (or-true s.aborted) | false ↦ sym (or-false s.aborted) ]
-  where
-    or-true : (b : Bool) → (b || true) ≡ true
-    or-true true = refl
-    or-true false = refl
 aborted-see n c s time (Intent txn ops) =
     elim (txn == n) as (λ b. (if b then record s { place = s.place + 1; since = or_else s.since (Some (s.place + 1)); late = s.late || nat_le c time } else passes s).aborted ≡ (s.aborted || false))
     [ true ↦ sym (or-false s.aborted) | false ↦ sym (or-false s.aborted) ]
@@ -82,7 +71,7 @@ aborted-see n c s time (Apply txn commit) =
 
 pub aborted-all : (n c : ℕ) (s : Seen) (rs : List Record) → (fold (see n c) s rs).aborted ≡ (s.aborted || list_any (λ r. aborts n r.kind) rs)
 aborted-all n c s [] = sym (or-false s.aborted)
-aborted-all n c s (r ∷ rs) = aborted-all n c (see n c s r) rs ∙ ap (λ b. b || list_any (λ r. aborts n r.kind) rs) (aborted-see n c s r.time r.kind) ∙ or-assoc s.aborted (aborts n r.kind) (list_any (λ r. aborts n r.kind) rs)
+aborted-all n c s (r ∷ rs) = aborted-all n c (see n c s r) rs ∙ ap (λ b. b || list_any (λ r. aborts n r.kind) rs) (aborted-see n c s r.time r.kind) ∙ or_assoc s.aborted (aborts n r.kind) (list_any (λ r. aborts n r.kind) rs)
 
 -- ---- stragglers
 
@@ -187,6 +176,6 @@ stands-all n c s p (r ∷ rs) h e = go (break_of p r) refl (λ f. stands-all n c
         → (if is_none o then (r ∷ accepted_from (after p r) rs) else []) ≡ r ∷ rs → stands c (fold (see n c) (see n c s r) rs) ≡ (stands c s || straggles any_op n c (is_some s.since) (r ∷ rs))
     go None f ih e =
         ih f (rest e) ∙ ap (λ b. b || straggles any_op n c (is_some (see n c s r).since) rs) (stands-step n c s p r h f)
-        ∙ or-assoc (stands c s) (option_map_or (λ value. nat_le c value) (safe_value r.kind) false && is_some s.since) (straggles any_op n c (is_some (see n c s r).since) rs)
+        ∙ or_assoc (stands c s) (option_map_or (λ value. nat_le c value) (safe_value r.kind) false && is_some s.since) (straggles any_op n c (is_some (see n c s r).since) rs)
         ∙ ap (λ w. stands c s || ((option_map_or (λ value. nat_le c value) (safe_value r.kind) false && is_some s.since) || straggles any_op n c w rs)) (since-step n c s r.time r.kind)
     go (Some x) f ih e = cc

@@ -17,10 +17,7 @@ use Rattle.xc_agree.specs.Slots.{slot_of}
 use Rattle.xc_agree.specs.Seen.{since_at, since_in, is_in_slot}
 use Rattle.xc_agree.specs.Held.{is_held, writes_at, intends_kind, intends, intends_since, is_start, is_since, InSlots, StaysHeld}
 use Rattle.xc_agree.proofs.SlotLaws.{in-slot, slot-at-item}
-
-or-false : (b : Bool) → (b || false) ≡ b
-or-false true = refl
-or-false false = refl
+use Rattle.std.proofs.Math.Bool.{or-false, or_assoc}
 
 stay : (a p q : Bool) → ((a && q) || (q && p)) ≡ ((a || p) && q)
 stay a p q = grind arith
@@ -79,10 +76,6 @@ since-more n h since rs i r below is =
     length-take (suc i) [] h = absurd (omega arith)
     length-take (suc i) (x ∷ rs) h = let k = length-take i rs (omega arith) in omega arith
 
-or-assoc : (a b c : Bool) → ((a || b) || c) ≡ (a || (b || c))
-or-assoc true b c = refl
-or-assoc false b c = refl
-
 pub hold-none : (n h : ℕ) (since : Option ℕ) (base : Bool) → base ≡ (base || intends_since n h since [])
 hold-none n h None base = sym (or-false base)
 hold-none n h (Some place) base = sym (ap (λ rs. base || intends n h rs) (drop-past (place - 1) [] (omega arith)) ∙ or-false base)
@@ -90,7 +83,7 @@ hold-none n h (Some place) base = sym (ap (λ rs. base || intends n h rs) (drop-
 pub hold-more : (n h : ℕ) (since : Option ℕ) (rs : List Record) (i : ℕ) (r : Record) (old new base : Bool) → i < length rs → r ≡ get_or rs i r
     → old ≡ (base || intends_since n h since (take i rs)) → new ≡ (old || (is_since (i + 1) since && intends_kind n h r.kind)) → new ≡ (base || intends_since n h since (take (i + 1) rs))
 hold-more n h since rs i r old new base below is was step =
-    step ∙ ap (λ b. b || (is_since (i + 1) since && intends_kind n h r.kind)) was ∙ or-assoc base (intends_since n h since (take i rs)) (is_since (i + 1) since && intends_kind n h r.kind)
+    step ∙ ap (λ b. b || (is_since (i + 1) since && intends_kind n h r.kind)) was ∙ or_assoc base (intends_since n h since (take i rs)) (is_since (i + 1) since && intends_kind n h r.kind)
     ∙ ap (λ b. base || b) (sym (since-more n h since rs i r below is))
 
 -- the same of what stays, by the slots of the transactions

@@ -28,6 +28,8 @@ use Rattle.xc_agree.specs.Slots.{time_of, slot_of}
 use Rattle.xc_agree.proofs.SlotLaws.{slot-at-item}
 use Rattle.xc_agree.proofs.CommitLaws.{slot-below, slots-differ, time-at-slot}
 use Rattle.xc_agree.specs.Seen.{Seen, see, pends, passes, settles, see_kind, kind_of, kind_seen, earlier, IsLeast, with_kind, IsLeastWith, since_at, since_in, pends_at, pends_in, is_in_slot, AreInSlots, IsLook, Takes, Began, IsEnd, waits_from, unseen, kind_at_end, kind_tried, is_among}
+use Rattle.std.proofs.Math.Bool.{or-false, or-true}
+use Rattle.xc_agree.proofs.Steps.{some-same}
 
 -- found goes by the kinds alone
 pub least-same : (found : Option Found) (kinds more : ℕ → Option AgreeKind) → ((n : ℕ) → more n ≡ kinds n) → IsLeast found kinds → IsLeast found more
@@ -65,9 +67,6 @@ pub record Next (old new : Look) : Type 0 where
   pub safe : new.safe ≡ old.safe
   pub floor : new.floor ≡ old.floor
   pub slots : length new.waiting.items ≡ length old.waiting.items
-
-some-same : {x y : ℕ} → Some x ≡ Some y → x ≡ y
-some-same e = cc
 
 -- what holds of a slot holds of the transaction in it
 pub lift-since : (commits : List Commit) (old new : Look) (txn slot : ℕ) (f : Option ℕ → Option ℕ) → slot_of commits txn ≡ Some slot
@@ -259,10 +258,6 @@ begin-look look commits header held since place safe floor found slots began wai
 
 -- ---- the last record
 
-or-false : (b : Bool) → (b || false) ≡ b
-or-false true = refl
-or-false false = refl
-
 pub try-none : (look : Look) (commits : List Commit) (seen : ℕ → ℕ → Seen) → IsLook look commits seen → IsLeast look.found (λ n. option_and_then (λ c. kind_tried false c (seen n c)) (time_of commits n))
 try-none look commits seen h = least-same look.found (kinds_in commits seen) _ (λ n. kinds n (time_of commits n)) h.found
   where
@@ -275,10 +270,6 @@ txn_of w = w.txn
 
 abbrev pub began_txns : Look → List ℕ
 began_txns look = map txn_of look.began.items
-
-or-true : (b : Bool) → (b || true) ≡ true
-or-true true = refl
-or-true false = refl
 
 -- what waits is among the transactions that began to
 waits-among : (look : Look) (commits : List Commit) → Began look → AreInSlots commits look.began.items → (n : ℕ) → is_some (since_in commits look n) ≡ true → is_among n (began_txns look) ≡ true

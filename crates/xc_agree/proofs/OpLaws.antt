@@ -12,7 +12,10 @@ use Rattle.xc_record.specs.declared.record.Logs.{Logs}
 use Rattle.xc_record.specs.Accepted.{AcceptedTablet, accepted_tablets}
 use Rattle.xc_record.specs.Commits.{Provisional, provisional_cmp, intent_ops, intents_in, txn_ops}
 use Rattle.xc_record.specs.Lists.{insert_by, sort_by}
-use Rattle.xc_record.proofs.AcceptedLaws.{Each, Each-append}
+use Rattle.xc_record.proofs.AcceptedLaws.{Each}
+use Rattle.xc_record.proofs.ListLaws.{Each-append}
+use Rattle.std.proofs.lemmas.Bool.{or_right}
+use Rattle.xc_agree.proofs.Steps.{some-same}
 
 any-insert : {X : Type 0} (q : X → Bool) (cmp : X → X → Ordering) (x : X) (ys : List X) → list_any q (insert_by cmp x ys) ≡ (q x || list_any q ys)
 any-insert q cmp x [] = refl
@@ -68,17 +71,10 @@ each-from-index : {X : Type 0} (P : X → Type 0) (xs : List X) → ((i : ℕ) (
 each-from-index P [] f = tt
 each-from-index P (x ∷ xs) f = (f 0 x refl, each-from-index P xs (λ i y e. f (suc i) y e))
 
-some-same : {X : Type 0} {x y : X} → Some x ≡ Some y → x ≡ y
-some-same e = cc
-
 any-at : {X : Type 0} (q : X → Bool) (xs : List X) (i : ℕ) (x : X) → slice_get xs i ≡ Some x → q x ≡ true → list_any q xs ≡ true
 any-at q [] i x e h = cc
 any-at q (y ∷ ys) zero x e h = rw (ap q (some-same e) ∙ h) refl
-any-at q (y ∷ ys) (suc i) x e h = or-right (q y) (any-at q ys i x e h)
-  where
-    or-right : (a : Bool) {b : Bool} → b ≡ true → (a || b) ≡ true
-    or-right true e = refl
-    or-right false e = e
+any-at q (y ∷ ys) (suc i) x e h = or_right (q y) _ (any-at q ys i x e h)
 
 pub ops-in : (logs : Logs) (n : ℕ) → Each (λ b. Each (OpsIn logs n) b.records) (accepted_tablets logs)
 ops-in logs n = each-from-index _ (accepted_tablets logs) (λ i b at. each-from-index _ b.records (λ j r here. record {

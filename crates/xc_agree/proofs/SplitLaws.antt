@@ -23,6 +23,8 @@ use Rattle.xc_agree.specs.declared.run.Run.{Run}
 use Rattle.xc_agree.specs.Runs.{IsRun, IsRuns}
 use Rattle.xc_agree.specs.Cases.{of_tablets}
 use Rattle.xc_agree.proofs.StragglerLaws.{OwnIn}
+use Rattle.xc_agree.proofs.Steps.{some-same}
+use Rattle.xc_record.proofs.OpsLaws.{ops-hold}
 
 -- the accepted tablets of ts, after those before
 abbrev pub more : List AcceptedTablet → List Tablet → List AcceptedTablet
@@ -76,9 +78,6 @@ runs-count [] [] (u ∷ ts) h = absurd h
 runs-count [] (c ∷ bs) ts h = absurd h
 runs-count (x ∷ runs) [] ts h = absurd h
 runs-count (x ∷ runs) (c ∷ bs) [] h = absurd h
-
-some-same : {X : Type 0} {x y : X} → Some x ≡ Some y → x ≡ y
-some-same e = cc
 
 pub run-is : (runs : List Run) (bs : List AcceptedTablet) (ts : List Tablet) (i : ℕ) (run : Run) (b : AcceptedTablet) (t : Tablet) → IsRuns runs bs ts → slice_get runs i ≡ Some run → slice_get bs i ≡ Some b → slice_get ts i ≡ Some t → IsRun run b t
 run-is [] [] [] i run b t h e f g = cc
@@ -147,14 +146,6 @@ fits-parts header ops e =
     let a = and_parts (nat_le 1 (length ops)) (nat_le (length ops) 64 && list_all (op_fits header) ops) e in
     (a.0, (and_parts (nat_le (length ops) 64) (list_all (op_fits header) ops) a.1).1)
 
-fits-all : (header : Header) (ops : List Op) → list_all (op_fits header) ops ≡ true → list_all (λ op. holds header (hash_of op.key)) ops ≡ true
-fits-all header [] e = refl
-fits-all header (op ∷ ops) e =
-    let a = and_parts (op_fits header op) (list_all (op_fits header) ops) e in
-    let b = and_parts (is_key op.key) (option_map_or is_value op.value true && holds header (hash_of op.key)) a.0 in
-    let d = and_parts (option_map_or is_value op.value true) (holds header (hash_of op.key)) b.1 in
-    rw (d.1) (fits-all header ops a.1)
-
 one-holds : (header : Header) (ops : List Op) → nat_le 1 (length ops) ≡ true → list_all (λ op. holds header (hash_of op.key)) ops ≡ true → list_any (λ op. holds header (hash_of op.key)) ops ≡ true
 one-holds header [] e f = grind (arith, nat_tests)
 one-holds header (op ∷ ops) e f = let a = and_parts (holds header (hash_of op.key)) (list_all (λ op. holds header (hash_of op.key)) ops) f in rw (a.0) refl
@@ -165,10 +156,10 @@ intent-fits header pair kind n ops f e = (and_parts (is_txn n) (ops_fit header o
 own-kind : (header : Header) (pair : Option (Header × Header)) (kind : Kind) (n : ℕ) (ops : List Op) → kind_fits header pair kind ≡ true → kind ≡ Intent n ops → list_any (λ op. holds header (hash_of op.key)) ops ≡ true
 own-kind header pair kind n ops f e =
     let a = fits-parts header ops (intent-fits header pair kind n ops f e) in
-    one-holds header ops a.0 (fits-all header ops a.1)
+    one-holds header ops a.0 (ops-hold header ops a.1)
 
 own-every : (header : Header) (pair : Option (Header × Header)) (kind : Kind) (n : ℕ) (ops : List Op) → kind_fits header pair kind ≡ true → kind ≡ Intent n ops → list_all (λ op. holds header (hash_of op.key)) ops ≡ true
-own-every header pair kind n ops f e = fits-all header ops (fits-parts header ops (intent-fits header pair kind n ops f e)).1
+own-every header pair kind n ops f e = ops-hold header ops (fits-parts header ops (intent-fits header pair kind n ops f e)).1
 
 own-all : (header : Header) (pair : Option (Header × Header)) (rs : List Record) → list_all (record_fits header pair) rs ≡ true → Each (OwnIn header) rs
 own-all header pair [] e = tt

@@ -1,7 +1,7 @@
 -- One step of a loop over a list.
 use Rattle.std.proofs.Common.{◌≡◌, ℕ, ◌+◌, ◌<◌, List, [], ◌∷◌, ◌++◌, length, take, get_or, zero, suc, ◌≤◌, refl, arith, ap, sym, ◌∙◌, append_assoc}
 use Rattle.std.proofs.lemmas.List.{take_more}
-use Rattle.std.specs.Prelude.{slice_get}
+use Rattle.std.specs.Prelude.{slice_get, Some}
 
 -- the items up to i after xs, with the item at i
 pub add_item : {X : Type 0} (xs ys : List X) (i : ℕ) (y : X) → i < length ys → y ≡ get_or ys i y → (xs ++ take i ys) ++ y ∷ [] ≡ xs ++ take (i + 1) ys
@@ -34,3 +34,6 @@ place_of (suc i) (suc k) = later (place_of i k)
     later (Low h) = Low (omega arith)
     later (Same h) = Same (omega arith)
     later (High h) = High (omega arith)
+
+pub some-same : {X : Type 0} {x y : X} → Some x ≡ Some y → x ≡ y
+some-same e = cc

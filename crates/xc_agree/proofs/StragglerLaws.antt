@@ -16,7 +16,7 @@ use Rattle.xc_record.specs.Order.{safe_value}
 use Rattle.xc_record.specs.Accepted.{AcceptedTablet, accepted_tablets}
 use Rattle.xc_record.specs.Commits.{txn_ops}
 use Rattle.xc_record.specs.Agreement.{straggles_at, path_above, straggler}
-use Rattle.xc_record.proofs.AcceptedLaws.{Each, Each-filter}
+use Rattle.xc_record.proofs.AcceptedLaws.{Each}
 use Rattle.xc_agree.specs.declared.held.Held.{Held}
 use Rattle.xc_agree.specs.Seen.{waits_from}
 use Rattle.xc_agree.specs.Held.{is_held, writes_at, wait_kind, waits_by}
@@ -25,6 +25,8 @@ use Rattle.xc_agree.proofs.EndLaws.{straggles, any_op}
 use Rattle.xc_agree.proofs.KeyLaws.{at_key, straggles-key}
 use Rattle.xc_agree.proofs.OpLaws.{OpsIn, ops-in, each-flat}
 use Rattle.xc_agree.proofs.TreeLaws.{IsTree, at_hash, below_number}
+use Rattle.xc_record.proofs.ListLaws.{Each-filter}
+use Rattle.std.proofs.lemmas.Bool.{or_right}
 
 -- ---- a wider test
 
@@ -68,11 +70,7 @@ straggles-wider n c p q w v (r ∷ rs) h k e =
     go : (s x : Bool) → w ≡ x → (straggles p n c (wait_kind n p w r.kind) rs ≡ true → straggles q n c (wait_kind n q v r.kind) rs ≡ true)
         → ((s && x) || straggles p n c (wait_kind n p w r.kind) rs) ≡ true → ((s && v) || straggles q n c (wait_kind n q v r.kind) rs) ≡ true
     go true true f ih e = rw (k f) refl
-    go true false f ih e = or-right v (ih e)
-      where
-        or-right : (a : Bool) {b : Bool} → b ≡ true → (a || b) ≡ true
-        or-right true e = refl
-        or-right false e = e
+    go true false f ih e = or_right v _ (ih e)
     go false x f ih e = ih e
 
 straggles-append : (p : List Op → Bool) (n c : ℕ) (w : Bool) (xs ys : List Record) → straggles p n c w (xs ++ ys) ≡ (straggles p n c w xs || straggles p n c (waits_by n p w xs) ys)
@@ -107,12 +105,7 @@ key-hash h k e (op ∷ ops) f = go (bytes_eq k op.key) refl (key-hash h k e ops)
   where
     go : (b : Bool) → bytes_eq k op.key ≡ b → (at_key k ops ≡ true → writes_at h ops ≡ true) → (b || at_key k ops) ≡ true → (hash_of op.key == h || writes_at h ops) ≡ true
     go true same ih f = rw (eq-eqb (hash_of op.key) h (sym (ap hash_of (bytes-equal k op.key same)) ∙ e)) refl
-    go false same ih f = or-right (hash_of op.key == h) (ih f)
-      where
-        or-right : (a : Bool) {b : Bool} → b ≡ true → (a || b) ≡ true
-        or-right true e = refl
-        or-right false e = e
-
+    go false same ih f = or_right (hash_of op.key == h) _ (ih f)
 key-any : (k : List ℕ) → Wider (at_key k) any_op
 key-any k ops e = refl
 
@@ -126,13 +119,9 @@ find-key : (test : List ℕ → Bool) (ops : List Op) → list_any (λ op. test 
 find-key test [] e = cc
 find-key test (op ∷ ops) e = go (test op.key) refl (find-key test ops) e
   where
-    or-right : (a : Bool) {b : Bool} → b ≡ true → (a || b) ≡ true
-    or-right true e = refl
-    or-right false e = e
-
     go : (b : Bool) → test op.key ≡ b → (list_any (λ op. test op.key) ops ≡ true → Found test ops) → (b || list_any (λ op. test op.key) ops) ≡ true → Found test (op ∷ ops)
     go true f ih e = record { key = op.key; passes = f; at = rw (bytes-same op.key) refl }
-    go false f ih e = let x : Found test ops = ih e in record { key = x.key; passes = x.passes; at = or-right (bytes_eq x.key op.key) x.at }
+    go false f ih e = let x : Found test ops = ih e in record { key = x.key; passes = x.passes; at = or_right (bytes_eq x.key op.key) _ x.at }
 
 -- the key is one of an operation of the transaction
 abbrev IsOwn : Logs → ℕ → List ℕ → Type 0
@@ -221,10 +210,6 @@ straggles-somewhere logs n c p test line before (r ∷ rs) w k h e =
     (λ f. WaitsAt-line logs n test (λ k. (line k ++ before) ++ r ∷ []) (λ k. line k ++ (before ++ r ∷ [])) (λ k g. append_assoc (line k) before (r ∷ [])) (wait-step logs n p test (λ k. line k ++ before) r w r.kind refl k h.0 f)) h.1 e)
     e
   where
-    or-right : (a : Bool) {b : Bool} → b ≡ true → (a || b) ≡ true
-    or-right true e = refl
-    or-right false e = e
-
     go : (s x : Bool) → option_map_or (λ value. nat_le c value) (safe_value r.kind) false ≡ s → w ≡ x → (straggles p n c (wait_kind n p w r.kind) rs ≡ true → StragglesAt logs n c test line ((before ++ r ∷ []) ++ rs))
         → ((s && x) || straggles p n c (wait_kind n p w r.kind) rs) ≡ true → StragglesAt logs n c test line (before ++ r ∷ rs)
     go true true f g ih e =
@@ -235,7 +220,7 @@ straggles-somewhere logs n c p test line before (r ∷ rs) w k h e =
           passes = x.passes;
           own = x.own;
           straggles = straggles-append (at_key x.key) n c (waits_by n (at_key x.key) false (line x.key)) before (r ∷ rs)
-              ∙ or-right (straggles (at_key x.key) n c (waits_by n (at_key x.key) false (line x.key)) before) (rw (f, now) refl);
+              ∙ or_right (straggles (at_key x.key) n c (waits_by n (at_key x.key) false (line x.key)) before) _ (rw (f, now) refl);
         }
     go true false f g ih e = subst (λ xs. StragglesAt logs n c test line xs) (append_assoc before (r ∷ []) rs) (ih e)
     go false x f g ih e = subst (λ xs. StragglesAt logs n c test line xs) (append_assoc before (r ∷ []) rs) (ih e)
@@ -251,13 +236,9 @@ key-passes : (k : List ℕ) (q : List ℕ → Bool) (ops : List Op) → at_key k
 key-passes k q [] e f = cc
 key-passes k q (op ∷ ops) e f = go (bytes_eq k op.key) refl (λ e. key-passes k q ops e f) e
   where
-    or-right : (a : Bool) {b : Bool} → b ≡ true → (a || b) ≡ true
-    or-right true e = refl
-    or-right false e = e
-
     go : (b : Bool) → bytes_eq k op.key ≡ b → (at_key k ops ≡ true → list_any (λ op. q op.key) ops ≡ true) → (b || at_key k ops) ≡ true → (q op.key || list_any (λ op. q op.key) ops) ≡ true
     go true same ih e = rw (ap q (sym (bytes-equal k op.key same)) ∙ f) refl
-    go false same ih e = or-right (q op.key) (ih e)
+    go false same ih e = or_right (q op.key) _ (ih e)
 
 own-key : (logs : Logs) (n : ℕ) (r : Record) (ops : List Op) → OpsIn logs n r → r.kind ≡ Intent n ops → (k : List ℕ) → at_key k ops ≡ true → IsOwn logs n k
 own-key logs n r ops h is k at q e = h.all (λ op. q op.key) (rw is (rw (eq-eqb n n refl) (key-passes k q ops at e)))
@@ -281,12 +262,8 @@ held-somewhere : (header : Header) (held : List Held) (n : ℕ) → waits_from h
 held-somewhere header [] n e = cc
 held-somewhere header (x ∷ held) n e = go (x.txn == n) (holds header x.hash) refl refl (held-somewhere header held n) e
   where
-    or-right : (a : Bool) {b : Bool} → b ≡ true → (a || b) ≡ true
-    or-right true e = refl
-    or-right false e = e
-
     later : HeldAt header held n → HeldAt header (x ∷ held) n
-    later y = record { hash = y.hash; within = y.within; held_there = or-right (x.txn == n && x.hash == y.hash) y.held_there }
+    later y = record { hash = y.hash; within = y.within; held_there = or_right (x.txn == n && x.hash == y.hash) _ y.held_there }
 
     go : (p q : Bool) → x.txn == n ≡ p → holds header x.hash ≡ q → (waits_from header held n ≡ true → HeldAt header held n) → ((p && q) || waits_from header held n) ≡ true → HeldAt header (x ∷ held) n
     go true true f g ih e = record { hash = x.hash; within = g; held_there = rw (f, eq-eqb x.hash x.hash refl) refl }

@@ -36,6 +36,8 @@ use Rattle.xc_agree.proofs.TreeLaws.{IsTree, at_hash, EndsAt, Before, Within, ab
 use Rattle.xc_agree.proofs.StragglerLaws.{OwnIn, line_above, straggler-held, nothing-waits}
 use Rattle.xc_agree.proofs.SplitLaws.{around, count-after, take-count, get-middle, IsSound, more, own-here}
 use Rattle.xc_agree.proofs.Steps.{take_past, get-before, Where, Low, Same, High, place_of}
+use Rattle.std.proofs.Math.Bool.{and-false, and-true}
+use Rattle.xc_agree.proofs.Steps.{some-same}
 
 -- ---- the kind at a tablet
 
@@ -126,16 +128,7 @@ left-next lefts lasts left commits bs b rest a k tree own l n h = l n h ∙ go (
         let start : is_held (held_from lefts b.header.parent) n h ≡ waits_by n (writes_at h) false (line_above bs h) = start-here lefts lasts commits bs b rest a tree n c h e f b.header.parent k refl in
         let line : line_above (bs ++ b ∷ []) h ≡ line_above bs h ++ b.records = line-snoc bs b h ∙ rw f refl in
         rw (start, f, line) (ap (λ w. waits_by n (writes_at h) w b.records) (and-true (waits_by n (writes_at h) false (line_above bs h))) ∙ sym (waits-append n (writes_at h) false (line_above bs h) b.records))
-      where
-        and-true : (x : Bool) → (x && true) ≡ x
-        and-true true = refl
-        and-true false = refl
     go (Some c) e false f = rw f (ap (λ w. waits_by n (writes_at h) w b.records) (and-false (is_held (held_from lefts b.header.parent) n h)) ∙ nothing-waits n h b.header b.records f own)
-      where
-        and-false : (x : Bool) → (x && false) ≡ false
-        and-false true = refl
-        and-false false = refl
-
 -- what the tablets left, with the next one
 lefts-more : (lefts after : List (Vec Held Global)) (lasts : List ℕ) (left : Vec Held Global) (commits : List Commit) (bs : List AcceptedTablet) (b : AcceptedTablet) → AreLeft lefts lasts commits bs → InSlots commits left.items
     → ((k : ℕ) → slice_get lasts (length bs) ≡ Some k → length bs < k → (n h : ℕ) → is_held left.items n h ≡ (is_some (time_of commits n) && (holds b.header h && waits_by n (writes_at h) false (line_above (bs ++ b ∷ []) h))))
@@ -148,9 +141,6 @@ lefts-more lefts after lasts left commits bs b a slots l drops = record {
       ap (λ xs. is_held xs n h) (drops.each i ∙ ap (λ d. if d then [] else left_of (lefts ++ left ∷ []) i) (awaited i k last bound (option_map_or (λ p. p == i) b.header.parent false))) ∙ at_place i k x get last bound n h (place_of i (length bs));
 }
   where
-    some-same : {X : Type 0} {x y : X} → Some x ≡ Some y → x ≡ y
-    some-same e = cc
-
     InSlotsOf : List Commit → List Held → Bool
     InSlotsOf commits held = list_all (λ x. is_in_slot commits x.txn x.slot) held
 
@@ -252,9 +242,6 @@ tablet-next ts i t run lasts commits lefts now after left found first next last 
     (λ m e more. subst (λ xs. IsLeft left.items commits t.header (held_from xs t.header.parent) (take run.walk.accepted t.records)) same (is_left k (lt_true i last (subst (λ x. i < x) (some-same (sym e ∙ get)) more))))
     (slots k) step drops
   where
-    some-same : {x y : ℕ} → Some x ≡ Some y → x ≡ y
-    some-same e = cc
-
     lt_true : (a b : ℕ) → a < b → nat_lt a b ≡ true
     lt_true a b h = grind (arith, nat_tests)
 

@@ -10,39 +10,10 @@ use Rattle.xc_record.specs.declared.record.Kind.TheVariants.{Write, Intent, Appl
 use Rattle.xc_record.specs.declared.record.Record.{Record}
 use Rattle.xc_record.specs.Commits.{applies, applied_txn, insert_number, distinct, write_ops}
 use Rattle.xc_record.specs.Lists.{first_some, or_else}
+use Rattle.xc_record.proofs.NumberLaws.{has, has-distinct}
 use Rattle.xc_agree.specs.declared.commits.Commit.{Commit}
 use Rattle.xc_agree.specs.Slots.{time_of}
 use Rattle.xc_agree.specs.Tally.{first_commit, commit_by, applies_in, writes, applied_in}
-
-abbrev pub has : ℕ → List ℕ → Bool
-has n ms = list_any (λ m. m == n) ms
-
-pub has-insert : (n m : ℕ) (ms : List ℕ) → has n (insert_number m ms) ≡ (m == n || has n ms)
-has-insert n m [] = refl
-has-insert n m (k ∷ ms) = grind (arith, nat_tests, has-insert n m ms)
-
-pub has-distinct : (n : ℕ) (ms : List ℕ) → has n (distinct ms) ≡ has n ms
-has-distinct n [] = refl
-has-distinct n (m ∷ ms) = has-insert n m (distinct ms) ∙ ap (λ b. m == n || b) (has-distinct n ms)
-
--- the numbers rise
-abbrev pub Rising : List ℕ → Type 0
-Rising [] = Unit {0}
-Rising (n ∷ ns) = ((m : ℕ) → has m ns ≡ true → n < m) × Rising ns
-
-insert-rising : (n : ℕ) (ms : List ℕ) → Rising ms → Rising (insert_number n ms)
-insert-rising n [] h = (λ m e. cc, tt)
-insert-rising n (m ∷ ms) h = elim (nat_lt n m) as (λ b. nat_lt n m ≡ b → Rising (cond b (n ∷ m ∷ ms) (cond (n == m) (m ∷ ms) (m ∷ insert_number n ms)))) [
-  | true ↦ λ e. (λ k is. grind (arith, nat_tests, h.0 k), h)
-  | false ↦ λ e. elim (n == m) as (λ b. n == m ≡ b → Rising (cond b (m ∷ ms) (m ∷ insert_number n ms))) [
-    | true ↦ λ _. h
-    | false ↦ λ apart. (λ k is. grind (arith, nat_tests, h.0 k, has-insert k n ms), insert-rising n ms h.1)
-  ] refl
-] refl
-
-pub distinct-rising : (ns : List ℕ) → Rising (distinct ns)
-distinct-rising [] = tt
-distinct-rising (n ∷ ns) = insert-rising n (distinct ns) (distinct-rising ns)
 
 insert-longer : (n : ℕ) (ms : List ℕ) → length (insert_number n ms) ≤ length ms + 1
 insert-longer n [] = omega arith

@@ -12,7 +12,8 @@ use Rattle.xc_record.specs.Hash.{holds}
 use Rattle.xc_record.specs.Headers.{fit_from, headers_fit, next_after}
 use Rattle.xc_record.specs.Valid.{headers_of}
 use Rattle.xc_record.specs.Accepted.{AcceptedTablet, accepted_tablets_after, accepted_tablet_after}
-use Rattle.xc_record.proofs.HeaderLaws.{Line, line_end, Numbered, Fits, Fits-snoc, Fits-none}
+use Rattle.xc_record.proofs.HeaderLaws.{Line, line_end, Numbered, Fits, FitsAll, headers_fit-all}
+use Rattle.xc_agree.proofs.Steps.{some-same}
 
 abbrev pub at_hash : ℕ → List AcceptedTablet → List AcceptedTablet
 at_hash h bs = filter (λ b. holds b.header h) bs
@@ -24,18 +25,6 @@ headers bs = map (λ b. b.header) bs
 pub record IsTree (bs : List AcceptedTablet) : Type 0 where
   pub numbered : Numbered 0 (headers bs)
   pub lines : (h : ℕ) → Line None (headers (at_hash h bs))
-
-abbrev FitsAll : List Header → Type 0
-FitsAll hs = (next : Next) × Fits hs next
-
-fit_from-all : (before : List Header) (next : Next) (hs : List Header) → Fits before next → fit_from before next hs ≡ true → FitsAll (before ++ hs)
-fit_from-all before next [] f e = subst FitsAll (sym (append-nil before)) (next, f)
-fit_from-all before next (h ∷ hs) f e =
-    subst FitsAll (append_assoc before (h ∷ []) hs) (fit_from-all (before ++ h ∷ []) (next_after before next h h.parent) hs (Fits-snoc before next h f (and_parts _ _ e).0) (and_parts _ _ e).1)
-
-headers_fit-all : (hs : List Header) → headers_fit hs ≡ true → FitsAll hs
-unfolding headers_fit
-headers_fit-all hs e = fit_from-all [] (RootAt 0) hs Fits-none e
 
 map-append : (bs cs : List AcceptedTablet) → headers (bs ++ cs) ≡ headers bs ++ headers cs
 map-append [] cs = refl
@@ -68,9 +57,6 @@ valid-tree ts e =
 pub data EndsAt (h m p : ℕ) (q : Option ℕ) (bs : List AcceptedTablet) : Type 0 where
   Before : at_hash h bs ≡ [] → q ≡ Some p → EndsAt h m p q bs
   Within : (j : ℕ) (b : AcceptedTablet) → p ≡ m + j → slice_get bs j ≡ Some b → holds b.header h ≡ true → at_hash h bs ≡ at_hash h (take (suc j) bs) → EndsAt h m p q bs
-
-some-same : {x y : ℕ} → Some x ≡ Some y → x ≡ y
-some-same e = cc
 
 at_hash-take : (h : ℕ) (j : ℕ) (b : AcceptedTablet) (bs : List AcceptedTablet) → at_hash h bs ≡ at_hash h (take j bs) → at_hash h (b ∷ bs) ≡ at_hash h (b ∷ take j bs)
 at_hash-take h j b bs e = elim (holds b.header h) as (λ c. cond c (b ∷ at_hash h bs) (at_hash h bs) ≡ cond c (b ∷ at_hash h (take j bs)) (at_hash h (take j bs))) [

@@ -1,18 +1,16 @@
 -- Well-formed logs make a feed, and their records keep their headers.
-use Rattle.std.proofs.Common.{◌≡◌, ℕ, zero, suc, ◌+◌, ◌-◌, ◌<◌, ◌≤◌, ◌++◌, Bool, true, false, List, [], ◌∷◌, length, get_or, inl, inr, take, drop, map, refl, sym, ap, ◌∙◌, subst, add-zero, zero-add, length-append, arith}
+use Rattle.std.proofs.Common.{◌≡◌, ℕ, zero, suc, ◌+◌, ◌-◌, ◌<◌, ◌≤◌, Bool, true, false, List, [], ◌∷◌, length, get_or, inl, inr, take, drop, map, refl, sym, ap, ◌∙◌, subst, add-zero, zero-add, arith}
 use Rattle.std.specs.Prelude.{Option, Some, None, ◌⊎◌, IsTrue, IsSome, is_some, slice_get, slice_index, sum_by, ◌&&◌, ◌==◌, nat_le, if◌then◌else◌, option_map}
 use Rattle.std.specs.Option.{option_map_or}
 use Rattle.std.proofs.lemmas.List.{length-map}
 use Rattle.std.proofs.lemmas.List.Sums.{get_or-le-sum_by}
 use Rattle.std.proofs.lemmas.Option.{slice_get_cases}
 use Rattle.xc_base.specs.Names.{is_key, is_value}
-use Rattle.xc_record.specs.declared.rules.Next.{Next}
-use Rattle.xc_record.specs.declared.rules.Next.TheVariants.{RootAt}
 use Rattle.xc_record.specs.Accepted.{records}
 use Rattle.xc_record.proofs.HeaderLists.{get_of_headers}
 use Rattle.std.specs.List.{list_all}
-use Rattle.std.proofs.lemmas.Bool.{and_parts, both_ways, eqb-true, not-true}
-use Rattle.std.proofs.lemmas.Bool.Decides.{nat_tests}
+use Rattle.std.proofs.lemmas.Bool.{and_parts, both_ways, eqb-true, not-true, eq-eqb, and_from, ne_eqb}
+use Rattle.std.proofs.Math.Bool.{and-false}
 use Rattle.xc_record.specs.declared.record.Header.{Header}
 use Rattle.xc_record.specs.declared.record.Kind.{Kind}
 use Rattle.xc_record.specs.declared.record.Kind.TheVariants.{Write, Intent, Apply, Abort, Safe, Split}
@@ -22,30 +20,21 @@ use Rattle.xc_record.specs.declared.record.Tablet.{Tablet}
 use Rattle.xc_record.specs.declared.record.Logs.{Logs}
 use Rattle.xc_record.specs.Hash.{hash_of, holds}
 use Rattle.xc_record.specs.Order.{is_split}
-use Rattle.xc_record.specs.Headers.{children, headers_fit, fits, fit_from, next_after, parent_fits}
+use Rattle.xc_record.specs.Headers.{children, headers_fit}
 use Rattle.xc_record.specs.Valid.{is_valid, headers_of, tablet_fits, record_fits, kind_fits, op_fits, ops_fit, ends_fit, is_time, is_txn}
 use Rattle.xc_logs.specs.Feed.{IsFeed, KeepHeader, counts_of, fetched, ops_keep, kind_keeps, keep_from}
 use Rattle.xc_logs.proofs.ValidFacts.{valid_parts}
-
-both : (a b : Bool) → a ≡ true → b ≡ true → a && b ≡ true
-both true b e f = f
-both false b e f = e
+use Rattle.xc_record.proofs.ListLaws.{all-at}
+use Rattle.xc_record.proofs.HeaderLaws.{Numbered-at, headers_fit-all}
+use Rattle.xc_record.proofs.OpsLaws.{ops-hold}
 
 -- ---- records that fit keep the header
-
-all_hold : (header : Header) (ops : List Op) → list_all (op_fits header) ops ≡ true → list_all (λ op. holds header (hash_of op.key)) ops ≡ true
-all_hold header [] e = refl
-all_hold header (op ∷ ops) e =
-    let parts = and_parts (op_fits header op) (list_all (op_fits header) ops) e in
-    let key = and_parts (is_key op.key) (option_map_or is_value op.value true && holds header (hash_of op.key)) parts.0 in
-    let value = and_parts (option_map_or is_value op.value true) (holds header (hash_of op.key)) key.1 in
-    both _ _ value.1 (all_hold header ops parts.1)
 
 ops_fit-keep : (header : Header) (ops : List Op) → ops_fit header ops ≡ true → ops_keep header ops ≡ true
 ops_fit-keep header ops e =
     let some = and_parts (nat_le 1 (length ops)) (nat_le (length ops) 64 && list_all (op_fits header) ops) e in
     let few = and_parts (nat_le (length ops) 64) (list_all (op_fits header) ops) some.1 in
-    both _ _ few.0 (all_hold header ops few.1)
+    and_from _ _ few.0 (ops-hold header ops few.1)
 
 -- a record that is no split, and doesn't end the tablet
 plain_keeps : (header : Header) (pair : Option (Header × Header)) (ends : Bool) (kind : Kind) → ends ≡ false → is_split kind ≡ false → kind_fits header pair kind ≡ true → kind_keeps header pair ends kind ≡ true
@@ -65,20 +54,10 @@ split_keeps header pair ends (Abort txn) e s fit = cc
 split_keeps header pair ends (Safe value) e s fit = cc
 split_keeps header pair ends (Split at left right) e s fit = rw e fit
 
-and_none : (b : Bool) → b && false ≡ false
-and_none true = refl
-and_none false = refl
-
-differs : (a b : ℕ) → a < b → a == b ≡ false
-differs a b h = grind (arith, nat_tests)
-
-same : (a b : ℕ) → a ≡ b → a == b ≡ true
-same a b h = grind (arith, nat_tests)
-
 no_end : (has : Bool) (number count : ℕ) (rs : List Record) → number + suc (length rs) ≡ count + 1 → ends_fit has rs ≡ true → number == count && has ≡ false
 no_end true number count [] size e = cc
-no_end false number count [] size e = and_none (number == count)
-no_end has number count (r ∷ rs) size e = let apart : number == count ≡ false = differs number count (omega arith) in rw apart refl
+no_end false number count [] size e = and-false (number == count)
+no_end has number count (r ∷ rs) size e = let apart : number == count ≡ false = ne_eqb number count (λ is. omega arith) in rw apart refl
 
 keep_none : (header : Header) (pair : Option (Header × Header)) (count number : ℕ) (rs : List Record) → length rs ≡ 0 → keep_from header pair count number rs ≡ true
 keep_none header pair count number [] e = refl
@@ -100,8 +79,8 @@ keeps_all header pair count number (r ∷ rs) size fit ends = go (is_split r.kin
     go true is last later =
         let end = and_parts (is_some pair) (length rs == 0) last in
         let none : length rs ≡ 0 = eqb-true (length rs) 0 end.1 in
-        both _ _ (split_keeps header pair _ r.kind (both _ _ (same number count (omega arith)) end.0) is kind) (keep_none header pair count (number + 1) rs none)
-    go false is rest later = both _ _ (plain_keeps header pair _ r.kind (no_end (is_some pair) number count rs size rest) is kind) (later rest)
+        and_from _ _ (split_keeps header pair _ r.kind (and_from _ _ (eq-eqb number count (omega arith)) end.0) is kind) (keep_none header pair count (number + 1) rs none)
+    go false is rest later = and_from _ _ (plain_keeps header pair _ r.kind (no_end (is_some pair) number count rs size rest) is kind) (later rest)
 
 -- ---- the rest and the front of records that keep the header
 
@@ -118,30 +97,12 @@ keep_from-take header pair count number zero rs e = refl
 keep_from-take header pair count number (suc k) [] e = refl
 keep_from-take header pair count number (suc k) (r ∷ rs) e =
     let parts = and_parts (kind_keeps header pair (number == count && is_some pair) r.kind) (keep_from header pair count (number + 1) rs) e in
-    both _ _ parts.0 (keep_from-take header pair count (number + 1) k rs parts.1)
+    and_from _ _ parts.0 (keep_from-take header pair count (number + 1) k rs parts.1)
 
 -- ---- a tablet by its number
 
-numbered : (before : List Header) (next : Next) (hs : List Header) → fit_from before next hs ≡ true → (i : ℕ) (h : Header) → slice_get hs i ≡ Some h → h.id ≡ length before + i
-numbered before next [] e i h there = cc
-numbered before next (x ∷ hs) e zero h there =
-    let fit = and_parts (fits before next x) (fit_from (before ++ x ∷ []) (next_after before next x x.parent) hs) e in
-    let id = eqb-true x.id (length before) (and_parts (x.id == length before) (nat_le x.lo x.hi && parent_fits before next x x.parent) fit.0).0 in
-    let same : x ≡ h = cc in
-    omega (arith, id, ap (λ (y : Header). y.id) same)
-numbered before next (x ∷ hs) e (suc i) h there =
-    let fit = and_parts (fits before next x) (fit_from (before ++ x ∷ []) (next_after before next x x.parent) hs) e in
-    let later = numbered (before ++ x ∷ []) (next_after before next x x.parent) hs fit.1 i h there in
-    omega (arith, later, length-append before (x ∷ []))
-
 number_is : (hs : List Header) (i : ℕ) (h : Header) → headers_fit hs ≡ true → slice_get hs i ≡ Some h → h.id ≡ i
-unfolding headers_fit
-number_is hs i h e there = numbered [] (RootAt 0) hs e i h there ∙ zero-add i
-
-all_at : (p : Tablet → Bool) (ts : List Tablet) (i : ℕ) (t : Tablet) → list_all p ts ≡ true → slice_get ts i ≡ Some t → p t ≡ true
-all_at p [] i t e there = cc
-all_at p (x ∷ ts) zero t e there = let same : x ≡ t = cc in ap p (sym same) ∙ (and_parts (p x) (list_all p ts) e).0
-all_at p (x ∷ ts) (suc i) t e there = all_at p ts i t (and_parts (p x) (list_all p ts) e).1 there
+number_is hs i h e there = Numbered-at 0 hs i h (headers_fit-all hs e).1.numbered there ∙ zero-add i
 
 count_at : (ts : List Tablet) (i : ℕ) (t : Tablet) → slice_get ts i ≡ Some t → slice_index (map (λ (t : Tablet). length t.records) ts) i ≡ length t.records
 count_at [] i t there = cc
@@ -176,7 +137,7 @@ tablet_of logs id t valid there =
     let well = valid_parts logs valid in
     let header : slice_get (headers_of logs.tablets) id ≡ Some t.header = get_of_headers logs.tablets id ∙ ap (option_map (λ (t : Tablet). t.header)) there in
     let number : t.header.id ≡ id = number_is (headers_of logs.tablets) id t.header well.headers header in
-    let all = all_at (tablet_fits (headers_of logs.tablets)) logs.tablets id t well.tablets there in
+    let all = all-at (tablet_fits (headers_of logs.tablets)) logs.tablets id t well.tablets there in
     let parts = and_parts (list_all (record_fits t.header (children (headers_of logs.tablets) t.header.id)) t.records) (ends_fit (is_some (children (headers_of logs.tablets) t.header.id)) t.records) all in
     record {
       header = header;

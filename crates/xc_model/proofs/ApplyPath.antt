@@ -8,7 +8,8 @@ use Rattle.xc_model.proofs.StableSort.{put_before, stable_sort, Orders, Each}
 use Rattle.xc_model.specs.Kept.{put_after, not_after, is_of, is_of_other, add_all}
 use Rattle.xc_record.specs.Path.{Event, Put, Hold, Apply, Abort, Safe, Written, Version, Waiting, Fate, Waits, Taken, Dropped, fate, version_by, waiting_by, versions_along, waiting}
 use Rattle.xc_model.proofs.Paths.{ordered, IsNumbered, still}
-use Rattle.xc_model.proofs.Sorts.{put-both, sort-push, each-append, each-sort, each-weaker, put-same}
+use Rattle.xc_model.proofs.Sorts.{put-both, sort-push, each-sort, put-same}
+use Rattle.xc_record.proofs.ListLaws.{Each-append, Each-weaker}
 
 pub not_after-total : (x y : Version) → not_after x y ≡ false → not_after y x ≡ true
 not_after-total x y h = grind (arith, nat_tests)
@@ -52,7 +53,7 @@ one-not-of n m v es p e = one-not-of-by n m v (fate m es) (λ q. ap (λ w. fate 
 pub none-of-waiting : (n : ℕ) (es : List Event) → 0 < n → fate n es ≡ Waits → Each (λ x. x.txn ≢ n) (versions_along es)
 none-of-waiting n [] p e = tt
 none-of-waiting n (Put time v ∷ es) p e = ((λ q. grind arith), none-of-waiting n es p e)
-none-of-waiting n (Hold m time v ∷ es) p e = each-append (λ x. x.txn ≢ n) (version_by (fate m es) m v) (versions_along es) (one-not-of n m v es p e) (none-of-waiting n es p e)
+none-of-waiting n (Hold m time v ∷ es) p e = Each-append (λ x. x.txn ≢ n) (version_by (fate m es) m v) (versions_along es) (one-not-of n m v es p e) (none-of-waiting n es p e)
 none-of-waiting n (Apply m c ∷ es) p e = none-of-waiting n es p (grind (arith, nat_tests))
 none-of-waiting n (Abort m ∷ es) p e = none-of-waiting n es p (grind (arith, nat_tests))
 none-of-waiting n (Safe v ∷ es) p e = none-of-waiting n es p e
@@ -74,7 +75,7 @@ ordered-apply-by n c m v es Waits e p h =
     let at : (b : Bool) → stable_sort not_after (version_by (cond b (Taken c) Waits) m v ++ versions_along (es ++ Apply n c ∷ [])) ≡ add_all c (cond b (w ∷ filter (is_of n) (waiting es)) (filter (is_of n) (waiting es))) (ordered es) =
     λ b. elim b as (λ b. stable_sort not_after (version_by (cond b (Taken c) Waits) m v ++ versions_along (es ++ Apply n c ∷ [])) ≡ add_all c (cond b (w ∷ filter (is_of n) (waiting es)) (filter (is_of n) (waiting es))) (ordered es)) [
       | true ↦ ap (put_before not_after x) h ∙ add_all-before c (filter (is_of n) (waiting es)) x (ordered es)
-          ∙ ap (add_all c (filter (is_of n) (waiting es))) (put-same not_after not_after-orders x (ordered es) (each-sort not_after (λ y. not_after x y ≡ true → not_after y x ≡ false) (versions_along es) (each-weaker (λ y. y.txn ≢ m) (λ y. not_after x y ≡ true → not_after y x ≡ false) (λ y. untied c m v y) (versions_along es) (none-of-waiting m es p e))))
+          ∙ ap (add_all c (filter (is_of n) (waiting es))) (put-same not_after not_after-orders x (ordered es) (each-sort not_after (λ y. not_after x y ≡ true → not_after y x ≡ false) (versions_along es) (Each-weaker (λ y. y.txn ≢ m) (λ y. not_after x y ≡ true → not_after y x ≡ false) (λ y. untied c m v y) (versions_along es) (none-of-waiting m es p e))))
       | false ↦ h
     ]
     in at (n == m)

@@ -15,11 +15,11 @@ use Rattle.xc_model.specs.Stands.{given_at}
 use Rattle.xc_model.proofs.StableSort.{Each, Exists}
 use Rattle.xc_model.proofs.Paths.{shown, ordered}
 use Rattle.xc_model.proofs.Placed.{Placed, placed, is_closed, is_open, last_safe, safe, owners, path_upto, Legal}
-use Rattle.xc_model.proofs.Sorts.{each-weaker}
 use Rattle.xc_model.proofs.Tree.{each-itself}
 use Rattle.xc_model.proofs.Sorted.{versions-ordered}
 use Rattle.xc_model.proofs.FromRules.{heads}
 use Rattle.xc_model.proofs.FromValid.{accepted-numbered}
+use Rattle.xc_record.proofs.ListLaws.{Each-weaker}
 
 -- the tablet beside its place
 abbrev pub at_place : List ℕ → AcceptedTablet → Placed
@@ -88,7 +88,7 @@ legal-places logs ps valid l =
       children = each-placed (λ x. is_closed x ≡ false → Each (λ y. y.tablet.header.parent ≡ Some x.tablet.header.id → y.place ≡ 0) (placed bs ps)) bs ps
           (each-itself (λ b. is_closed_in ps b ≡ false → Each (λ y. y.tablet.header.parent ≡ Some b.header.id → y.place ≡ 0) (placed bs ps)) bs (λ b i c.
           each-placed (λ y. y.tablet.header.parent ≡ Some b.header.id → y.place ≡ 0) bs ps
-          (each-weaker (λ d. StartsAfter logs ps d d.header.parent) (λ d. d.header.parent ≡ Some b.header.id → place ps d ≡ 0) (λ d s e. starts-of logs ps d d.header.parent b.header.id e s (closed-of logs ps b m i ∙ c)) bs l.starts)));
+          (Each-weaker (λ d. StartsAfter logs ps d d.header.parent) (λ d. d.header.parent ≡ Some b.header.id → place ps d ≡ 0) (λ d s e. starts-of logs ps d d.header.parent b.header.id e s (closed-of logs ps b m i ∙ c)) bs l.starts)));
     }
 
 kept-is : (vs ws : List Version) (es : Kept) → vs ≡ ws → (let x : Kept = record { versions = vs; held = es.held } in x) ≡ record { versions = ws; held = es.held }

@@ -5,12 +5,13 @@ use Rattle.std.specs.Option.{option_map_or}
 use Rattle.std.specs.List.{list_any}
 use Rattle.std.proofs.lemmas.Bool.{cases_Bool, and_parts, true≢false}
 use Rattle.std.proofs.lemmas.Bool.Decides.{nat_tests}
+use Rattle.std.proofs.lemmas.Option.{same_Some}
 use Rattle.xc_record.specs.declared.record.Header.{Header}
 use Rattle.xc_record.specs.declared.rules.Next.{Next}
 use Rattle.xc_record.specs.declared.rules.Next.TheVariants.{LeftChild, RightChild}
 use Rattle.xc_record.specs.Headers.{is_child_of, parent_fits, fits as fits_next, fit_from, next_after, with_next, children}
 use Rattle.xc_model.proofs.StableSort.{Each}
-use Rattle.xc_model.proofs.FromRules.{NotAwaited, named, split-from, not-awaited, right-from, some-is}
+use Rattle.xc_model.proofs.FromRules.{NotAwaited, named, split-from, not-awaited, right-from}
 
 abbrev Childless : ℕ → Header → Type 0
 Childless id h = h.parent ≡ Some id → ⊥
@@ -60,8 +61,8 @@ pair-only before next id t (u ∷ ts) l r n e f c w =
     let nx = next_after before next t t.parent in
     let seen = before ++ t ∷ [] in
     let parts = and_parts _ _ f in
-    let is-l : t ≡ l = ap (λ (w : Header × Header). w.0) (some-is (t, u) (l, r) w) in
-    let is-r : u ≡ r = ap (λ (w : Header × Header). w.1) (some-is (t, u) (l, r) w) in
+    let is-l : t ≡ l = ap (λ (w : Header × Header). w.0) (same_Some (t, u) (l, r) w) in
+    let is-r : u ≡ r = ap (λ (w : Header × Header). w.1) (same_Some (t, u) (l, r) w) in
     go nx (ap (next_after before next t) is ∙ off.1) parts is-l is-r
   where
     go : (nx : Next) {lo hi : ℕ} → nx ≡ RightChild id lo hi → (fits_next (before ++ t ∷ []) nx u ≡ true) × (fit_from ((before ++ t ∷ []) ++ u ∷ []) (next_after (before ++ t ∷ []) nx u u.parent) ts ≡ true) → t ≡ l → u ≡ r → Each (IsOne id l r) (t ∷ u ∷ ts)

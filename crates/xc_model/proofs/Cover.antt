@@ -14,7 +14,7 @@ use Rattle.xc_model.proofs.Placed.{floor_by, Placed, is_closed, applied, last_sa
 use Rattle.xc_record.specs.Accepted.{AcceptedTablet}
 use Rattle.xc_record.specs.SafeTime.{floor_after}
 use Rattle.xc_model.proofs.Chain.{KindGoes, Goes, Threads, order_after-parts}
-use Rattle.xc_model.proofs.Sorts.{each-append, each-weaker}
+use Rattle.xc_record.proofs.ListLaws.{Each-append, Each-weaker}
 
 pub nothing-applied : (xs : List Placed) → Each (λ y. y.place ≡ 0) xs → path_upto xs ≡ []
 nothing-applied [] h = refl
@@ -94,7 +94,7 @@ cut-keep commit t k seen r h g cut = record {
   before = cut.before;
   rest = cut.rest ++ record_events k r;
   is = events-push k seen r ∙ ap (λ w. w ++ record_events k r) cut.is ∙ append_assoc cut.before cut.rest (record_events k r);
-  late = each-append (ComesAfter commit t) cut.rest (record_events k r) cut.late (record-late commit t k r.time r.kind h g);
+  late = Each-append (ComesAfter commit t) cut.rest (record_events k r) cut.late (record-late commit t k r.time r.kind h g);
   free = cut.free;
 }
 
@@ -109,7 +109,7 @@ cut-step commit t k f l seen time (log.Safe v) h i g s a c b = record {
   rest = Safe v ∷ [];
   is = events-push k seen (record { time = time; kind = log.Safe v });
   late = (tt, tt);
-  free = each-weaker (λ w. IsAfter v (commit w.txn)) (λ w. IsAfter t (commit w.txn)) (λ w. after-more t v (commit w.txn) b) (waiting (events k seen)) s;
+  free = Each-weaker (λ w. IsAfter v (commit w.txn)) (λ w. IsAfter t (commit w.txn)) (λ w. after-more t v (commit w.txn) b) (waiting (events k seen)) s;
 }
 
 pub floor-time : (f l time : ℕ) (kind : Kind) → f ≤ l → l < time → KindGoes f time kind → floor_by f kind ≤ time

@@ -5,9 +5,9 @@ use Rattle.xc_model.proofs.StableSort.{Each}
 use Rattle.xc_record.specs.Path.{Event, Put, Hold, Apply, Abort, Safe, Version, Waiting, waiting}
 use Rattle.xc_model.specs.Kept.{is_of, kept_from, Kept, step, steps}
 use Rattle.xc_model.proofs.Paths.{ordered, IsNumbered, shown}
-use Rattle.xc_model.proofs.Sorts.{each-append}
 use Rattle.xc_model.proofs.ApplyPath.{ordered-put, ordered-hold, ordered-apply, ordered-abort, ordered-safe, waiting-put, waiting-hold, waiting-apply, waiting-abort, waiting-safe}
 use Rattle.xc_model.proofs.Keep.{kept_from-put_after, kept_from-add_all}
+use Rattle.xc_record.proofs.ListLaws.{Each-append}
 
 -- what an event adds commits after the cutoff
 abbrev pub AddsAfter : ℕ → Event → Type 0
@@ -33,5 +33,5 @@ pub shown-append : (u : ℕ) (es fs : List Event) → Each IsNumbered es → Eac
 shown-append u es [] g q h = ap (shown u) (append-nil es)
 shown-append u es (f ∷ fs) g q h =
     ap (shown u) (sym (append_assoc es (f ∷ []) fs))
-    ∙ shown-append u (es ++ f ∷ []) fs (each-append IsNumbered es (f ∷ []) g (q.0, tt)) q.1 h.1
+    ∙ shown-append u (es ++ f ∷ []) fs (Each-append IsNumbered es (f ∷ []) g (q.0, tt)) q.1 h.1
     ∙ ap (steps fs) (shown-push u es f g h.0)

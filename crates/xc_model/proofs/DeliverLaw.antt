@@ -4,7 +4,8 @@ use Rattle.std.proofs.Common.{◌≡◌, ◌≢◌, ◌==◌, ℕ, zero, suc, �
 use Rattle.std.specs.Prelude.{fold, ◌&&◌, nat_le, slice_get, slice_index, slice_index_or, slice_set, if◌then◌else◌}
 use Rattle.std.specs.Option.{option_map_or}
 use Rattle.std.proofs.lemmas.Bool.{cases_Bool, cases_eq, and_parts, eqb-true, eq-eqb, true≢false}
-use Rattle.std.proofs.lemmas.List.{get_or-set_same, get_or-set_other, length-set, length-append, length-map}
+use Rattle.std.proofs.lemmas.List.{get_or-set_same, get_or-set_other, length-set, length-append, length-map, nil_from_length}
+use Rattle.std.proofs.lemmas.Option.{same_Some, none-some, slice_get_within}
 use Rattle.xc_record.specs.declared.record.Kind.{Kind}
 use Rattle.xc_record.specs.declared.record.Kind.TheVariants as log
 use Rattle.xc_record.specs.declared.record.Header.{Header}
@@ -26,7 +27,6 @@ use Rattle.xc_model.specs.Stands.{TargetTablet, in_range, kept_at, is_started, K
 use Rattle.xc_model.specs.Laws.{DeliveriesKeepStanding, BatchesKeepStanding}
 use Rattle.xc_model.proofs.StableSort.{Each, Exists}
 use Rattle.xc_model.proofs.Placed.{Placed, placed, more, floor_by, is_closed, safe, TabletsOf, Stands, after_record}
-use Rattle.xc_model.proofs.Sorts.{each-weaker}
 use Rattle.xc_model.proofs.Chain.{Goes, order_after-parts}
 use Rattle.xc_model.proofs.Cover.{floor_after-append}
 use Rattle.xc_model.proofs.KeyRead.{goes-back}
@@ -42,6 +42,8 @@ use Rattle.xc_model.proofs.SplitEnd.{last-split, no-split-end}
 use Rattle.xc_model.proofs.Bridge.{at_place, safe-time, legal-places, each-placed, each-unplaced, get-tablet, closed-of, given-shown}
 use Rattle.xc_model.proofs.DeliverRecord.{delivers, is-open, applied-is, applied-more}
 use Rattle.xc_model.proofs.FloorLaw.{get-id, closed-kept, heads-logs}
+use Rattle.xc_record.proofs.ListLaws.{Each-weaker}
+use Rattle.xc_model.proofs.Sorts.{exists-at}
 
 -- ---- lists
 
@@ -59,7 +61,7 @@ numbered-mid n [] b after m = (let q = m.0 in omega arith)
 numbered-mid n (d ∷ before) b after m = let q : b.header.id ≡ n + 1 + length before = numbered-mid (n + 1) before b after m.1 in omega arith
 
 apart-ids : (n : ℕ) (before : List AcceptedTablet) (b : AcceptedTablet) (after : List AcceptedTablet) → Numbered n (heads (before ++ b ∷ after)) → Each (λ d. d.header.id ≢ b.header.id) before × Each (λ d. d.header.id ≢ b.header.id) after
-apart-ids n [] b after m = (tt, each-weaker (λ d. n + 1 ≤ d.header.id) (λ d. d.header.id ≢ b.header.id) (λ d k e. let q = m.0 in let z : ⊥ = omega arith in z) after (numbered-above (n + 1) after m.1))
+apart-ids n [] b after m = (tt, Each-weaker (λ d. n + 1 ≤ d.header.id) (λ d. d.header.id ≢ b.header.id) (λ d k e. let q = m.0 in let z : ⊥ = omega arith in z) after (numbered-above (n + 1) after m.1))
 apart-ids n (d ∷ before) b after m =
     let rest = apart-ids (n + 1) before b after m.1 in
     let high : b.header.id ≡ n + 1 + length before = numbered-mid (n + 1) before b after m.1 in
@@ -68,29 +70,8 @@ apart-ids n (d ∷ before) b after m =
 pub get-is : (bs : List AcceptedTablet) (i : ℕ) (b : AcceptedTablet) → Numbered 0 (heads bs) → slice_get bs i ≡ Some b → b.header.id ≡ i
 get-is bs i b m e = get-id 0 bs i b m e ∙ zero-add i
 
-some-tablet : (d b : AcceptedTablet) → Some d ≡ Some b → d ≡ b
-some-tablet d b e = cc
-
-pub none-some : (n : ℕ) → None ≡ Some n → ⊥
-none-some n e = cc
-
-pub some-number : (n m : ℕ) → Some n ≡ Some m → n ≡ m
-some-number n m e = cc
-
-nil-of : (rs : List Record) → length rs ≡ 0 → rs ≡ []
-nil-of [] e = refl
-nil-of (r ∷ rs) e = absurd (omega arith)
-
-some-header : (h l : Header) → Some h ≡ Some l → h ≡ l
-some-header h l e = cc
-
 same-header : (hs : List Header) (h l : Header) → Numbered 0 hs → Exists (λ d. d ≡ h) hs → Exists (λ d. d ≡ l) hs → h.id ≡ l.id → h ≡ l
-same-header hs h l m i j e = some-header h l (sym (there-get hs h m i) ∙ ap (slice_get hs) e ∙ there-get hs l m j)
-
-pub some-below : {A : Type 0} (xs : List A) (i : ℕ) (a : A) → slice_get xs i ≡ Some a → i < length xs
-some-below [] i a e = cc
-some-below (b ∷ bs) zero a e = omega arith
-some-below (b ∷ bs) (suc i) a e = let q : i < length bs = some-below bs i a e in omega arith
+same-header hs h l m i j e = same_Some h l (sym (there-get hs h m i) ∙ ap (slice_get hs) e ∙ there-get hs l m j)
 
 pub pick : {A : Type 0} (P : A → Type 0) (xs : List A) → Exists P xs → (a : A) × (Exists (λ b. b ≡ a) xs × P a)
 pick P [] i = absurd i
@@ -301,7 +282,7 @@ module _ (logs : Logs) (u : ℕ) (x y : TargetTablet) (before after : List Accep
       let before-c : closed_at logs x.places p ≡ false = ⊎_elim (λ same. ap (closed_at logs x.places) same ∙ closed-b) (λ n. sym (closed-elsewhere p n) ∙ c) (cases_eq p b.header.id) in
       ⊎_elim
       (λ same.
-      let is-b : d ≡ b = some-tablet d b (sym (get-tablet (accepted_tablets logs) d (accepted-numbered logs st.valid) i) ∙ ap (slice_get (accepted_tablets logs)) same ∙ get-b) in
+      let is-b : d ≡ b = same_Some d b (sym (get-tablet (accepted_tablets logs) d (accepted-numbered logs st.valid) i) ∙ ap (slice_get (accepted_tablets logs)) same ∙ get-b) in
       let up-d : is_started logs x.places d.header.parent ≡ true = subst (λ (w : AcceptedTablet). is_started logs x.places w.header.parent ≡ true) (sym is-b) up in
       absurd (true≢false (sym (subst (λ w. is_started logs x.places w ≡ true) e up-d) ∙ before-c)))
       (λ n. place-other d.header.id n ∙ s before-c) (cases_eq d.header.id b.header.id)
@@ -337,7 +318,7 @@ module _ (logs : Logs) (u : ℕ) (x y : TargetTablet) (before after : List Accep
       other : is_split r.kind ≡ false → is_closed_in y.places b ≡ is_split r.kind
       other f = ⊎_elim
           (λ e.
-          let none : rest ≡ [] = nil-of rest (let l : length b.records ≡ length (front ++ r ∷ rest) = ap length recs in let m = length-append front (r ∷ rest) in let n : slice_index y.places b.header.id ≡ length b.records = eqb-true _ _ e in let q = place-mine in omega arith) in
+          let none : rest ≡ [] = nil_from_length rest (let l : length b.records ≡ length (front ++ r ∷ rest) = ap length recs in let m = length-append front (r ∷ rest) in let n : slice_index y.places b.header.id ≡ length b.records = eqb-true _ _ e in let q = place-mine in omega arith) in
           let open_ : b.end.split ≡ false = ap (λ (w : Progress). w.split) end-is ∙ ap (λ w. (fold step_order b.start (front ++ r ∷ w)).split) none ∙ no-split-end b.start front r (subst (λ w. accepted_from b.start (front ++ r ∷ w) ≡ front ++ r ∷ w) none in-order) f in
           ap (λ o. o && b.end.split) e ∙ open_ ∙ sym f)
           (λ n. ap (λ o. o && b.end.split) n ∙ sym f) (cases_Bool (slice_index y.places b.header.id == length b.records))
@@ -437,8 +418,8 @@ module _ (logs : Logs) (u : ℕ) (x y : TargetTablet) (before after : List Accep
       let from : StartsFrom (accepted_tablets logs) d = each-at (StartsFrom (accepted_tablets logs)) (accepted_tablets logs) d (subst (λ w. Each (StartsFrom w) w) (sym (accepted-ends logs st.valid)) (starts-from [] logs.tablets (rules-suffice logs st.valid).grows tt)) i in
       ⊎_elim (λ n. absurd (none-some b.header.id (sym n ∙ e)))
       (λ j. let found = pick (λ w. (Some w.header.id ≡ d.header.parent) × ((w.header.id < d.header.id) × (w.end.floor ≡ d.start.floor))) (accepted_tablets logs) j in
-      let id : found.0.header.id ≡ b.header.id = some-number found.0.header.id b.header.id (found.1.1.0 ∙ e) in
-      let same : found.0 ≡ b = some-tablet found.0 b (sym (get-tablet (accepted_tablets logs) found.0 (accepted-numbered logs st.valid) found.1.0) ∙ ap (slice_get (accepted_tablets logs)) id ∙ get-b) in
+      let id : found.0.header.id ≡ b.header.id = same_Some found.0.header.id b.header.id (found.1.1.0 ∙ e) in
+      let same : found.0 ≡ b = same_Some found.0 b (sym (get-tablet (accepted_tablets logs) found.0 (accepted-numbered logs st.valid) found.1.0) ∙ ap (slice_get (accepted_tablets logs)) id ∙ get-b) in
       sym found.1.1.1.1 ∙ ap (λ (w : AcceptedTablet). w.end.floor) same) from
 
   end-floor : is_split r.kind ≡ true → b.end.floor ≡ last_safe_in x.places b
@@ -459,7 +440,7 @@ module _ (logs : Logs) (u : ℕ) (x y : TargetTablet) (before after : List Accep
   below-each : (d : AcceptedTablet) → Exists (λ e. e ≡ d) (accepted_tablets logs) → d.header.id < length x.safe
   below-each d i =
       let q : length x.safe ≡ length x.headers = st.counts.1 in
-      let w : d.header.id < length (accepted_tablets logs) = some-below (accepted_tablets logs) d.header.id d (get-tablet (accepted_tablets logs) d (accepted-numbered logs st.valid) i) in
+      let w : d.header.id < length (accepted_tablets logs) = slice_get_within (accepted_tablets logs) d.header.id d (get-tablet (accepted_tablets logs) d (accepted-numbered logs st.valid) i) in
       let c : length x.headers ≡ length (accepted_tablets logs) = count ∙ ap length (sym is) in omega arith
 
   one-of : (left right : ℕ) (n : Named (headers_of logs.tablets) b.header.id left right) (d : AcceptedTablet) → Exists (λ e. e ≡ d) (accepted_tablets logs) → d.header.parent ≡ Some b.header.id → (d.header.id ≡ left) ⊎ (d.header.id ≡ right)
@@ -491,7 +472,7 @@ module _ (logs : Logs) (u : ℕ) (x y : TargetTablet) (before after : List Accep
   keeps-each : (d : AcceptedTablet) → Exists (λ e. e ≡ d) (accepted_tablets logs) → KeepsTablet logs y d
   keeps-each d i =
       ⊎_elim
-      (λ e. let same : d ≡ b = some-tablet d b (sym (get-tablet (accepted_tablets logs) d (accepted-numbered logs st.valid) i) ∙ ap (slice_get (accepted_tablets logs)) e ∙ get-b) in subst (KeepsTablet logs y) (sym same) keeps-mine)
+      (λ e. let same : d ≡ b = same_Some d b (sym (get-tablet (accepted_tablets logs) d (accepted-numbered logs st.valid) i) ∙ ap (slice_get (accepted_tablets logs)) e ∙ get-b) in subst (KeepsTablet logs y) (sym same) keeps-mine)
       (λ n. keeps-else d i n (each-at (KeepsTablet logs x) (accepted_tablets logs) d st.tablets i)) (cases_eq d.header.id b.header.id)
 
   same-range : (k : List ℕ) → in_range y k ≡ in_range x k
@@ -514,10 +495,7 @@ module _ (logs : Logs) (u : ℕ) (x y : TargetTablet) (before after : List Accep
 
 take-front : {A : Type 0} (xs : List A) (i : ℕ) (a : A) → slice_get xs i ≡ Some a → (front : List A) × ((rest : List A) × ((xs ≡ front ++ a ∷ rest) × (length front ≡ i)))
 take-front [] i a e = cc
-take-front (b ∷ bs) zero a e = ([], (bs, (let q : b ≡ a = some-is b a e in ap (λ w. w ∷ bs) q, refl)))
-  where
-    some-is : {A : Type 0} (b a : A) → Some b ≡ Some a → b ≡ a
-    some-is b a e = cc
+take-front (b ∷ bs) zero a e = ([], (bs, (let q : b ≡ a = same_Some b a e in ap (λ w. w ∷ bs) q, refl)))
 take-front (b ∷ bs) (suc i) a e = let deep = take-front bs i a e in (b ∷ deep.0, (deep.1.0, (ap (λ w. b ∷ w) deep.1.1.0, (let q : length deep.0 ≡ i = deep.1.1.1 in omega arith))))
 
 -- the tablet that a record is of
@@ -537,17 +515,12 @@ of logs s n r e = go (slice_get (accepted_tablets logs) s) refl e
 started-is : (logs : Logs) (u s : ℕ) (x : TargetTablet) (b : AcceptedTablet) → StandsFor logs u x → slice_get (accepted_tablets logs) s ≡ Some b → has_started x s ≡ true → is_started logs x.places b.header.parent ≡ true
 started-is logs u s x b st get h =
     let m = accepted-numbered logs st.valid in
-    let i : Exists (λ d. d ≡ b) (accepted_tablets logs) = in-list (accepted_tablets logs) s get in
+    let i : Exists (λ d. d ≡ b) (accepted_tablets logs) = exists-at (accepted_tablets logs) s b get in
     let head : slice_get x.headers s ≡ Some b.header = subst (λ (w : ℕ). slice_get x.headers w ≡ Some b.header) (get-is (accepted_tablets logs) s b m get)
     (subst (λ w. slice_get w b.header.id ≡ Some b.header) (heads-logs logs st.valid ∙ sym st.headers) (there-get (heads (accepted_tablets logs)) b.header m (exists-header (accepted_tablets logs) b i))) in
     let kept : option_map_or (λ parent. slice_index_or x.closed parent false) b.header.parent true ≡ true = sym (ap (λ o. option_map_or (λ (h : Header). option_map_or (λ parent. slice_index_or x.closed parent false) h.parent true) o false) head) ∙ h in
     go b.header.parent kept
   where
-    in-list : (ds : List AcceptedTablet) (i : ℕ) → slice_get ds i ≡ Some b → Exists (λ d. d ≡ b) ds
-    in-list [] i e = cc
-    in-list (d ∷ ds) zero e = inl (some-tablet d b e)
-    in-list (d ∷ ds) (suc i) e = inr (in-list ds i e)
-
     go : (q : Option ℕ) → option_map_or (λ parent. slice_index_or x.closed parent false) q true ≡ true → is_started logs x.places q ≡ true
     go None k = refl
     go (Some p) k = sym (closed-kept logs u x st p) ∙ k
@@ -578,7 +551,7 @@ next-of (x ∷ xs) (suc i) a tail e = let deep = next-of xs i a tail e in (deep.
 place-after : (logs : Logs) (u s : ℕ) (r : Record) (x y : TargetTablet) → StandsFor logs u x → slice_get (accepted logs s) (slice_index x.places s) ≡ Some r → TakesIn s r x y → (slice_index y.places s ≡ slice_index x.places s + 1) × ((i : ℕ) → i ≢ s → slice_index y.places i ≡ slice_index x.places i)
 place-after logs u s r x y st next tk =
     let found : Of logs s (slice_index x.places s) r = of logs s (slice_index x.places s) r next in
-    let low : s < length (accepted_tablets logs) = some-below (accepted_tablets logs) s found.b found.get in
+    let low : s < length (accepted_tablets logs) = slice_get_within (accepted_tablets logs) s found.b found.get in
     let same : length (accepted_tablets logs) ≡ length logs.tablets = sym (length-map (accepted_tablets logs) (λ (d : AcceptedTablet). d.header)) ∙ ap length (heads-logs logs st.valid) ∙ length-map logs.tablets (λ (t : Tablet). t.header) in
     let bound : s < length x.places = let c : length x.places ≡ length logs.tablets = st.places.count in omega arith in
     (ap (λ w. slice_index w s) tk.places ∙ get_or-set_same x.places s (slice_index x.places s + 1) 0 bound, (λ i n. ap (λ w. slice_index w i) tk.places ∙ get_or-set_other x.places s i (slice_index x.places s + 1) 0 n))
@@ -591,7 +564,7 @@ started-stays logs u s r x y st next h tk =
     low : s < length x.closed
     low =
         let found : Of logs s (slice_index x.places s) r = of logs s (slice_index x.places s) r next in
-        let b : s < length (accepted_tablets logs) = some-below (accepted_tablets logs) s found.b found.get in
+        let b : s < length (accepted_tablets logs) = slice_get_within (accepted_tablets logs) s found.b found.get in
         let same : length (accepted_tablets logs) ≡ length x.headers = sym (length-map (accepted_tablets logs) (λ (d : AcceptedTablet). d.header)) ∙ ap length (heads-logs logs st.valid ∙ sym st.headers) in
         let c : length x.closed ≡ length x.headers = st.counts.0 in omega arith
 

@@ -20,7 +20,6 @@ use Rattle.xc_record.specs.SafeTime.{floor_after}
 use Rattle.xc_record.specs.Hash.{hash_of}
 use Rattle.xc_model.proofs.ValidLogs.{ValidLogs, KindNumbered}
 use Rattle.xc_model.specs.Kept.{Kept, steps}
-use Rattle.xc_model.proofs.Sorts.{each-weaker, each-filter}
 use Rattle.xc_model.proofs.Chain.{KindGoes, Goes, last_after, Threads}
 use Rattle.xc_model.proofs.Cover.{nothing-applied, events-push}
 use Rattle.xc_model.proofs.KeyRead.{each-back, goes-back, goes-front, floor-le-last}
@@ -29,6 +28,7 @@ use Rattle.xc_model.proofs.SafeTime.{Begins, begins-placed, begins-goes, safe-ri
 use Rattle.xc_model.proofs.ReadRows.{under-safe}
 use Rattle.xc_model.proofs.RowsAt.{each-flat}
 use Rattle.xc_model.proofs.Tree.{each-ends, Linked, Follow, chained, owners-ends, legal-chain, the_ends, own, each-both}
+use Rattle.xc_record.proofs.ListLaws.{Each-filter, Each-weaker}
 
 -- one element of a list is changed
 pub each-swap : {A : Type 0} (P : A → Type 0) (before after : List A) (x y : A) → (P x → P y) → Each P (before ++ x ∷ after) → Each P (before ++ y ∷ after)
@@ -50,9 +50,9 @@ pub legal-owners : (ts : List Tablet) (xs : List Placed) (h : ℕ) → ValidLogs
 legal-owners ts xs h v is l =
     let chain = chained ts h v.grows in
     let same : the_ends (owners h xs) ≡ filter (own h) (ends ts) = owners-ends h xs ∙ ap (filter (own h)) is in
-    legal-chain None origin (owners h xs) (subst (Linked None) (sym same) chain.linked) (follow-threads origin xs h (subst (λ w. Follow origin (filter (own h) w)) (sym is) chain.follow)) (each-filter (λ x. x.place ≤ length x.tablet.records) (owns_it h) xs l.within)
-    (each-weaker (λ y. is_closed y ≡ false → Each (λ z. z.tablet.header.parent ≡ Some y.tablet.header.id → z.place ≡ 0) xs) (λ y. is_closed y ≡ false → Each (λ z. z.tablet.header.parent ≡ Some y.tablet.header.id → z.place ≡ 0) (owners h xs)) (λ y f d. each-filter (λ z. z.tablet.header.parent ≡ Some y.tablet.header.id → z.place ≡ 0) (owns_it h) xs (f d)) (owners h xs)
-    (each-filter (λ y. is_closed y ≡ false → Each (λ z. z.tablet.header.parent ≡ Some y.tablet.header.id → z.place ≡ 0) xs) (owns_it h) xs l.children))
+    legal-chain None origin (owners h xs) (subst (Linked None) (sym same) chain.linked) (follow-threads origin xs h (subst (λ w. Follow origin (filter (own h) w)) (sym is) chain.follow)) (Each-filter (λ x. x.place ≤ length x.tablet.records) (owns_it h) xs l.within)
+    (Each-weaker (λ y. is_closed y ≡ false → Each (λ z. z.tablet.header.parent ≡ Some y.tablet.header.id → z.place ≡ 0) xs) (λ y. is_closed y ≡ false → Each (λ z. z.tablet.header.parent ≡ Some y.tablet.header.id → z.place ≡ 0) (owners h xs)) (λ y f d. Each-filter (λ z. z.tablet.header.parent ≡ Some y.tablet.header.id → z.place ≡ 0) (owns_it h) xs (f d)) (owners h xs)
+    (Each-filter (λ y. is_closed y ≡ false → Each (λ z. z.tablet.header.parent ≡ Some y.tablet.header.id → z.place ≡ 0) xs) (owns_it h) xs l.children))
 
 zeros-after : (os ys : List Placed) (x : Placed) → LegalChain (os ++ x ∷ ys) → is_closed x ≡ false → Each (λ y. y.place ≡ 0) ys
 zeros-after [] ys x l c = ⊎_elim (λ e. absurd (true≢false (sym e ∙ c))) (λ z. z) l.1
@@ -138,7 +138,7 @@ pub upto-numbered : (ts : List Tablet) (xs : List Placed) (h : ℕ) (k : List �
 upto-numbered ts xs h k v is =
     let all : Each (λ x. Each (λ r. KindNumbered r.kind) x.tablet.records) xs = each-ends (λ e. Each (λ r. KindNumbered r.kind) e.records) xs (subst (Each (λ (e : AcceptedTablet). Each (λ r. KindNumbered r.kind) e.records)) (sym is) v.numbered) in
     each-flat IsNumbered (record_events k) (λ r. KindNumbered r.kind) (λ r. record-numbered k r.time r.kind) (path_upto (owners h xs))
-    (each-flat (λ r. KindNumbered r.kind) applied (λ x. Each (λ r. KindNumbered r.kind) x.tablet.records) (λ x w. each-take (λ r. KindNumbered r.kind) x.place x.tablet.records w) (owners h xs) (each-filter (λ x. Each (λ r. KindNumbered r.kind) x.tablet.records) (owns_it h) xs all))
+    (each-flat (λ r. KindNumbered r.kind) applied (λ x. Each (λ r. KindNumbered r.kind) x.tablet.records) (λ x w. each-take (λ r. KindNumbered r.kind) x.place x.tablet.records w) (owners h xs) (Each-filter (λ x. Each (λ r. KindNumbered r.kind) x.tablet.records) (owns_it h) xs all))
 
 rises-same : (xs : List Placed) → Each (λ y. y.place ≤ length y.tablet.records) xs → Rises xs xs
 rises-same [] w = tt
@@ -175,7 +175,7 @@ delivers ts within u before after x front rest r keeps now v t is at p effect s 
       legal = record {
         within = each-swap (λ y. y.place ≤ length y.tablet.records) before after x (more x) (λ _. fits) s.legal.within;
         children = each-swap (λ y. is_closed y ≡ false → Each (λ z. z.tablet.header.parent ≡ Some y.tablet.header.id → z.place ≡ 0) ys) before after x (more x) (λ f _. f open_)
-            (each-weaker (λ y. (is_closed y ≡ false → Each (λ z. z.tablet.header.parent ≡ Some y.tablet.header.id → z.place ≡ 0) xs) × (x.tablet.header.parent ≡ Some y.tablet.header.id → is_closed y ≡ true)) (λ y. is_closed y ≡ false → Each (λ z. z.tablet.header.parent ≡ Some y.tablet.header.id → z.place ≡ 0) ys)
+            (Each-weaker (λ y. (is_closed y ≡ false → Each (λ z. z.tablet.header.parent ≡ Some y.tablet.header.id → z.place ≡ 0) xs) × (x.tablet.header.parent ≡ Some y.tablet.header.id → is_closed y ≡ true)) (λ y. is_closed y ≡ false → Each (λ z. z.tablet.header.parent ≡ Some y.tablet.header.id → z.place ≡ 0) ys)
             (λ y w c. each-swap (λ z. z.tablet.header.parent ≡ Some y.tablet.header.id → z.place ≡ 0) before after x (more x) (λ _ e. absurd (true≢false (sym (w.1 e) ∙ c))) (w.0 c)) xs
             (each-both (λ y. is_closed y ≡ false → Each (λ z. z.tablet.header.parent ≡ Some y.tablet.header.id → z.place ≡ 0) xs) (λ y. x.tablet.header.parent ≡ Some y.tablet.header.id → is_closed y ≡ true) xs s.legal.children p));
       };

@@ -15,7 +15,6 @@ use Rattle.xc_model.specs.Stands.{TargetTablet, is_started, KeepsTablet, StandsF
 use Rattle.xc_model.specs.Laws.{KeptValuesSuffice}
 use Rattle.xc_model.proofs.StableSort.{Each, Exists}
 use Rattle.xc_model.proofs.Placed.{placed, is_closed, last_safe, safe, TabletsOf, KeptBound}
-use Rattle.xc_model.proofs.Sorts.{each-weaker}
 use Rattle.xc_model.proofs.Tree.{ends-placed, each-both}
 use Rattle.xc_model.proofs.ReadRows.{under-safe}
 use Rattle.xc_model.proofs.SafeTime.{safe-top}
@@ -24,6 +23,7 @@ use Rattle.xc_model.proofs.FromRules.{each-heads, heads, heads-from}
 use Rattle.xc_model.proofs.FromValid.{rules-suffice, accepted-ends, accepted-numbered}
 use Rattle.xc_model.proofs.Bridge.{safe-time, legal-places, each-placed, each-unplaced}
 use Rattle.xc_model.proofs.KeepLaws.{each-get}
+use Rattle.xc_record.proofs.ListLaws.{Each-weaker}
 
 least-low : {A : Type 0} (f : A → ℕ) (p : A → Bool) (xs : List A) (b : ℕ) → b ≤ least (map f (filter p xs)) → Each (λ x. p x ≡ true → b ≤ f x) xs
 least-low f p [] b h = tt
@@ -97,7 +97,7 @@ module _ (logs : Logs) (u : ℕ) (x : TargetTablet) (s : StandsFor logs u x) whe
   exists-closed q (d ∷ ds) h i = ⊎_elim (λ e. subst (λ w. is_started logs x.places w ≡ true) e.0 (h.0 ∙ e.1)) (λ r. exists-closed q ds h.1 r) i
 
   closed-each : Each (λ d. closed_at logs x.places d.header.id ≡ is_closed_in x.places d) (accepted_tablets logs)
-  closed-each = each-weaker (KeepsTablet logs x) (λ d. closed_at logs x.places d.header.id ≡ is_closed_in x.places d) (λ d k. sym (closed-kept d.header.id) ∙ k.closed) (accepted_tablets logs) s.tablets
+  closed-each = Each-weaker (KeepsTablet logs x) (λ d. closed_at logs x.places d.header.id ≡ is_closed_in x.places d) (λ d k. sym (closed-kept d.header.id) ∙ k.closed) (accepted_tablets logs) s.tablets
 
   abbrev value : Header → ℕ
   value h = slice_index x.safe h.id
@@ -113,7 +113,7 @@ module _ (logs : Logs) (u : ℕ) (x : TargetTablet) (s : StandsFor logs u x) whe
 
   bound : KeptBound (least_kept x) (placed (accepted_tablets logs) x.places)
   bound = each-placed (λ y. is_closed y ≡ false → (y.tablet.header.parent ≡ None) ⊎ Exists (λ z. (Some z.tablet.header.id ≡ y.tablet.header.parent) × (is_closed z ≡ true)) (placed (accepted_tablets logs) x.places) → least_kept x ≤ last_safe y) (accepted_tablets logs) x.places
-      (each-weaker (λ b. KeepsTablet logs x b × (counts_in x b.header ≡ true → least_kept x ≤ value b.header)) (λ b. is_closed_in x.places b ≡ false → (b.header.parent ≡ None) ⊎ Exists (λ z. (Some z.tablet.header.id ≡ b.header.parent) × (is_closed z ≡ true)) (placed (accepted_tablets logs) x.places) → least_kept x ≤ last_safe_in x.places b)
+      (Each-weaker (λ b. KeepsTablet logs x b × (counts_in x b.header ≡ true → least_kept x ≤ value b.header)) (λ b. is_closed_in x.places b ≡ false → (b.header.parent ≡ None) ⊎ Exists (λ z. (Some z.tablet.header.id ≡ b.header.parent) × (is_closed z ≡ true)) (placed (accepted_tablets logs) x.places) → least_kept x ≤ last_safe_in x.places b)
       (λ b h c i.
       let started : is_started logs x.places b.header.parent ≡ true = ⊎_elim (λ e. subst (λ w. is_started logs x.places w ≡ true) (sym e) refl) (λ r. exists-closed b.header.parent (accepted_tablets logs) closed-each r) i in
       let q : least_kept x ≤ value b.header = h.1 (counted b h.0 c started) in
@@ -134,7 +134,7 @@ module _ (logs : Logs) (u : ℕ) (x : TargetTablet) (s : StandsFor logs u x) whe
       least-high value (counts_in x) x.headers (covers logs x) (omega arith)
       (subst (Each (λ h. counts_in x h ≡ true → covers logs x ≤ value h)) same-heads
       (each-header (λ h. counts_in x h ≡ true → covers logs x ≤ value h) (accepted_tablets logs)
-      (each-weaker (λ b. KeepsTablet logs x b × ((is_closed_in x.places b ≡ true) ⊎ (covers logs x ≤ last_safe_in x.places b))) (λ b. counts_in x b.header ≡ true → covers logs x ≤ value b.header)
+      (Each-weaker (λ b. KeepsTablet logs x b × ((is_closed_in x.places b ≡ true) ⊎ (covers logs x ≤ last_safe_in x.places b))) (λ b. counts_in x b.header ≡ true → covers logs x ≤ value b.header)
       (λ b h t.
       let parts = and_parts _ _ t in
       let open_ : is_closed_in x.places b ≡ true → ⊥ = λ c. true≢false (sym parts.0 ∙ ap not (h.0.closed ∙ c)) in

@@ -24,11 +24,12 @@ use Rattle.xc_model.proofs.Paths.{IsAfter}
 use Rattle.xc_model.proofs.Placed.{owns, KindAgrees, Agrees, KindFree, NoStragglers}
 use Rattle.xc_model.proofs.Rows.{Applied, over_records, record_apply, kind_apply, first_commit, commit_of, path_of}
 use Rattle.xc_model.proofs.ValidLogs.{AgreeAll}
-use Rattle.xc_model.proofs.Sorts.{exists-right, exists-left, each-weaker}
+use Rattle.xc_model.proofs.Sorts.{exists-right, exists-left}
 use Rattle.xc_model.proofs.KeyRead.{each-back}
 use Rattle.xc_model.proofs.Tree.{each-itself, each-at, exists-weaker}
 use Rattle.xc_model.proofs.FromRules.{heads}
 use Rattle.xc_model.proofs.RealRows.{commit-same}
+use Rattle.xc_record.proofs.ListLaws.{Each-weaker}
 
 abbrev pub HasTxn : ℕ → Applied → Type 0
 HasTxn n a = a.txn ≡ n
@@ -130,10 +131,10 @@ tablet-free commit k seen (r ∷ rs) more f n = (
 
 pub numbered-above : (n : ℕ) (bs : List AcceptedTablet) → Numbered n (heads bs) → Each (λ a. n ≤ a.header.id) bs
 numbered-above n [] m = tt
-numbered-above n (b ∷ bs) m = ((let q = m.0 in omega arith), each-weaker (λ a. n + 1 ≤ a.header.id) (λ a. n ≤ a.header.id) (λ a k. omega arith) bs (numbered-above (n + 1) bs m.1))
+numbered-above n (b ∷ bs) m = ((let q = m.0 in omega arith), Each-weaker (λ a. n + 1 ≤ a.header.id) (λ a. n ≤ a.header.id) (λ a k. omega arith) bs (numbered-above (n + 1) bs m.1))
 
 numbered-parts : (n : ℕ) (before : List AcceptedTablet) (e : AcceptedTablet) (after : List AcceptedTablet) → Numbered n (heads (before ++ e ∷ after)) → Each (λ a. a.header.id < e.header.id) before × Each (λ a. e.header.id ≤ a.header.id) (e ∷ after)
-numbered-parts n [] e after m = (tt, (omega arith, each-weaker (λ a. n + 1 ≤ a.header.id) (λ a. e.header.id ≤ a.header.id) (λ a k. let q = m.0 in omega arith) after (numbered-above (n + 1) after m.1)))
+numbered-parts n [] e after m = (tt, (omega arith, Each-weaker (λ a. n + 1 ≤ a.header.id) (λ a. e.header.id ≤ a.header.id) (λ a k. let q = m.0 in omega arith) after (numbered-above (n + 1) after m.1)))
 numbered-parts n (b ∷ before) e after m =
     let rest = numbered-parts (n + 1) before e after m.1 in
     let low : n + 1 ≤ e.header.id = (each-back (λ a. n + 1 ≤ a.header.id) before (e ∷ after) (numbered-above (n + 1) (before ++ e ∷ after) m.1)).0 in
@@ -188,5 +189,5 @@ no-case-agrees logs m v =
     let each : Each (NoCase logs) es = each-itself (NoCase logs) es (λ e i n c q. each-at (HasNoCase logs n c) es e (v.no_case n c (commit-same logs n ∙ q)) i) in
     record {
       each = each-itself (λ e. Each (Agrees (commit_of es)) e.records) es (λ e i. each-itself (Agrees (commit_of es)) e.records (λ r j. kind-agrees logs e r r.kind (each-at (NoCase logs) es e each i) i j refl));
-      stragglers = λ k. path-free es (commit_of es) k [] es m (each-weaker (NoCase logs) (FreeOf es (commit_of es) k) (λ e f n c q o. (f n c q).no_straggler k o) es each) refl;
+      stragglers = λ k. path-free es (commit_of es) k [] es m (Each-weaker (NoCase logs) (FreeOf es (commit_of es) k) (λ e f n c q o. (f n c q).no_straggler k o) es each) refl;
     }

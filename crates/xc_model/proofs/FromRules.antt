@@ -2,7 +2,7 @@
 use Rattle.std.proofs.Common.{◌≡◌, ◌≢◌, ℕ, ◌+◌, ◌<◌, ◌≤◌, Bool, true, false, cond, List, [], ◌∷◌, ◌++◌, map, length, Some, None, refl, ap, sym, ◌∙◌, arith, subst, append_assoc, append-nil, inl, inr, ⊎_elim}
 use Rattle.std.proofs.lemmas.Bool.Decides.{nat_tests}
 use Rattle.std.proofs.lemmas.Bool.{cases_Bool, cases_lt, true≢false}
-use Rattle.std.proofs.lemmas.List.{map-append}
+use Rattle.std.proofs.lemmas.List.{map-append, length-map}
 use Rattle.xc_model.proofs.StableSort.{Each, Exists}
 use Rattle.xc_record.specs.declared.record.Record.{Record}
 use Rattle.xc_record.specs.declared.record.Header.{Header}
@@ -12,9 +12,9 @@ use Rattle.xc_record.specs.Accepted.{AcceptedTablet}
 use Rattle.xc_model.proofs.Placed.{ends, ends_from, end_under, parent_order, accepted_under, fits, order_after, begun, owns}
 use Rattle.xc_record.specs.Hash.{hash_of}
 use Rattle.xc_model.proofs.ValidLogs.{IsBelow, ParentThere, HasParent, Follows, GrowsBy}
-use Rattle.xc_model.proofs.Sorts.{exists-right, exists-left, each-append, each-weaker}
+use Rattle.xc_model.proofs.Sorts.{exists-right, exists-left, exists-at}
 use Rattle.xc_model.proofs.Tree.{each-itself, each-at, exists-weaker}
-use Rattle.std.specs.Prelude.{◌==◌, ◌&&◌, Option, slice_get, nat_le, suc, zero}
+use Rattle.std.specs.Prelude.{◌==◌, ◌&&◌, Option, slice_get, nat_le}
 use Rattle.std.specs.List.{list_any}
 use Rattle.std.proofs.Common.{zero-add}
 use Rattle.std.proofs.lemmas.Bool.{and_parts, eqb-true}
@@ -23,9 +23,11 @@ use Rattle.xc_record.specs.declared.rules.Next.TheVariants.{RootAt, LeftChild, R
 use Rattle.xc_record.specs.Headers.{is_child_of, splits_off, child_fits, root_fits, parent_fits, fits as fits_next, fit_from, next_after, after_child, may_end, hi_of, with_next, children}
 use Rattle.std.specs.Option.{option_map_or}
 use Rattle.std.proofs.Common.{◌*◌, ◌%◌}
+use Rattle.std.proofs.lemmas.Option.{same_Some}
 use Rattle.xc_record.specs.Hash.{hash_from}
 use Rattle.xc_record.specs.Valid.{headers_of}
 use Rattle.xc_record.proofs.HeaderLaws.{Numbered, Numbered-at, Fits, Fits-snoc, slice_get-append, SplitsOff, splits_off-parts}
+use Rattle.xc_record.proofs.ListLaws.{Each-append, Each-weaker}
 
 abbrev pub heads : List AcceptedTablet → List Header
 heads es = map (λ e. e.header) es
@@ -52,11 +54,11 @@ owns-from h t a b = grind (arith, nat_tests)
 pub roots-follow : (done : List AcceptedTablet) (t : Header) (lo : ℕ) → t.id ≡ length done → Each (λ d. d.id < t.id) (heads done) → Each (λ d. d.hi < lo) (heads done) → t.parent ≡ None → t.lo ≡ lo → Follows done t
 roots-follow done t lo n ids his p l = record {
   numbered = n;
-  fresh = each-heads (λ d. d.id ≢ t.id) done (each-weaker (λ d. d.id < t.id) (λ d. d.id ≢ t.id) (λ d k e. let z : ⊥ = omega arith in z) (heads done) ids);
+  fresh = each-heads (λ d. d.id ≢ t.id) done (Each-weaker (λ d. d.id < t.id) (λ d. d.id ≢ t.id) (λ d k e. let z : ⊥ = omega arith in z) (heads done) ids);
   below = subst (λ w. IsBelow w t.id) (sym p) tt;
   there = subst (ParentThere done) (sym p) tt;
   under = λ h o. subst (HasParent done h) (sym p) tt;
-  apart = λ h o. each-heads (λ d. d.parent ≡ t.parent → owns h d ≡ false) done (each-weaker (λ d. d.hi < lo) (λ d. d.parent ≡ t.parent → owns h d ≡ false) (λ d k e. owns-false h d (let w = (owns-within h t o).0 in omega arith)) (heads done) his);
+  apart = λ h o. each-heads (λ d. d.parent ≡ t.parent → owns h d ≡ false) done (Each-weaker (λ d. d.hi < lo) (λ d. d.parent ≡ t.parent → owns h d ≡ false) (λ d k e. owns-false h d (let w = (owns-within h t o).0 in omega arith)) (heads done) his);
 }
 
 -- a child, where no other child of its parent shares its hashes
@@ -64,12 +66,12 @@ pub child-follows : (done : List AcceptedTablet) (t p : Header) → t.id ≡ len
     → Each (λ d. d.parent ≡ Some p.id → d.hi < t.lo) (heads done) → Follows done t
 child-follows done t p n ids there is lo hi others = record {
   numbered = n;
-  fresh = each-heads (λ d. d.id ≢ t.id) done (each-weaker (λ d. d.id < t.id) (λ d. d.id ≢ t.id) (λ d k e. let z : ⊥ = omega arith in z) (heads done) ids);
+  fresh = each-heads (λ d. d.id ≢ t.id) done (Each-weaker (λ d. d.id < t.id) (λ d. d.id ≢ t.id) (λ d k e. let z : ⊥ = omega arith in z) (heads done) ids);
   below = subst (λ w. IsBelow w t.id) (sym is) (each-at (λ d. d.id < t.id) (heads done) p ids there);
   there = subst (ParentThere done) (sym is) (exists-heads (λ d. d.id ≡ p.id) done (exists-weaker (λ d. d ≡ p) (λ d. d.id ≡ p.id) (λ d e. ap (λ (w : Header). w.id) e) (heads done) there));
   under = λ h o. subst (HasParent done h) (sym is) (exists-heads (λ d. (d.id ≡ p.id) × (owns h d ≡ true)) done (exists-weaker (λ d. d ≡ p) (λ d. (d.id ≡ p.id) × (owns h d ≡ true))
       (λ d e. (ap (λ (w : Header). w.id) e, ap (owns h) e ∙ owns-from h p (let w = (owns-within h t o).0 in omega arith) (let w = (owns-within h t o).1 in omega arith))) (heads done) there));
-  apart = λ h o. each-heads (λ d. d.parent ≡ t.parent → owns h d ≡ false) done (each-weaker (λ d. d.parent ≡ Some p.id → d.hi < t.lo) (λ d. d.parent ≡ t.parent → owns h d ≡ false)
+  apart = λ h o. each-heads (λ d. d.parent ≡ t.parent → owns h d ≡ false) done (Each-weaker (λ d. d.parent ≡ Some p.id → d.hi < t.lo) (λ d. d.parent ≡ t.parent → owns h d ≡ false)
       (λ d k e. let b : d.hi < t.lo = k (e ∙ is) in owns-false h d (let w = (owns-within h t o).0 in omega arith)) (heads done) others);
 }
 
@@ -94,7 +96,7 @@ ends-of all done [] i f = f
 ends-of all done (t ∷ ts) i f =
     let o = parent_order done t.header.parent in
     let e = end_under o t in
-    ends-of all (done ++ e ∷ []) ts i.1 (each-append (FromTablet all) done (e ∷ []) f (record { tablet = t; there = i.0; under = o; is = refl }, tt))
+    ends-of all (done ++ e ∷ []) ts i.1 (Each-append (FromTablet all) done (e ∷ []) f (record { tablet = t; there = i.0; under = o; is = refl }, tt))
 
 pub ends-tablets : (ts : List Tablet) → Each (FromTablet ts) (ends ts)
 ends-tablets ts = ends-of ts [] ts (each-itself (λ t. Exists (λ u. u ≡ t) ts) ts (λ t i. i)) tt
@@ -126,26 +128,20 @@ split-among o (r ∷ rs) n s = ⊎_elim (λ t. inl t) (λ f. inr (split-among (a
 
 numbered-below : (n : ℕ) (hs : List Header) → Numbered n hs → Each (λ d. d.id < n + length hs) hs
 numbered-below n [] m = tt
-numbered-below n (h ∷ hs) m = ((let q = m.0 in omega arith), each-weaker (λ d. d.id < n + 1 + length hs) (λ d. d.id < n + length (h ∷ hs)) (λ d q. omega arith) hs (numbered-below (n + 1) hs m.1))
+numbered-below n (h ∷ hs) m = ((let q = m.0 in omega arith), Each-weaker (λ d. d.id < n + 1 + length hs) (λ d. d.id < n + length (h ∷ hs)) (λ d q. omega arith) hs (numbered-below (n + 1) hs m.1))
 
 all-below : (hs : List Header) (i : ℕ) → Numbered 0 hs → i ≡ length hs → Each (λ d. d.id < i) hs
-all-below hs i m e = each-weaker (λ d. d.id < 0 + length hs) (λ d. d.id < i) (λ d q. omega arith) hs (numbered-below 0 hs m)
-
-there-at : (hs : List Header) (i : ℕ) (p : Header) → slice_get hs i ≡ Some p → Exists (λ d. d ≡ p) hs
-there-at [] i p e = cc
-there-at (h ∷ hs) zero p e = inl cc
-there-at (h ∷ hs) (suc i) p e = inr (there-at hs i p e)
+all-below hs i m e = Each-weaker (λ d. d.id < 0 + length hs) (λ d. d.id < i) (λ d q. omega arith) hs (numbered-below 0 hs m)
 
 pub heads-length : (es : List AcceptedTablet) → length (heads es) ≡ length es
-heads-length [] = refl
-heads-length (e ∷ es) = omega (arith, heads-length es)
+heads-length es = length-map es (λ e. e.header)
 
 -- a child whose parent is at `id`
 child-at : (done : List AcceptedTablet) (id : ℕ) (t p : Header) → Numbered 0 (heads done) → t.id ≡ length (heads done) → slice_get (heads done) id ≡ Some p → t.parent ≡ Some id → p.lo ≤ t.lo → t.hi ≤ p.hi
     → Each (λ d. d.parent ≡ Some id → d.hi < t.lo) (heads done) → Follows done t
 child-at done id t p m n at is lo hi others =
     let same : p.id ≡ id = Numbered-at 0 (heads done) id p m at ∙ zero-add id in
-    child-follows done t p (n ∙ heads-length done) (all-below (heads done) t.id m n) (there-at (heads done) id p at) (is ∙ ap Some (sym same)) lo hi (subst (λ (w : ℕ). Each (λ (d : Header). d.parent ≡ Some w → d.hi < t.lo) (heads done)) (sym same) others)
+    child-follows done t p (n ∙ heads-length done) (all-below (heads done) t.id m n) (exists-at (heads done) id p at) (is ∙ ap Some (sym same)) lo hi (subst (λ (w : ℕ). Each (λ (d : Header). d.parent ≡ Some w → d.hi < t.lo) (heads done)) (sym same) others)
 
 childless : (hs : List Header) (id lo : ℕ) → list_any (is_child_of id) hs ≡ false → Each (λ d. d.parent ≡ Some id → d.hi < lo) hs
 childless [] id lo n = tt
@@ -168,7 +164,7 @@ child-fits-follows done (RightChild parent lo hi) id t f n is e =
     let p : Header = f.awaited.1.0 in
     let a : p.lo ≤ lo = f.awaited.1.2 in
     let b : hi ≡ p.hi = f.awaited.1.3 in
-    child-at done parent t p f.numbered n f.awaited.1.1 (is ∙ ap Some same) (omega arith) (omega arith) (each-weaker (λ d. d.parent ≡ Some parent → d.hi < lo) (λ d. d.parent ≡ Some parent → d.hi < t.lo) (λ d k q. let w : d.hi < lo = k q in omega arith) (heads done) f.awaited.0)
+    child-at done parent t p f.numbered n f.awaited.1.1 (is ∙ ap Some same) (omega arith) (omega arith) (Each-weaker (λ d. d.parent ≡ Some parent → d.hi < lo) (λ d. d.parent ≡ Some parent → d.hi < t.lo) (λ d k q. let w : d.hi < lo = k q in omega arith) (heads done) f.awaited.0)
 
 root-fits-follows : (done : List AcceptedTablet) (next : Next) (t : Header) → Fits (heads done) next → t.id ≡ length (heads done) → t.parent ≡ None → root_fits next t ≡ true → Follows done t
 root-fits-follows done (RootAt lo) t f n is e = roots-follow done t lo (n ∙ heads-length done) (all-below (heads done) t.id f.numbered n) f.awaited is (eqb-true _ _ e)
@@ -293,9 +289,6 @@ right-from before id lo hi t e = go t.parent refl (and_parts _ _ (and_parts _ _ 
 hi-there : (before : List Header) (id : ℕ) (p : Header) → slice_get before id ≡ Some p → hi_of before id ≡ p.hi
 hi-there before id p e = ap (λ o. option_map_or (λ (parent : Header). parent.hi) o 0) e
 
-pub some-is : (x y : Header × Header) → Some x ≡ Some y → x ≡ y
-some-is x y e = cc
-
 pair-found : (before : List Header) (next : Next) (id : ℕ) (t : Header) (ts : List Header) (l r : Header) → NotAwaited id next → fits_next before next t ≡ true → fit_from (before ++ t ∷ []) (next_after before next t t.parent) ts ≡ true
     → t.parent ≡ Some id → with_next t ts ≡ Some (l, r) → AreChildren (before ++ t ∷ ts) id l r
 pair-found before next id t [] l r n e f is w = cc
@@ -305,8 +298,8 @@ pair-found before next id t (u ∷ ts) l r n e f is w =
     let s : SplitsOff before id t = splits_off-parts before id t off.0 in
     let n2 : next_after before next t t.parent ≡ RightChild id (t.hi + 1) (hi_of before id) = ap (next_after before next t) is ∙ off.1 in
     let second = right-from (before ++ t ∷ []) id (t.hi + 1) (hi_of before id) u (subst (λ w. fits_next (before ++ t ∷ []) w u ≡ true) n2 (and_parts _ _ f).0) in
-    let is-l : t ≡ l = ap (λ (w : Header × Header). w.0) (some-is (t, u) (l, r) w) in
-    let is-r : u ≡ r = ap (λ (w : Header × Header). w.1) (some-is (t, u) (l, r) w) in
+    let is-l : t ≡ l = ap (λ (w : Header × Header). w.0) (same_Some (t, u) (l, r) w) in
+    let is-r : u ≡ r = ap (λ (w : Header × Header). w.1) (same_Some (t, u) (l, r) w) in
     record {
       parent = s.parent;
       at = slice_get-append before (t ∷ u ∷ ts) id s.parent s.at;

@@ -20,22 +20,19 @@ use Rattle.xc_record.specs.Headers.{headers_fit, children, fit_from}
 use Rattle.xc_record.specs.Accepted.{AcceptedTablet, accepted_tablets, accepted_tablets_after, accepted_tablet_after, start_after, reached_after, root_start, child_start}
 use Rattle.xc_record.specs.Valid.{is_valid, is_txn, op_fits, ops_fit, kind_fits, record_fits, ends_fit, tablet_fits, headers_of}
 use Rattle.xc_record.specs.Path.{puts}
-use Rattle.xc_record.proofs.HeaderLaws.{Numbered, Fits-none}
+use Rattle.xc_record.proofs.HeaderLaws.{Numbered, Fits-none, Numbered-snoc}
 use Rattle.xc_model.proofs.StableSort.{Each, Exists}
 use Rattle.xc_model.proofs.Placed.{owns, order_after, origin, begun, accepted_under, end_under, order_at, parent_order, ends_from, ends}
 use Rattle.xc_model.proofs.ValidLogs.{GrowsBy, KindNumbered, KindAway, ValidLogs}
-use Rattle.xc_model.proofs.Sorts.{each-append, each-weaker}
 use Rattle.xc_model.proofs.Tree.{each-at}
 use Rattle.xc_model.proofs.FromRules.{heads, heads-from, heads-push, heads-length, exists-heads, FromTablet, ends-tablets, each-under, exists-under, split-among, all-grow, RootOf, roots-cover, hash-below, children-found, child-cover}
+use Rattle.xc_record.proofs.ListLaws.{Each-append, Each-weaker}
 
 -- ---- one record
 
 all-each : {A : Type 0} (p : A → Bool) (xs : List A) → list_all p xs ≡ true → Each (λ x. p x ≡ true) xs
 all-each p [] e = tt
 all-each p (x ∷ xs) e = ((and_parts _ _ e).0, all-each p xs (and_parts _ _ e).1)
-
-pub same-key : (k q : List ℕ) → bytes_eq k q ≡ true → k ≡ q
-same-key k q e = (bytes_eq-Decides k q).0 e
 
 op-held : (t : Header) (op : Op) → op_fits t op ≡ true → holds t (hash_of op.key) ≡ true
 op-held t op e = (and_parts _ _ (and_parts _ _ e).1).1
@@ -44,7 +41,7 @@ ops-away : (k : List ℕ) (t : Header) (ops : List Op) → owns (hash_of k) t �
 ops-away k t [] f h = refl
 ops-away k t (op ∷ ops) f h =
     let rest : puts k ops ≡ [] = ops-away k t ops f h.1 in
-    ⊎_elim (λ e. absurd (true≢false (sym (op-held t op h.0) ∙ ap (λ q. holds t (hash_of q)) (sym (same-key k op.key e)) ∙ f)))
+    ⊎_elim (λ e. absurd (true≢false (sym (op-held t op h.0) ∙ ap (λ q. holds t (hash_of q)) (sym ((bytes_eq-Decides k op.key).0 e)) ∙ f)))
     (λ e. ap (λ b. cond b (op.value ∷ puts k ops) (puts k ops)) e ∙ rest) (cases_Bool (bytes_eq k op.key))
 
 fit-away : (k : List ℕ) (t : Header) (ops : List Op) → owns (hash_of k) t ≡ false → ops_fit t ops ≡ true → puts k ops ≡ []
@@ -118,12 +115,8 @@ numbered-get n (h ∷ hs) t m i =
 pub there-get : (hs : List Header) (t : Header) → Numbered 0 hs → Exists (λ d. d ≡ t) hs → slice_get hs t.id ≡ Some t
 there-get hs t m i = let found = numbered-get 0 hs t m i in let q : t.id ≡ found.0 = found.1.0 ∙ zero-add found.0 in subst (λ (w : ℕ). slice_get hs w ≡ Some t) (sym q) found.1.1
 
-numbered-push : (n : ℕ) (hs : List Header) (h : Header) → Numbered n hs → h.id ≡ n + length hs → Numbered n (hs ++ h ∷ [])
-numbered-push n [] h m e = (omega arith, tt)
-numbered-push n (x ∷ hs) h m e = (m.0, numbered-push (n + 1) hs h m.1 (omega arith))
-
 numbered-one : (done : List AcceptedTablet) (x : AcceptedTablet) → Numbered 0 (heads done) → x.header.id ≡ length done → Numbered 0 (heads (done ++ x ∷ []))
-numbered-one done x m e = subst (Numbered 0) (sym (heads-push done x)) (numbered-push 0 (heads done) x.header m (e ∙ sym (heads-length done) ∙ sym (zero-add (length (heads done)))))
+numbered-one done x m e = subst (Numbered 0) (sym (heads-push done x)) (Numbered-snoc 0 (heads done) x.header m (e ∙ sym (heads-length done) ∙ sym (zero-add (length (heads done)))))
 
 follows-numbered : (done : List AcceptedTablet) (ts : List Tablet) → GrowsBy done ts → Numbered 0 (heads done) → Numbered 0 (heads done ++ headers_of ts)
 follows-numbered done [] g m = subst (Numbered 0) (sym (append-nil (heads done))) m
@@ -166,17 +159,17 @@ rules-suffice logs v =
       grows = grows;
       covers = λ k2. record {
         root = exists-heads (RootOf (hash_of k2)) (ends ts) (subst (Exists (RootOf (hash_of k2))) (sym same) (roots-cover (hash_of k2) [] (RootAt 0) hs (hash-below k2) (λ z. absurd (none-below (hash_of k2) z)) fit));
-        child = each-weaker (FromTablet ts) (λ e. e.end.split ≡ true → owns (hash_of k2) e.header ≡ true → Exists (λ d. (d.header.parent ≡ Some e.header.id) × (owns (hash_of k2) d.header ≡ true)) (ends ts))
+        child = Each-weaker (FromTablet ts) (λ e. e.end.split ≡ true → owns (hash_of k2) e.header ≡ true → Exists (λ d. (d.header.parent ≡ Some e.header.id) × (owns (hash_of k2) d.header ≡ true)) (ends ts))
             (λ e f s o.
             let found = kids-of ts (hash_of k2) e fit m k f s (ap (owns (hash_of k2)) (sym (head-of ts e f)) ∙ o) in
             exists-heads (λ d. (d.parent ≡ Some e.header.id) × (owns (hash_of k2) d ≡ true)) (ends ts) (subst (Exists (λ (d : Header). (d.parent ≡ Some e.header.id) × (owns (hash_of k2) d ≡ true))) (sym same)
             (subst (λ (w : Header). Exists (λ (d : Header). (d.parent ≡ Some w.id) × (owns (hash_of k2) d ≡ true)) hs) (sym (head-of ts e f)) found)))
             (ends ts) from;
       };
-      away = λ k2. each-weaker (FromTablet ts) (λ e. owns (hash_of k2) e.header ≡ false → Each (λ r. KindAway k2 r.kind) e.records)
-          (λ e f o. each-weaker (Fitting hs f.tablet) (λ r. KindAway k2 r.kind) (λ r w. kind-away k2 f.tablet.header (children hs f.tablet.header.id) r.kind (ap (owns (hash_of k2)) (sym (head-of ts e f)) ∙ o) (and_parts _ _ w).1) e.records (accepted-fit ts hs e k f)) (ends ts) from;
-      numbered = each-weaker (FromTablet ts) (λ e. Each (λ r. KindNumbered r.kind) e.records)
-          (λ e f. each-weaker (Fitting hs f.tablet) (λ r. KindNumbered r.kind) (λ r w. kind-numbered f.tablet.header (children hs f.tablet.header.id) r.kind (and_parts _ _ w).1) e.records (accepted-fit ts hs e k f)) (ends ts) from;
+      away = λ k2. Each-weaker (FromTablet ts) (λ e. owns (hash_of k2) e.header ≡ false → Each (λ r. KindAway k2 r.kind) e.records)
+          (λ e f o. Each-weaker (Fitting hs f.tablet) (λ r. KindAway k2 r.kind) (λ r w. kind-away k2 f.tablet.header (children hs f.tablet.header.id) r.kind (ap (owns (hash_of k2)) (sym (head-of ts e f)) ∙ o) (and_parts _ _ w).1) e.records (accepted-fit ts hs e k f)) (ends ts) from;
+      numbered = Each-weaker (FromTablet ts) (λ e. Each (λ r. KindNumbered r.kind) e.records)
+          (λ e f. Each-weaker (Fitting hs f.tablet) (λ r. KindNumbered r.kind) (λ r w. kind-numbered f.tablet.header (children hs f.tablet.header.id) r.kind (and_parts _ _ w).1) e.records (accepted-fit ts hs e k f)) (ends ts) from;
     }
 
 -- ---- the accepted tablets
@@ -234,7 +227,7 @@ all-under done [] g s m = refl
 all-under done (t ∷ ts) g s m =
     let x = end_under (parent_order done t.header.parent) t in
     ap (λ w. accepted_tablets_after (done ++ w ∷ []) ts) (one-under done t s m)
-    ∙ all-under (done ++ x ∷ []) ts g.1 (each-append Sound done (x ∷ []) s (sound-under (parent_order done t.header.parent) t, tt)) (numbered-one done x m (g.0.numbered))
+    ∙ all-under (done ++ x ∷ []) ts g.1 (Each-append Sound done (x ∷ []) s (sound-under (parent_order done t.header.parent) t, tt)) (numbered-one done x m (g.0.numbered))
 
 -- the accepted tablets are the ends that the proofs go by
 pub accepted-ends : (logs : Logs) → is_valid logs ≡ true → accepted_tablets logs ≡ ends logs.tablets
@@ -255,8 +248,8 @@ kinds-fit logs v =
     let hs = headers_of ts in
     let k : Each (TabletFits hs) ts = all-each (tablet_fits hs) ts (and_parts _ _ (and_parts _ _ v).1).0 in
     subst (Each (λ (e : AcceptedTablet). Each (λ r. kind_fits e.header (children hs e.header.id) r.kind ≡ true) e.records)) (sym (accepted-ends logs v))
-    (each-weaker (FromTablet ts) (λ e. Each (λ r. kind_fits e.header (children hs e.header.id) r.kind ≡ true) e.records)
-    (λ e f. each-weaker (Fitting hs f.tablet) (λ r. kind_fits e.header (children hs e.header.id) r.kind ≡ true)
+    (Each-weaker (FromTablet ts) (λ e. Each (λ r. kind_fits e.header (children hs e.header.id) r.kind ≡ true) e.records)
+    (λ e f. Each-weaker (Fitting hs f.tablet) (λ r. kind_fits e.header (children hs e.header.id) r.kind ≡ true)
     (λ r w. subst (λ (h : Header). kind_fits h (children hs h.id) r.kind ≡ true) (sym (head-of ts e f)) (and_parts _ _ w).1) e.records (accepted-fit ts hs e k f)) (ends ts) (ends-tablets ts))
 
 -- the headers as the rules have them

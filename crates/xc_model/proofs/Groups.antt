@@ -4,7 +4,8 @@ use Rattle.std.specs.List.{filter, flat_map}
 use Rattle.std.proofs.lemmas.Bool.Decides.{nat_tests}
 use Rattle.std.proofs.lemmas.Bool.{cases_Bool, cases_eq, eqb-true, eq-eqb, ne_eqb}
 use Rattle.xc_model.proofs.StableSort.{put_before, stable_sort, Orders, Each, InOrder}
-use Rattle.xc_model.proofs.Sorts.{each-append, each-weaker, put_before-first, in_order-sort, put-swap}
+use Rattle.xc_model.proofs.Sorts.{put_before-first, in_order-sort, put-swap}
+use Rattle.xc_record.proofs.ListLaws.{Each-append, Each-weaker}
 
 -- puts a block in, its last element first
 abbrev pub put_all : {A : Type 0} → (A → A → Bool) → List A → List A → List A
@@ -34,11 +35,11 @@ module _ {A B K : Type 0} (le : K → K → Bool) (o : Orders le) (a_key : A →
   -- a block stands before what it may stand before
   block-first : (k : K) (bs rest : List B) → le k k ≡ true → Each (λ b. b_key b ≡ k) bs → Each (λ c. le k (b_key c) ≡ true) rest → put_all le_b bs rest ≡ bs ++ rest
   block-first k [] rest r h g = refl
-  block-first k (b ∷ bs) rest r h g = ap (put_before le_b b) (block-first k bs rest r h.1 g) ∙ put_before-first le_b b (bs ++ rest) (each-append (λ c. le_b b c ≡ true) bs rest (each-weaker (λ c. b_key c ≡ k) (λ c. le_b b c ≡ true) (λ c e. ap (λ w. le w (b_key c)) h.0 ∙ ap (le k) e ∙ r) bs h.1) (each-weaker (λ c. le k (b_key c) ≡ true) (λ c. le_b b c ≡ true) (λ c e. ap (λ w. le w (b_key c)) h.0 ∙ e) rest g))
+  block-first k (b ∷ bs) rest r h g = ap (put_before le_b b) (block-first k bs rest r h.1 g) ∙ put_before-first le_b b (bs ++ rest) (Each-append (λ c. le_b b c ≡ true) bs rest (Each-weaker (λ c. b_key c ≡ k) (λ c. le_b b c ≡ true) (λ c e. ap (λ w. le w (b_key c)) h.0 ∙ ap (le k) e ∙ r) bs h.1) (Each-weaker (λ c. le k (b_key c) ≡ true) (λ c. le_b b c ≡ true) (λ c e. ap (λ w. le w (b_key c)) h.0 ∙ e) rest g))
 
   each-flat_map : (Q : A → Type 0) (P : B → Type 0) → ((a : A) (b : B) → Q a → b_key b ≡ a_key a → P b) → (xs : List A) → Each Q xs → Each P (flat_map f xs)
   each-flat_map Q P g [] h = tt
-  each-flat_map Q P g (a ∷ rest) h = each-append P (f a) (flat_map f rest) (each-weaker (λ b. b_key b ≡ a_key a) P (λ b e. g a b h.0 e) (f a) (same a)) (each-flat_map Q P g rest h.1)
+  each-flat_map Q P g (a ∷ rest) h = Each-append P (f a) (flat_map f rest) (Each-weaker (λ b. b_key b ≡ a_key a) P (λ b e. g a b h.0 e) (f a) (same a)) (each-flat_map Q P g rest h.1)
 
   reflexive : (k : K) → le k k ≡ true
   reflexive k = ⊎_elim (λ t. t) (λ u. o.total k k u) (cases_Bool (le k k))
@@ -49,8 +50,8 @@ module _ {A B K : Type 0} (le : K → K → Bool) (o : Orders le) (a_key : A →
       let k = a_key x in
       let at : (b : Bool) → le_a x y ≡ b → flat_map f (cond b (x ∷ y ∷ ys) (y ∷ put_before le_a x ys)) ≡ put_all le_b (f x) (f y ++ flat_map f ys) =
       λ b. elim b as (λ b. le_a x y ≡ b → flat_map f (cond b (x ∷ y ∷ ys) (y ∷ put_before le_a x ys)) ≡ put_all le_b (f x) (f y ++ flat_map f ys)) [
-        | true ↦ λ e. sym (block-first k (f x) (flat_map f (y ∷ ys)) (reflexive k) (same x) (each-flat_map (λ a. le_a x a ≡ true) (λ c. le k (b_key c) ≡ true) (λ a c h q. ap (le k) q ∙ h) (y ∷ ys) (e, each-weaker (λ z. le_a y z ≡ true) (λ z. le_a x z ≡ true) (λ z. o.trans k (a_key y) (a_key z) e) ys s.0)))
-        | false ↦ λ e. ap (λ w. f y ++ w) (flat-put x ys s.1) ∙ sym (past-block k (f x) (f y) (flat_map f ys) (same x) (each-weaker (λ c. b_key c ≡ a_key y) (λ c. le k (b_key c) ≡ false) (λ c q. ap (le k) q ∙ e) (f y) (same y)))
+        | true ↦ λ e. sym (block-first k (f x) (flat_map f (y ∷ ys)) (reflexive k) (same x) (each-flat_map (λ a. le_a x a ≡ true) (λ c. le k (b_key c) ≡ true) (λ a c h q. ap (le k) q ∙ h) (y ∷ ys) (e, Each-weaker (λ z. le_a y z ≡ true) (λ z. le_a x z ≡ true) (λ z. o.trans k (a_key y) (a_key z) e) ys s.0)))
+        | false ↦ λ e. ap (λ w. f y ++ w) (flat-put x ys s.1) ∙ sym (past-block k (f x) (f y) (flat_map f ys) (same x) (Each-weaker (λ c. b_key c ≡ a_key y) (λ c. le k (b_key c) ≡ false) (λ c q. ap (le k) q ∙ e) (f y) (same y)))
       ]
       in at (le_a x y) refl
 
@@ -96,7 +97,7 @@ module _ {A : Type 0} (le : A → A → Bool) (o : Orders le) (number : A → �
       ⊎_elim
       (λ e. let here : (n == number x) ≡ true = eq-eqb n (number x) e in
       ap (λ b. stable_sort le (cond b (x ∷ filter (λ y. n == number y) xs) (filter (λ y. n == number y) xs) ++ grouped number ns (x ∷ xs))) here
-      ∙ ap (λ w. put_before le x (stable_sort le (filter (λ y. n == number y) xs ++ w))) (not-in x ns xs (each-weaker (λ m. m ≢ n) (λ m. m ≢ number x) (λ m k q. k (q ∙ sym e)) ns d.0)))
+      ∙ ap (λ w. put_before le x (stable_sort le (filter (λ y. n == number y) xs ++ w))) (not-in x ns xs (Each-weaker (λ m. m ≢ n) (λ m. m ≢ number x) (λ m k q. k (q ∙ sym e)) ns d.0)))
       (λ e. let other : IsIn (number x) ns = ⊎_elim (λ q. absurd (e q)) (λ r. r) i in
       let out : (n == number x) ≡ false = ne_eqb n (number x) e in
       ap (λ b. stable_sort le (cond b (x ∷ filter (λ y. n == number y) xs) (filter (λ y. n == number y) xs) ++ grouped number ns (x ∷ xs))) out

@@ -7,7 +7,7 @@ use Rattle.std.proofs.lemmas.Bool.{cases_lt}
 use Rattle.xc_model.specs.Kept.{put_after, upto, above, not_after, last_of, kept_from, newest, add_all}
 use Rattle.xc_model.proofs.StableSort.{Each, InOrder}
 use Rattle.xc_record.specs.Path.{Version, Waiting}
-use Rattle.xc_model.proofs.Sorts.{each-weaker}
+use Rattle.xc_record.proofs.ListLaws.{Each-weaker}
 
 -- a version after the cutoff goes past what is kept
 upto-put_after : (u : ℕ) (x : Version) (vs : List Version) → u < x.commit → filter (upto u) (put_after not_after x vs) ≡ filter (upto u) vs
@@ -68,7 +68,7 @@ above-too : (u : ℕ) (x y : Version) → u < x.commit → not_after x y ≡ tru
 above-too u x y h k = grind (arith, nat_tests)
 
 later-above : (u : ℕ) (x : Version) (ys : List Version) → u < x.commit → Each (λ y. not_after x y ≡ true) ys → Each (λ y. u < y.commit) ys
-later-above u x ys h e = each-weaker (λ y. not_after x y ≡ true) (λ y. u < y.commit) (λ y k. above-too u x y h k) ys e
+later-above u x ys h e = Each-weaker (λ y. not_after x y ≡ true) (λ y. u < y.commit) (λ y k. above-too u x y h k) ys e
 
 pub parts-in_order : (u : ℕ) (vs : List Version) → InOrder not_after vs → filter (upto u) vs ++ filter (above u) vs ≡ vs
 parts-in_order u [] s = refl
@@ -103,7 +103,7 @@ pub kept_from-more : (u w : ℕ) (vs : List Version) → u ≤ w → InOrder not
 kept_from-more u w vs h s =
     let a = filter (upto u) vs in
     let f = filter (above u) vs in
-    let early : Each (λ y. y.commit ≤ w) (last_of a) = each-weaker (λ y. y.commit ≤ u) (λ y. y.commit ≤ w) (λ y k. omega arith) (last_of a) (each-last_of (λ y. y.commit ≤ u) a (each-upto u vs)) in
+    let early : Each (λ y. y.commit ≤ w) (last_of a) = Each-weaker (λ y. y.commit ≤ u) (λ y. y.commit ≤ w) (λ y k. omega arith) (last_of a) (each-last_of (λ y. y.commit ≤ u) a (each-upto u vs)) in
     ap (λ r. r ++ filter (above w) (kept_from u vs)) (newest-kept_from u w vs h s)
     ∙ ap (λ r. newest w vs ++ r) (filter-append (above w) (last_of a) f ∙ ap (λ r. r ++ filter (above w) f) (none-above w (last_of a) early) ∙ both-above u w vs h)
 
@@ -124,7 +124,7 @@ pub kept_from-less : (u w : ℕ) (vs : List Version) → w ≤ u → kept_from w
 kept_from-less u w vs h =
     let g = last_of (filter (upto u) vs) in
     let f = filter (above u) vs in
-    let late : Each (λ y. w < y.commit) f = each-weaker (λ y. u < y.commit) (λ y. w < y.commit) (λ y k. omega arith) f (each-above u vs) in
+    let late : Each (λ y. w < y.commit) f = Each-weaker (λ y. u < y.commit) (λ y. w < y.commit) (λ y k. omega arith) f (each-above u vs) in
     ap (λ r. last_of r ++ filter (above w) (g ++ f)) (filter-append (upto w) g f ∙ ap (λ r. filter (upto w) g ++ r) (none-upto w f late) ∙ append-nil (filter (upto w) g))
     ∙ ap (λ r. last_of (filter (upto w) g) ++ r) (filter-append (above w) g f ∙ ap (λ r. filter (above w) g ++ r) (all-above w f late))
     ∙ sym (append_assoc (last_of (filter (upto w) g)) (filter (above w) g) f)

@@ -8,7 +8,6 @@ use Rattle.xc_record.specs.SafeTime.{floor_after}
 use Rattle.xc_record.specs.declared.record.Tablet.{Tablet}
 use Rattle.xc_model.proofs.Placed.{ends, ends_from, end_under, parent_order, owns_it}
 use Rattle.xc_model.proofs.Paths.{shown}
-use Rattle.xc_model.proofs.Sorts.{each-append, each-filter}
 use Rattle.xc_model.proofs.Cover.{nothing-applied}
 use Rattle.xc_model.proofs.Tree.{each-both, empty-open}
 use Rattle.xc_model.proofs.FromRules.{FromTablet, ends-tablets}
@@ -26,10 +25,10 @@ use Rattle.xc_model.specs.Stands.{KeyVersion, TargetTablet, versions_at, kept_at
 use Rattle.xc_model.specs.Laws.{NewStands, CutoffsKeepStanding, RestoresKeepReads, SafeTimeRises}
 use Rattle.xc_model.proofs.StableSort.{Each}
 use Rattle.xc_model.proofs.Placed.{placed, path_upto, owners}
-use Rattle.xc_model.proofs.Sorts.{each-weaker}
 use Rattle.xc_model.proofs.Keep.{newest-restored}
 use Rattle.xc_model.proofs.KeepStanding.{pruned-shown}
 use Rattle.xc_model.proofs.Bridge.{given-shown}
+use Rattle.xc_record.proofs.ListLaws.{Each-append, Each-filter, Each-weaker}
 
 -- ---- cutoffs
 
@@ -41,7 +40,7 @@ cutoffs-keep logs x y u w s b p =
       places = s.places;
       covered = (let q : u ≤ safe_time logs x.places = s.covered in let r : w ≤ safe_time logs x.places = b in omega arith);
       counts = s.counts;
-      tablets = each-weaker (KeepsTablet logs x) (KeepsTablet logs (record x { versions = y.versions })) (λ t k. record { closed = k.closed; safe = k.safe }) (accepted_tablets logs) s.tablets;
+      tablets = Each-weaker (KeepsTablet logs x) (KeepsTablet logs (record x { versions = y.versions })) (λ t k. record { closed = k.closed; safe = k.safe }) (accepted_tablets logs) s.tablets;
       keys = λ k q. kept-versions (versions_at k y.versions) (kept_at x k) w (p.keys k q) ∙ ap (pruned w) (s.keys k q ∙ given-shown logs u x.places k) ∙ pruned-shown u w (events k (path_upto (owners (hash_of k) (placed (accepted_tablets logs) x.places)))) ∙ sym (given-shown logs (max u w) x.places k);
       within = record { versions = p.within; held = s.within.held };
     })
@@ -81,7 +80,7 @@ roots-low : (done : List AcceptedTablet) (ts : List Tablet) → Each RootsLow do
 roots-low done [] h = h
 roots-low done (t ∷ ts) h =
     let e = end_under (parent_order done t.header.parent) t in
-    roots-low (done ++ e ∷ []) ts (each-append RootsLow done (e ∷ []) h ((λ q. ap (λ w. (parent_order done w).floor) q), tt))
+    roots-low (done ++ e ∷ []) ts (Each-append RootsLow done (e ∷ []) h ((λ q. ap (λ w. (parent_order done w).floor) q), tt))
 
 module _ (logs : Logs) (valid : is_valid logs ≡ true) where
   zeros : List ℕ
@@ -93,7 +92,7 @@ module _ (logs : Logs) (valid : is_valid logs ≡ true) where
 
   all-open : Each (λ b. is_closed_in zeros b ≡ false) (accepted_tablets logs)
   all-open = subst (Each (λ b. is_closed_in zeros b ≡ false)) (sym (accepted-ends logs valid))
-      (each-weaker (FromTablet logs.tablets) (λ b. is_closed_in zeros b ≡ false) (λ b f. empty-open (at_place zeros b) f.under f.tablet f.is (zero-at b.header.id)) (ends logs.tablets) (ends-tablets logs.tablets))
+      (Each-weaker (FromTablet logs.tablets) (λ b. is_closed_in zeros b ≡ false) (λ b f. empty-open (at_place zeros b) f.under f.tablet f.is (zero-at b.header.id)) (ends logs.tablets) (ends-tablets logs.tablets))
 
   none-closed : (p : ℕ) → is_closed logs zeros p ≡ false
   unfolding is_closed
@@ -107,8 +106,8 @@ module _ (logs : Logs) (valid : is_valid logs ≡ true) where
   unfolding zeros
   new-places = record {
     count = length-replicate (length (headers_of logs.tablets)) 0 ∙ length-map logs.tablets (λ (t : Tablet). t.header);
-    within = each-weaker (λ b. is_closed_in zeros b ≡ false) (λ b. place zeros b ≤ length b.records) (λ b _. let q : place zeros b ≡ 0 = zero-at b.header.id in omega arith) (accepted_tablets logs) all-open;
-    starts = each-weaker (λ b. is_closed_in zeros b ≡ false) (λ b. StartsAfter logs zeros b b.header.parent) (λ b _. starts b b.header.parent) (accepted_tablets logs) all-open;
+    within = Each-weaker (λ b. is_closed_in zeros b ≡ false) (λ b. place zeros b ≤ length b.records) (λ b _. let q : place zeros b ≡ 0 = zero-at b.header.id in omega arith) (accepted_tablets logs) all-open;
+    starts = Each-weaker (λ b. is_closed_in zeros b ≡ false) (λ b. StartsAfter logs zeros b b.header.parent) (λ b _. starts b b.header.parent) (accepted_tablets logs) all-open;
   }
     where
       starts : (b : AcceptedTablet) (q : Option ℕ) → StartsAfter logs zeros b q
@@ -133,12 +132,12 @@ module _ (logs : Logs) (valid : is_valid logs ≡ true) where
     places = new-places;
     covered = omega arith;
     counts = (length-replicate (length (headers_of logs.tablets)) false, length-replicate (length (headers_of logs.tablets)) 0);
-    tablets = each-weaker (λ b. (is_closed_in zeros b ≡ false) × RootsLow b) (KeepsTablet logs (new_tablet lo hi (headers_of logs.tablets)))
+    tablets = Each-weaker (λ b. (is_closed_in zeros b ≡ false) × RootsLow b) (KeepsTablet logs (new_tablet lo hi (headers_of logs.tablets)))
         (λ b h. record {
           closed = index-same (length (headers_of logs.tablets)) b.header.id false ∙ sym h.0;
           safe = λ e. zero-at b.header.id ∙ sym (first-safe b ∙ h.1 (started-root b.header.parent e));
         }) (accepted_tablets logs) (each-both (λ b. is_closed_in zeros b ≡ false) RootsLow (accepted_tablets logs) all-open low-roots);
-    keys = λ k q. sym (given-shown logs 0 zeros k ∙ ap (λ rs. shown 0 (events k rs)) (nothing-applied (owners (hash_of k) (placed (accepted_tablets logs) zeros)) (each-filter (λ x. x.place ≡ 0) (owns_it (hash_of k)) (placed (accepted_tablets logs) zeros) (each-placed (λ x. x.place ≡ 0) (accepted_tablets logs) zeros (each-weaker (λ b. is_closed_in zeros b ≡ false) (λ b. slice_index zeros b.header.id ≡ 0) (λ b _. zero-at b.header.id) (accepted_tablets logs) all-open)))));
+    keys = λ k q. sym (given-shown logs 0 zeros k ∙ ap (λ rs. shown 0 (events k rs)) (nothing-applied (owners (hash_of k) (placed (accepted_tablets logs) zeros)) (Each-filter (λ x. x.place ≡ 0) (owns_it (hash_of k)) (placed (accepted_tablets logs) zeros) (each-placed (λ x. x.place ≡ 0) (accepted_tablets logs) zeros (Each-weaker (λ b. is_closed_in zeros b ≡ false) (λ b. slice_index zeros b.header.id ≡ 0) (λ b _. zero-at b.header.id) (accepted_tablets logs) all-open)))));
     within = record { versions = tt; held = tt };
   }
 

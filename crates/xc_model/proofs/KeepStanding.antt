@@ -7,10 +7,11 @@ use Rattle.xc_model.proofs.Paths.{ordered, shown}
 use Rattle.xc_model.specs.Kept.{newest, restored, not_after, kept_from, Kept, pruned}
 use Rattle.xc_model.proofs.Placed.{owners, owns_it, path_upto, is_closed, safe, Placed, Stands}
 use Rattle.xc_record.specs.Hash.{hash_of}
-use Rattle.xc_model.proofs.Sorts.{in_order-sort, each-weaker, each-filter}
+use Rattle.xc_model.proofs.Sorts.{in_order-sort}
 use Rattle.xc_model.proofs.ApplyPath.{not_after-orders}
 use Rattle.xc_model.proofs.Keep.{kept_from-more, kept_from-less, newest-restored}
 use Rattle.xc_model.proofs.Cover.{nothing-applied}
+use Rattle.xc_record.proofs.ListLaws.{Each-filter, Each-weaker}
 
 pub pruned-shown : (u w : ℕ) (es : List Event) → pruned w (shown u es) ≡ shown (max u w) es
 pruned-shown u w es =
@@ -35,9 +36,9 @@ restore-reads t v x h = newest-restored v t x.versions h
 pub new-stands : (within : ℕ → Bool) (xs : List Placed) → Each (λ x. x.place ≡ 0) xs → Stands within 0 xs (λ k. record { versions = []; held = [] })
 new-stands within xs z = record {
   legal = record {
-    within = each-weaker (λ x. x.place ≡ 0) (λ x. x.place ≤ length x.tablet.records) (λ x e. omega arith) xs z;
-    children = each-weaker (λ x. x.place ≡ 0) (λ x. is_closed x ≡ false → Each (λ y. y.tablet.header.parent ≡ Some x.tablet.header.id → y.place ≡ 0) xs) (λ x _ _. each-weaker (λ y. y.place ≡ 0) (λ y. y.tablet.header.parent ≡ Some x.tablet.header.id → y.place ≡ 0) (λ y e _. e) xs z) xs z;
+    within = Each-weaker (λ x. x.place ≡ 0) (λ x. x.place ≤ length x.tablet.records) (λ x e. omega arith) xs z;
+    children = Each-weaker (λ x. x.place ≡ 0) (λ x. is_closed x ≡ false → Each (λ y. y.tablet.header.parent ≡ Some x.tablet.header.id → y.place ≡ 0) xs) (λ x _ _. Each-weaker (λ y. y.place ≡ 0) (λ y. y.tablet.header.parent ≡ Some x.tablet.header.id → y.place ≡ 0) (λ y e _. e) xs z) xs z;
   };
   cutoff = omega arith;
-  shows = λ k _. ap (λ rs. shown 0 (events k rs)) (sym (nothing-applied (owners (hash_of k) xs) (each-filter (λ x. x.place ≡ 0) (owns_it (hash_of k)) xs z)));
+  shows = λ k _. ap (λ rs. shown 0 (events k rs)) (sym (nothing-applied (owners (hash_of k) xs) (Each-filter (λ x. x.place ≡ 0) (owns_it (hash_of k)) xs z)));
 }

@@ -9,11 +9,12 @@ use Rattle.xc_record.specs.Accepted.{AcceptedTablet}
 use Rattle.xc_model.proofs.Placed.{safe, ends_from, end_under, parent_order, order_at, accepted_under, begun, Placed, is_closed, last_safe, TabletsOf, KeptBound}
 use Rattle.xc_record.specs.SafeTime.{floor_after}
 use Rattle.xc_model.proofs.ValidLogs.{IsBelow, ParentThere, GrowsBy, ValidLogs}
-use Rattle.xc_model.proofs.Sorts.{exists-left, each-append, each-weaker}
+use Rattle.xc_model.proofs.Sorts.{exists-left}
 use Rattle.xc_model.proofs.Chain.{order_after-parts}
 use Rattle.xc_model.proofs.Tree.{each-ends, exists-weaker, each-both, the_ends}
 use Rattle.xc_record.proofs.SafeLaws.{floor-take}
 use Rattle.xc_model.proofs.SafeTime.{Begins, begins-placed, begins-accepted, above-safe}
+use Rattle.xc_record.proofs.ListLaws.{Each-append, Each-weaker}
 
 -- where a tablet's start comes from
 abbrev pub StartsFrom : List AcceptedTablet → AcceptedTablet → Type 0
@@ -37,7 +38,7 @@ pub starts-from : (done : List AcceptedTablet) (ts : List Tablet) → GrowsBy do
 starts-from done [] g s = s
 starts-from done (t ∷ ts) g s =
     let e = end_under (parent_order done t.header.parent) t in
-    starts-from (done ++ e ∷ []) ts g.1 (each-append (StartsFrom (done ++ e ∷ [])) done (e ∷ []) (each-weaker (StartsFrom done) (StartsFrom (done ++ e ∷ [])) (λ w. starts-more done (e ∷ []) w) done s)
+    starts-from (done ++ e ∷ []) ts g.1 (Each-append (StartsFrom (done ++ e ∷ [])) done (e ∷ []) (Each-weaker (StartsFrom done) (StartsFrom (done ++ e ∷ [])) (λ w. starts-more done (e ∷ []) w) done s)
     (starts-more done (e ∷ []) e (starts-one done t t.header.parent refl g.0.below g.0.there), tt))
 
 abbrev pub Up : List Placed → Placed → Type 0
@@ -49,7 +50,7 @@ exists-ends P (x ∷ xs) i = ⊎_elim (λ a. inl a) (λ r. inr (exists-ends P xs
 
 pub ups : (ts : List Tablet) (xs : List Placed) → ValidLogs ts → TabletsOf ts xs → Each (Up xs) xs
 ups ts xs v is =
-    each-weaker (λ x. StartsFrom (the_ends xs) x.tablet) (Up xs)
+    Each-weaker (λ x. StartsFrom (the_ends xs) x.tablet) (Up xs)
     (λ x s. ⊎_elim (λ a. inl a) (λ r. inr (exists-ends (λ d. (Some d.header.id ≡ x.tablet.header.parent) × ((d.header.id < x.tablet.header.id) × (d.end.floor ≡ x.tablet.start.floor))) xs r)) s) xs
     (each-ends (StartsFrom (the_ends xs)) xs (subst (λ w. Each (StartsFrom w) w) (sym is) (starts-from [] ts v.grows tt)))
 
@@ -80,11 +81,11 @@ abbrev pub Fine : List Placed → Placed → Type 0
 Fine xs x = Begins x.tablet × (x.place ≤ length x.tablet.records)
 
 pub below-bound : (t n : ℕ) (xs : List Placed) → Each (Fine xs) xs → Each (Up xs) xs → KeptBound t xs → Each (λ x. x.tablet.header.id < n → is_closed x ≡ false → t ≤ last_safe x) xs
-below-bound t zero xs f u k = each-weaker (Fine xs) (λ x. x.tablet.header.id < 0 → is_closed x ≡ false → t ≤ last_safe x) (λ x _ z. absurd (omega arith)) xs f
+below-bound t zero xs f u k = Each-weaker (Fine xs) (λ x. x.tablet.header.id < 0 → is_closed x ≡ false → t ≤ last_safe x) (λ x _ z. absurd (omega arith)) xs f
 below-bound t (suc n) xs f u k =
     let low = below-bound t n xs f u k in
     let K : Placed → Type 0 = λ x. is_closed x ≡ false → (x.tablet.header.parent ≡ None) ⊎ Exists (λ y. (Some y.tablet.header.id ≡ x.tablet.header.parent) × (is_closed y ≡ true)) xs → t ≤ last_safe x in
-    each-weaker (λ x. (Fine xs x × Up xs x) × K x) (λ x. x.tablet.header.id < suc n → is_closed x ≡ false → t ≤ last_safe x)
+    Each-weaker (λ x. (Fine xs x × Up xs x) × K x) (λ x. x.tablet.header.id < suc n → is_closed x ≡ false → t ≤ last_safe x)
     (λ x h less open_.
     ⊎_elim (λ root. h.1 open_ (inl root))
     (λ up. ⊎_elim (λ c. h.1 open_ (inr c)) (λ r. r)
@@ -108,11 +109,11 @@ max-id (x ∷ xs) = x.tablet.header.id + max-id xs
 under-max : (xs : List Placed) → Each (λ x. x.tablet.header.id < max-id xs + 1) xs
 unfolding max-id
 under-max [] = tt
-under-max (x ∷ xs) = (omega arith, each-weaker (λ y. y.tablet.header.id < max-id xs + 1) (λ y. y.tablet.header.id < max-id (x ∷ xs) + 1) (λ y h. omega arith) xs (under-max xs))
+under-max (x ∷ xs) = (omega arith, Each-weaker (λ y. y.tablet.header.id < max-id xs + 1) (λ y. y.tablet.header.id < max-id (x ∷ xs) + 1) (λ y h. omega arith) xs (under-max xs))
 
 pub kept-suffice : (ts : List Tablet) (xs : List Placed) (t : ℕ) → ValidLogs ts → TabletsOf ts xs → Each (λ x. x.place ≤ length x.tablet.records) xs → t ≤ 2 ^ 62 → KeptBound t xs → t ≤ safe xs
 kept-suffice ts xs t v is w b k =
     let fine : Each (Fine xs) xs = each-both (λ x. Begins x.tablet) (λ x. x.place ≤ length x.tablet.records) xs (begins-placed ts xs is) w in
-    above-safe t xs b (each-weaker (λ x. (x.tablet.header.id < max-id xs + 1) × (x.tablet.header.id < max-id xs + 1 → is_closed x ≡ false → t ≤ last_safe x)) (λ x. (is_closed x ≡ true) ⊎ (t ≤ last_safe x))
+    above-safe t xs b (Each-weaker (λ x. (x.tablet.header.id < max-id xs + 1) × (x.tablet.header.id < max-id xs + 1 → is_closed x ≡ false → t ≤ last_safe x)) (λ x. (is_closed x ≡ true) ⊎ (t ≤ last_safe x))
     (λ x h. ⊎_elim (λ c. inl c) (λ o. inr (h.1 h.0 o)) (cases_Bool (is_closed x))) xs
     (each-both (λ x. x.tablet.header.id < max-id xs + 1) (λ x. x.tablet.header.id < max-id xs + 1 → is_closed x ≡ false → t ≤ last_safe x) xs (under-max xs) (below-bound t (max-id xs + 1) xs fine (ups ts xs v is) k)))

@@ -11,12 +11,13 @@ use Rattle.xc_record.specs.declared.record.Kind.{Kind}
 use Rattle.xc_record.specs.declared.record.Record.{Record}
 use Rattle.xc_model.proofs.Placed.{origin, floor_by, Placed, is_closed, last_safe, path, path_upto, LegalChain, Stops, KindAgrees, Agrees, NoStragglers}
 use Rattle.xc_record.specs.SafeTime.{floor_after}
-use Rattle.xc_model.proofs.Sorts.{each-append, filter-sort, in_order-sort}
+use Rattle.xc_model.proofs.Sorts.{filter-sort, in_order-sort}
 use Rattle.xc_model.proofs.ApplyPath.{not_after-orders}
 use Rattle.xc_model.proofs.Keep.{newest-kept_from}
 use Rattle.xc_model.proofs.ReadPath.{read-path}
 use Rattle.xc_model.proofs.Chain.{Goes, last_after, Threads, path-goes}
 use Rattle.xc_model.proofs.Cover.{floor-time, path-front, covered, Cut, cut-from, record-late}
+use Rattle.xc_record.proofs.ListLaws.{Each-append}
 
 pub each-front : {A : Type 0} (P : A → Type 0) (xs ys : List A) → Each P (xs ++ ys) → Each P xs
 each-front P [] ys h = tt
@@ -46,7 +47,7 @@ pub later-late : (commit : ℕ → Option ℕ) (t : ℕ) (k : List ℕ) (f l : �
 later-late commit t k f l [] h g a = tt
 later-late commit t k f l (x ∷ xs) h g a =
     let first : t < x.time = let p = g.0 in omega arith in
-    each-append (ComesAfter commit t) (record_events k x) (events k xs) (record-late commit t k x.time x.kind first a.0) (later-late commit t k (floor_by f x.kind) x.time xs (omega arith) g.2 a.1)
+    Each-append (ComesAfter commit t) (record_events k x) (events k xs) (record-late commit t k x.time x.kind first a.0) (later-late commit t k (floor_by f x.kind) x.time xs (omega arith) g.2 a.1)
 
 puts-agree : (commit : ℕ → Option ℕ) (time : ℕ) (vs : List Written) → Each (AgreesAt commit) (map (λ v. Put time v) vs)
 puts-agree commit time [] = tt
@@ -66,7 +67,7 @@ kind-agrees commit k time (log.Split at left right) h = tt
 
 pub events-agree : (commit : ℕ → Option ℕ) (k : List ℕ) (xs : List Record) → Each (Agrees commit) xs → Each (AgreesAt commit) (events k xs)
 events-agree commit k [] h = tt
-events-agree commit k (x ∷ xs) h = each-append (AgreesAt commit) (record_events k x) (events k xs) (kind-agrees commit k x.time x.kind h.0) (events-agree commit k xs h.1)
+events-agree commit k (x ∷ xs) h = Each-append (AgreesAt commit) (record_events k x) (events k xs) (kind-agrees commit k x.time x.kind h.0) (events-agree commit k xs h.1)
 
 pub key-versions : (commit : ℕ → Option ℕ) (k : List ℕ) (t : ℕ) (xs : List Placed) → Threads origin xs → Stops origin xs → LegalChain xs → NoStragglers commit k [] (path xs) → Each (Agrees commit) (path xs) → Each (λ x. (is_closed x ≡ true) ⊎ (t ≤ last_safe x)) xs → filter (upto t) (versions_along (events k (path_upto xs))) ≡ filter (upto t) (committed commit (events k (path xs)))
 key-versions commit k t xs h e l s a c =
@@ -83,7 +84,7 @@ key-versions commit k t xs h e l s a c =
     let within : t ≤ last_after 0 up = let f : floor_after 0 up ≤ last_after 0 up = floor-le-last 0 0 up (omega arith) goes-up in omega arith in
     let after = later-late commit t k (floor_after 0 up) (last_after 0 up) later within (goes-back 0 0 up later goes) (each-back (Agrees commit) up later agree) in
     let agreed : Each (AgreesAt commit) (cut.before ++ cut.rest) = subst (Each (AgreesAt commit)) cut.is (events-agree commit k up (each-front (Agrees commit) up later agree)) in
-    let here = read-path commit t cut.before cut.rest (events k later) agreed cut.late (each-append (ComesAfter commit t) cut.rest (events k later) cut.late after) cut.free in
+    let here = read-path commit t cut.before cut.rest (events k later) agreed cut.late (Each-append (ComesAfter commit t) cut.rest (events k later) cut.late after) cut.free in
     ap (λ w. filter (upto t) (versions_along w)) cut.is ∙ here
     ∙ ap (λ w. filter (upto t) (committed commit w)) (sym (append_assoc cut.before cut.rest (events k later)) ∙ ap (λ w. w ++ events k later) (sym cut.is) ∙ sym (flat_map-append (record_events k) up later) ∙ ap (events k) (sym front.1))
 

@@ -35,4 +35,5 @@ pub mod DeliverLaw
 pub mod SessionLaws
 pub mod TimeLaws
 pub mod ListLaw
+mod WorkedTablets
 mod Examples

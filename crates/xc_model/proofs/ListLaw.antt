@@ -10,6 +10,7 @@ use Rattle.std.specs.Cmp.Lexicographic.{slice_cmp, nat_list_cmp_total}
 use Rattle.std.specs.FinMap.{slice_cmp-IsAntisymmetric, nat_cmp-IsAntisymmetric}
 use Rattle.std.specs.FinMap.Entries.{find, where_key, find-where_key, is_sorted-where_key, same_entries}
 use Rattle.std.proofs.lemmas.Bool.{cases_Bool, true≢false}
+use Rattle.std.proofs.lemmas.Slice.Eq.{bytes_eq-Decides}
 use Rattle.xc_record.specs.declared.record.Op.{Op}
 use Rattle.xc_record.specs.Path.{Version, puts}
 use Rattle.xc_record.specs.Rows.{rows_after, rows, row}
@@ -21,7 +22,6 @@ use Rattle.xc_model.proofs.KeepLaws.{restores-keep}
 use Rattle.xc_model.proofs.StableSort.{Each}
 use Rattle.xc_model.proofs.RowsAt.{map-last_of}
 use Rattle.xc_model.proofs.RealRows.{row_of, after-last}
-use Rattle.xc_model.proofs.FromValid.{same-key}
 use Rattle.xc_model.proofs.ReadLaw.{reads-show-rows, values}
 
 abbrev cmp : List ℕ → List ℕ → Ordering
@@ -49,7 +49,7 @@ none-kept : (x : TargetTablet) (k : List ℕ) (vs : List KeyVersion) → Each (�
 none-kept x k [] h o = refl
 none-kept x k (v ∷ vs) h o =
     let rest : versions_at k vs ≡ [] = none-kept x k vs h.1 o in
-    ⊎_elim (λ e. absurd (true≢false (sym h.0 ∙ ap (in_range x) (sym (same-key k v.key e)) ∙ o)))
+    ⊎_elim (λ e. absurd (true≢false (sym h.0 ∙ ap (in_range x) (sym ((bytes_eq-Decides k v.key).0 e)) ∙ o)))
     (λ e. ap (λ b. map (λ (v : KeyVersion). let w : Version = record { commit = v.commit; txn = v.txn; value = v.value } in w) (cond b (v ∷ filter (λ v. bytes_eq k v.key) vs) (filter (λ v. bytes_eq k v.key) vs))) e ∙ rest) (cases_Bool (bytes_eq k v.key))
 
 none-read : (x : TargetTablet) (t : ℕ) (k : List ℕ) → Each (λ v. in_range x v.key ≡ true) x.versions → in_range x k ≡ false → read t (kept_at x k) ≡ None

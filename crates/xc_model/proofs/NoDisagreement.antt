@@ -4,7 +4,8 @@ use Rattle.std.specs.Option.{option_map_or, option_map}
 use Rattle.std.proofs.Common.{◌≡◌, ◌≢◌, ℕ, Bool, true, false, cond, List, [], ◌∷◌, ◌++◌, Option, Some, None, refl, ap, sym, ◌∙◌, subst, append_assoc, append-nil, ◌⊎◌, inl, inr, ⊎_elim}
 use Rattle.std.specs.Prelude.{filter, flat_map, ◌==◌, ◌&&◌, ◌||◌, if◌then◌else◌, map, bytes_eq}
 use Rattle.std.specs.List.{list_any}
-use Rattle.std.proofs.lemmas.Bool.{cases_Bool, cases_eq, eq-eqb, ne_eqb, true≢false}
+use Rattle.std.proofs.lemmas.Bool.{cases_Bool, cases_eq, eq-eqb, ne_eqb, true≢false, and_right}
+use Rattle.std.proofs.lemmas.Slice.Eq.{bytes_eq-Decides}
 use Rattle.xc_record.specs.declared.record.Kind.{Kind}
 use Rattle.xc_record.specs.declared.record.Kind.TheVariants as log
 use Rattle.xc_record.specs.declared.record.AgreeKind.{AgreeKind}
@@ -24,15 +25,15 @@ use Rattle.xc_model.proofs.StableSort.{Each, Exists}
 use Rattle.xc_model.proofs.Placed.{owns, origin, owners, placed, path, ends}
 use Rattle.xc_model.proofs.Rows.{path_of}
 use Rattle.xc_model.proofs.ValidLogs.{ValidLogs}
-use Rattle.xc_model.proofs.Sorts.{each-weaker, each-append}
 use Rattle.xc_model.proofs.Chain.{Goes, Threads, path-goes}
 use Rattle.xc_model.proofs.KeyRead.{each-front}
 use Rattle.xc_model.proofs.Tree.{chained, own, place-follow, owners-ends, ends-placed, path-ends}
 use Rattle.xc_model.proofs.RowsAt.{Sound, kind_lefts, txn-lefts}
 use Rattle.xc_model.proofs.RealRows.{ops-same}
 use Rattle.xc_model.proofs.FromRules.{heads}
-use Rattle.xc_model.proofs.FromValid.{rules-suffice, accepted-ends, accepted-numbered, same-key}
+use Rattle.xc_model.proofs.FromValid.{rules-suffice, accepted-ends, accepted-numbered}
 use Rattle.xc_model.proofs.FromCases.{any-none, above-before, path-of-append}
+use Rattle.xc_record.proofs.ListLaws.{Each-append, Each-weaker, none-cases}
 
 -- a key's whole path goes by the order rules
 pub path-of-goes : (ts : List Tablet) (k : List ℕ) → ValidLogs ts → Goes 0 0 (path_of (hash_of k) (ends ts))
@@ -85,15 +86,11 @@ none-waits : (n : ℕ) (k : List ℕ) (rs : List Record) → Each (Silent n k) r
 none-waits n k [] h = refl
 none-waits n k (r ∷ rs) h = kind-none n k r.time r.kind (events k rs) h.0 (none-waits n k rs h.1)
 
-never : (a b : Bool) → b ≡ false → (a && b) ≡ false
-never true b e = e
-never false b e = refl
-
 none-straggles : (n c : ℕ) (k : List ℕ) (before rs : List Record) → Each (Silent n k) before → Each (Silent n k) rs → straggles_at n c k before rs ≡ false
 none-straggles n c k before [] h g = refl
 none-straggles n c k before (r ∷ rs) h g =
-    ap (λ b. if b then true else straggles_at n c k (before ++ r ∷ []) rs) (never _ _ (none-waits n k before h))
-    ∙ none-straggles n c k (before ++ r ∷ []) rs (each-append (Silent n k) before (r ∷ []) h (g.0, tt)) g.1
+    ap (λ b. if b then true else straggles_at n c k (before ++ r ∷ []) rs) (and_right _ _ (none-waits n k before h))
+    ∙ none-straggles n c k (before ++ r ∷ []) rs (Each-append (Silent n k) before (r ∷ []) h (g.0, tt)) g.1
 
 -- ---- one key
 
@@ -109,7 +106,7 @@ each-nil f (x ∷ xs) e = let both = both-nil (f x) (flat_map f xs) e in (both.0
 key-among : (k : List ℕ) (ops : List Op) → Exists (λ op. k ≡ op.key) ops ⊎ (puts k ops ≡ [])
 key-among k [] = inr refl
 key-among k (op ∷ ops) =
-    ⊎_elim (λ t. inl (inl (same-key k op.key t)))
+    ⊎_elim (λ t. inl (inl ((bytes_eq-Decides k op.key).0 t)))
     (λ f. ⊎_elim (λ i. inl (inr i)) (λ n. inr (ap (λ b. cond b (op.value ∷ puts k ops) (puts k ops)) f ∙ n)) (key-among k ops)) (cases_Bool (bytes_eq k op.key))
 
 abbrev straggles_on : Logs → ℕ → ℕ → AcceptedTablet → List ℕ → Bool
@@ -139,7 +136,7 @@ silent-free logs n c k before (b ∷ after) m s h g =
     ]
     in
     let parts = at (owns q b.header) refl g in
-    let more : Each (Silent n k) (path_of q (before ++ b ∷ [])) = subst (Each (Silent n k)) (sym (path-of-append q before (b ∷ []))) (each-append (Silent n k) (path_of q before) (path_of q (b ∷ [])) h (one (owns q b.header) parts.0)) in (
+    let more : Each (Silent n k) (path_of q (before ++ b ∷ [])) = subst (Each (Silent n k)) (sym (path-of-append q before (b ∷ []))) (Each-append (Silent n k) (path_of q before) (path_of q (b ∷ [])) h (one (owns q b.header) parts.0)) in (
       (λ o. subst (λ w. straggles_at n c k w b.records ≡ false) (sym above) (none-straggles n c k (path_of q before) b.records h (parts.0 o))),
       silent-free logs n c k (before ++ b ∷ []) after m (s ∙ sym (append_assoc before (b ∷ []) after)) more parts.1,
     )
@@ -161,17 +158,13 @@ key-free logs n c k valid e =
 
 -- ---- all tests
 
-not-first : (a : Bool) (x : AgreeKind) (o : Option AgreeKind) → (if a then Some x else o) ≡ None → (a ≡ false) × (o ≡ None)
-not-first true x o e = cc
-not-first false x o e = (refl, e)
-
 tests-false : (logs : Logs) (n c : ℕ) (b : AcceptedTablet) → kind_at logs n c b ≡ None → (commit_differs n c b ≡ false) × ((late_intent n c b ≡ false) × ((aborted n b ≡ false) × (straggler logs n c b ≡ false)))
 unfolding kind_at
 tests-false logs n c b e =
-    let one = not-first _ _ _ e in
-    let two = not-first _ _ _ one.1 in
-    let three = not-first _ _ _ two.1 in
-    let four = not-first _ _ _ three.1 in
+    let one = none-cases _ _ _ e in
+    let two = none-cases _ _ _ one.1 in
+    let three = none-cases _ _ _ two.1 in
+    let four = none-cases _ _ _ three.1 in
     (one.0, (two.0, (three.0, four.0)))
 
 straggler-keys : (logs : Logs) (n c : ℕ) (b : AcceptedTablet) → straggler logs n c b ≡ false → Each (λ op. straggles_on logs n c b op.key ≡ false) (real.txn_ops logs n)
@@ -229,4 +222,4 @@ agrees-found logs a = first-none (λ n. option_map_or (disagreement_on logs n) (
     one : (n : ℕ) (o : Option ℕ) → real.commit_of logs n ≡ o → option_map_or (disagreement_on logs n) o None ≡ None
     one n None e = refl
     one n (Some c) e = first-none (λ b. option_map {U = Disagreement} (λ kind. record { txn = n; tablet = b.header.id; kind = kind }) (kind_at logs n c b)) (accepted_tablets logs)
-        (each-weaker (HasNoCase logs n c) (λ b. option_map {U = Disagreement} (λ kind. record { txn = n; tablet = b.header.id; kind = kind }) (kind_at logs n c b) ≡ None) (λ b h. ap (option_map {U = Disagreement} (λ kind. record { txn = n; tablet = b.header.id; kind = kind })) (no-kind logs n c b h)) (accepted_tablets logs) (a.no_case n c e))
+        (Each-weaker (HasNoCase logs n c) (λ b. option_map {U = Disagreement} (λ kind. record { txn = n; tablet = b.header.id; kind = kind }) (kind_at logs n c b) ≡ None) (λ b h. ap (option_map {U = Disagreement} (λ kind. record { txn = n; tablet = b.header.id; kind = kind })) (no-kind logs n c b h)) (accepted_tablets logs) (a.no_case n c e))

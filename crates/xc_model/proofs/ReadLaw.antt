@@ -12,7 +12,6 @@ use Rattle.xc_model.proofs.Placed.{ends, placed, safe, owners, path_upto, Legal}
 use Rattle.xc_model.proofs.Paths.{shown}
 use Rattle.xc_model.proofs.Rows.{commit_of, numbers, row_at}
 use Rattle.xc_model.proofs.ValidLogs.{AgreeAll, read_at}
-use Rattle.xc_model.proofs.Sorts.{each-weaker}
 use Rattle.xc_model.proofs.RowsAt.{numbers-known}
 use Rattle.xc_model.proofs.RealRows.{row_of, row-same}
 use Rattle.xc_model.proofs.ReadRows.{reads-rows}
@@ -20,6 +19,7 @@ use Rattle.xc_model.proofs.FromValid.{rules-suffice, accepted-ends, accepted-num
 use Rattle.xc_model.proofs.FromCases.{no-case-agrees}
 use Rattle.xc_model.proofs.NoDisagreement.{agrees-found, no-disagreement, sound-logs}
 use Rattle.xc_model.proofs.Bridge.{safe-time, legal-places, given-shown}
+use Rattle.xc_record.proofs.ListLaws.{Each-weaker}
 
 pub values : (xs : List Version) → value_of xs ≡ row_of (map (λ x. x.value) xs)
 values [] = refl
@@ -29,7 +29,7 @@ values (x ∷ xs) = refl
 positive : (logs : Logs) (k : List ℕ) → is_valid logs ≡ true → Each (λ n. 0 < n) (numbers (accepted_tablets logs))
 positive logs k valid =
     let es = accepted_tablets logs in
-    each-weaker (λ n. (0 < n) × ((c : ℕ) × (commit_of es n ≡ Some c))) (λ n. 0 < n) (λ n h. h.0) (numbers es) (numbers-known es k (sound-logs logs k valid))
+    Each-weaker (λ n. (0 < n) × ((c : ℕ) × (commit_of es n ≡ Some c))) (λ n. 0 < n) (λ n h. h.0) (numbers es) (numbers-known es k (sound-logs logs k valid))
 
 pub reads-show-rows : ReadsShowRows
 reads-show-rows logs x u t k s agree b c w =

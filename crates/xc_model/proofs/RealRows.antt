@@ -21,10 +21,10 @@ use Rattle.xc_record.proofs.RowLaws.{after_puts, row-puts}
 use Rattle.xc_model.specs.Kept.{last_of}
 use Rattle.xc_model.proofs.StableSort.{stable_sort, Each}
 use Rattle.xc_model.proofs.Rows.{Entry, over_records, kind_write, record_write, Applied, kind_apply, record_apply, first_commit, commit_of, numbers, Part, kind_part, record_part, txn_ops, entry_by, txn_entry, by_pair, commits, entry_upto, row_at}
-use Rattle.xc_model.proofs.Sorts.{each-append, each-weaker}
 use Rattle.xc_model.proofs.Sorted.{by_triple, by_double, commits-sort, provisional-sort, Agreeing, Ties, sort-finer, ties-append, ties-same, ties-rising, map-sort}
 use Rattle.xc_model.proofs.RowsAt.{map-flat, flat-same, each-flat, each-true, puts-flat}
 use Rattle.xc_model.proofs.FromRules.{heads}
+use Rattle.xc_record.proofs.ListLaws.{Each-append, Each-weaker}
 
 -- ---- the commit of a transaction
 
@@ -111,7 +111,7 @@ own-part n s time (Some ops) = (refl, tt)
 
 own-parts : (n s : ℕ) (rs : List Record) → Each (λ (x : Provisional). x.tablet ≡ s) (real.intents_in n s rs)
 own-parts n s [] = tt
-own-parts n s (r ∷ rs) = each-append (λ (x : Provisional). x.tablet ≡ s) (option_map_or (λ (ops : List Op). record { time = r.time; tablet = s; ops = ops } ∷ []) (real.intent_ops n r.kind) []) (real.intents_in n s rs) (own-part n s r.time (real.intent_ops n r.kind)) (own-parts n s rs)
+own-parts n s (r ∷ rs) = Each-append (λ (x : Provisional). x.tablet ≡ s) (option_map_or (λ (ops : List Op). record { time = r.time; tablet = s; ops = ops } ∷ []) (real.intent_ops n r.kind) []) (real.intents_in n s rs) (own-part n s r.time (real.intent_ops n r.kind)) (own-parts n s rs)
 
 abbrev by_time : Provisional → Provisional → Bool
 by_time x y = nat_le x.time y.time
@@ -171,7 +171,7 @@ own-write s time (Some ops) = ((refl, refl), tt)
 
 own-writes : (s : ℕ) (rs : List Record) → Each (λ (x : Commit). (x.tablet ≡ s) × (x.txn ≡ 0)) (real.writes_in s rs)
 own-writes s [] = tt
-own-writes s (r ∷ rs) = each-append (λ (x : Commit). (x.tablet ≡ s) × (x.txn ≡ 0)) (option_map_or (λ (ops : List Op). record { time = r.time; txn = 0; tablet = s; ops = ops } ∷ []) (real.write_ops r.kind) []) (real.writes_in s rs) (own-write s r.time (real.write_ops r.kind)) (own-writes s rs)
+own-writes s (r ∷ rs) = Each-append (λ (x : Commit). (x.tablet ≡ s) × (x.txn ≡ 0)) (option_map_or (λ (ops : List Op). record { time = r.time; txn = 0; tablet = s; ops = ops } ∷ []) (real.write_ops r.kind) []) (real.writes_in s rs) (own-write s r.time (real.write_ops r.kind)) (own-writes s rs)
 
 triple-finer : (x y : Commit) → by_triple x y ≡ true → commit_pair x y ≡ true
 triple-finer x y e = grind (arith, nat_tests)
@@ -220,12 +220,12 @@ commits-same logs m p =
     let pairs : Entry → Entry → Bool = λ x y. by_pair (x.commit, x.txn) (y.commit, y.txn) in
     let zero : Each (λ (y : Commit). y.tablet ≡ 0) x = each-flat (λ (y : Commit). y.tablet ≡ 0) f (λ n. Unit {0}) (λ n _. commit-tablet (commit_of bs n) n (txn_ops bs n)) (numbers bs) (each-true (numbers bs)) in
     let positive : Each (λ (y : Commit). 0 < y.txn) x = each-flat (λ (y : Commit). 0 < y.txn) f (λ n. 0 < n) (λ n h. commit-number (commit_of bs n) n (txn_ops bs n) h) (numbers bs) p in
-    let none : Each (λ (y : Commit). y.txn ≡ 0) w = each-flat (λ (y : Commit). y.txn ≡ 0) (λ (b : AcceptedTablet). real.writes_in b.header.id b.records) (λ b. Unit {0}) (λ b _. each-weaker (λ (y : Commit). (y.tablet ≡ b.header.id) × (y.txn ≡ 0)) (λ (y : Commit). y.txn ≡ 0) (λ y h. h.1) (real.writes_in b.header.id b.records) (own-writes b.header.id b.records)) bs (each-true bs) in
+    let none : Each (λ (y : Commit). y.txn ≡ 0) w = each-flat (λ (y : Commit). y.txn ≡ 0) (λ (b : AcceptedTablet). real.writes_in b.header.id b.records) (λ b. Unit {0}) (λ b _. Each-weaker (λ (y : Commit). (y.tablet ≡ b.header.id) × (y.txn ≡ 0)) (λ (y : Commit). y.txn ≡ 0) (λ y h. h.1) (real.writes_in b.header.id b.records) (own-writes b.header.id b.records)) bs (each-true bs) in
     let tied : Ties by_triple commit_pair (w ++ x) =
     ties-append by_triple commit_pair w x
-    (ties-rising by_triple commit_pair (λ (y : Commit). y.tablet) triple-agrees (λ b. real.writes_in b.header.id b.records) (λ b. each-weaker (λ (y : Commit). (y.tablet ≡ b.header.id) × (y.txn ≡ 0)) (λ (y : Commit). y.tablet ≡ b.header.id) (λ y h. h.0) (real.writes_in b.header.id b.records) (own-writes b.header.id b.records)) 0 bs m)
+    (ties-rising by_triple commit_pair (λ (y : Commit). y.tablet) triple-agrees (λ b. real.writes_in b.header.id b.records) (λ b. Each-weaker (λ (y : Commit). (y.tablet ≡ b.header.id) × (y.txn ≡ 0)) (λ (y : Commit). y.tablet ≡ b.header.id) (λ y h. h.0) (real.writes_in b.header.id b.records) (own-writes b.header.id b.records)) 0 bs m)
     (ties-same by_triple commit_pair (λ (y : Commit). y.tablet) triple-agrees 0 x zero)
-    (each-weaker (λ (y : Commit). y.txn ≡ 0) (λ y. Each (Agreeing by_triple commit_pair y) x) (λ y h. each-weaker (λ (z : Commit). 0 < z.txn) (Agreeing by_triple commit_pair y) (λ z k. write-first y z h k) x positive) w none) in
+    (Each-weaker (λ (y : Commit). y.txn ≡ 0) (λ y. Each (Agreeing by_triple commit_pair y) x) (λ y h. Each-weaker (λ (z : Commit). 0 < z.txn) (Agreeing by_triple commit_pair y) (λ z k. write-first y z h k) x positive) w none) in
     ap (map entry_of) (commits-sort (real.write_commits logs ++ real.txn_commits logs) ∙ ap (stable_sort by_triple) (ap (λ v. v ++ real.txn_commits logs) (writes-same logs) ∙ ap (λ v. w ++ v) (txn-same logs m)) ∙ sort-finer by_triple commit_pair triple-finer (w ++ x) tied)
     ∙ map-sort commit_pair pairs entry_of (λ x y. refl) (w ++ x)
     ∙ ap (stable_sort pairs) (map-append entry_of w x ∙ ap (λ v. v ++ map entry_of x) (tablets-write bs) ∙ ap (λ v. over_records record_write bs ++ v) (map-flat entry_of f (numbers bs)

@@ -2,7 +2,7 @@
 use Rattle.std.proofs.Common.{◌≡◌, ◌≢◌, ◌==◌, ℕ, ◌<◌, Bool, true, false, cond, List, [], ◌∷◌, ◌++◌, map, Option, Some, None, refl, ap, sym, ◌∙◌, arith, append_assoc, append-nil, inl, inr, ⊎_elim}
 use Rattle.std.specs.Prelude.{nat_le, nat_lt, bytes_eq}
 use Rattle.std.proofs.Common.{subst}
-use Rattle.std.proofs.lemmas.Bool.{cases_Bool}
+use Rattle.std.proofs.lemmas.Bool.{cases_Bool, or_left, or_right}
 use Rattle.xc_record.specs.Commits.{distinct, insert_number}
 use Rattle.std.proofs.lemmas.List.{map-append}
 use Rattle.std.specs.List.{filter, flat_map}
@@ -23,10 +23,12 @@ use Rattle.xc_model.proofs.Placed.{floor_by, owns}
 use Rattle.xc_record.specs.Hash.{hash_of}
 use Rattle.xc_model.proofs.Rows.{Entry, over_records, kind_write, record_write, Applied, kind_apply, record_apply, first_commit, commit_of, numbers, Part, kind_part, record_part, txn_ops, entry_by, txn_entry, by_pair, commits, entry_upto, row_at, path_of}
 use Rattle.xc_model.proofs.ValidLogs.{KindAway, KindNumbered}
-use Rattle.xc_model.proofs.Sorts.{each-append, each-weaker, each-filter, sort-in_order}
+use Rattle.xc_model.proofs.Sorts.{sort-in_order}
 use Rattle.xc_model.proofs.Groups.{flat-sort, sort-grouped, Distinct, IsIn}
 use Rattle.xc_model.proofs.ApplyPath.{not_after-orders}
 use Rattle.xc_model.proofs.Chain.{Goes}
+use Rattle.xc_record.proofs.ListLaws.{Each-append, Each-filter, Each-weaker}
+use Rattle.xc_record.proofs.NumberLaws.{has, Rising, distinct-rising}
 
 -- tablets that don't own the key say nothing of it
 pub over-path : {B : Type 0} (g : Record → List B) (h : ℕ) (es : List AcceptedTablet) → Each (λ e. owns h e.header ≡ false → flat_map g e.records ≡ []) es → over_records g es ≡ flat_map g (path_of h es)
@@ -146,10 +148,10 @@ flat-none f P h (x ∷ xs) e = ap (λ w. w ++ flat_map f xs) (h x e.0) ∙ flat-
 
 pub each-flat : {A B : Type 0} (P : B → Type 0) (f : A → List B) (Q : A → Type 0) → ((x : A) → Q x → Each P (f x)) → (xs : List A) → Each Q xs → Each P (flat_map f xs)
 each-flat P f Q h [] e = tt
-each-flat P f Q h (x ∷ xs) e = each-append P (f x) (flat_map f xs) (h x e.0) (each-flat P f Q h xs e.1)
+each-flat P f Q h (x ∷ xs) e = Each-append P (f x) (flat_map f xs) (h x e.0) (each-flat P f Q h xs e.1)
 
 pub path-numbered : (h : ℕ) (es : List AcceptedTablet) → Each (λ e. Each (λ r. KindNumbered r.kind) e.records) es → Each (λ r. KindNumbered r.kind) (path_of h es)
-path-numbered h es n = each-flat (λ r. KindNumbered r.kind) (λ e. e.records) (λ e. Each (λ r. KindNumbered r.kind) e.records) (λ e w. w) (filter (λ e. owns h e.header) es) (each-filter (λ e. Each (λ r. KindNumbered r.kind) e.records) (λ e. owns h e.header) es n)
+path-numbered h es n = each-flat (λ r. KindNumbered r.kind) (λ e. e.records) (λ e. Each (λ r. KindNumbered r.kind) e.records) (λ e w. w) (filter (λ e. owns h e.header) es) (Each-filter (λ e. Each (λ r. KindNumbered r.kind) e.records) (λ e. owns h e.header) es n)
 
 write-away : (k : List ℕ) (time : ℕ) (kind : Kind) → KindAway k kind → flat_map (entry_versions k) (kind_write time kind) ≡ []
 write-away k time (log.Write ops) h = ap (λ w. map (λ v. version_made time 0 v) w ++ []) h
@@ -164,7 +166,7 @@ versions-of-writes es commit k s =
     let g : Record → List Version = λ r. flat_map (entry_versions k) (record_write r) in
     let p = path_of (hash_of k) es in
     over-flat record_write (entry_versions k) es
-    ∙ over-path g (hash_of k) es (each-weaker (λ e. owns (hash_of k) e.header ≡ false → Each (λ r. KindAway k r.kind) e.records) (λ e. owns (hash_of k) e.header ≡ false → flat_map g e.records ≡ []) (λ e h c. flat-none g (λ r. KindAway k r.kind) (λ r. write-away k r.time r.kind) e.records (h c)) es s.away)
+    ∙ over-path g (hash_of k) es (Each-weaker (λ e. owns (hash_of k) e.header ≡ false → Each (λ r. KindAway k r.kind) e.records) (λ e. owns (hash_of k) e.header ≡ false → flat_map g e.records ≡ []) (λ e h c. flat-none g (λ r. KindAway k r.kind) (λ r. write-away k r.time r.kind) e.records (h c)) es s.away)
     ∙ flat-same g (λ r. filter (has_number 0) (committed commit (record_events k r))) (λ r. KindNumbered r.kind) (λ r. kind-writes commit k r.time r.kind) p (path-numbered (hash_of k) es s.numbered)
     ∙ sym (filter-flat (has_number 0) (λ r. committed commit (record_events k r)) p)
     ∙ ap (filter (has_number 0)) (sym (committed-records commit k p))
@@ -210,7 +212,7 @@ in_time x y = nat_le x.time y.time
 block-in_order : (t : ℕ) (xs ys : List Timed) → Each (λ y. y.time ≡ t) xs → Each (λ y. t < y.time) ys → InOrder in_time ys → InOrder in_time (xs ++ ys)
 block-in_order t [] ys h e s = s
 block-in_order t (x ∷ xs) ys h e s = (
-  each-append (λ y. in_time x y ≡ true) xs ys (each-weaker (λ y. y.time ≡ t) (λ y. in_time x y ≡ true) (λ y q. let p : x.time ≡ t = h.0 in le-leb x.time y.time (omega arith)) xs h.1) (each-weaker (λ y. t < y.time) (λ y. in_time x y ≡ true) (λ y q. let p : x.time ≡ t = h.0 in le-leb x.time y.time (omega arith)) ys e),
+  Each-append (λ y. in_time x y ≡ true) xs ys (Each-weaker (λ y. y.time ≡ t) (λ y. in_time x y ≡ true) (λ y q. let p : x.time ≡ t = h.0 in le-leb x.time y.time (omega arith)) xs h.1) (Each-weaker (λ y. t < y.time) (λ y. in_time x y ≡ true) (λ y q. let p : x.time ≡ t = h.0 in le-leb x.time y.time (omega arith)) ys e),
   block-in_order t xs ys h.1 e s,
 )
 
@@ -221,7 +223,7 @@ timed-in_order k n f l (r ∷ rs) g =
     let here = timed-at k r.time (kind_lefts k n r.kind) in
     let more = flat_map (λ r. timed k r.time (kind_lefts k n r.kind)) rs in (
       block-in_order r.time (timed k r.time (kind_lefts k n r.kind)) more here rest.1 rest.0,
-      each-append (λ y. l < y.time) (timed k r.time (kind_lefts k n r.kind)) more (each-weaker (λ y. y.time ≡ r.time) (λ y. l < y.time) (λ y q. let p : l < r.time = g.0 in omega arith) (timed k r.time (kind_lefts k n r.kind)) here) (each-weaker (λ y. r.time < y.time) (λ y. l < y.time) (λ y q. let p : l < r.time = g.0 in omega arith) more rest.1),
+      Each-append (λ y. l < y.time) (timed k r.time (kind_lefts k n r.kind)) more (Each-weaker (λ y. y.time ≡ r.time) (λ y. l < y.time) (λ y q. let p : l < r.time = g.0 in omega arith) (timed k r.time (kind_lefts k n r.kind)) here) (Each-weaker (λ y. r.time < y.time) (λ y. l < y.time) (λ y q. let p : l < r.time = g.0 in omega arith) more rest.1),
     )
 
 puts-append : (k : List ℕ) (xs ys : List Op) → puts k (xs ++ ys) ≡ puts k xs ++ puts k ys
@@ -254,7 +256,7 @@ txn-lefts es k n s =
     let whole : flat_map (part_timed k) parts ≡ flat_map g p =
     over-flat (record_part n) (part_timed k) es
     ∙ flat-same (λ (e : AcceptedTablet). flat_map (λ r. flat_map (part_timed k) (record_part n r)) e.records) (λ e. flat_map g e.records) (λ e. Unit {0}) (λ e _. flat-same (λ r. flat_map (part_timed k) (record_part n r)) g (λ r. Unit {0}) (λ r _. kind-timed k n r.time r.kind) e.records (each-true e.records)) es (each-true es)
-    ∙ over-path g (hash_of k) es (each-weaker (λ e. owns (hash_of k) e.header ≡ false → Each (λ r. KindAway k r.kind) e.records) (λ e. owns (hash_of k) e.header ≡ false → flat_map g e.records ≡ []) (λ e h c. flat-none g (λ r. KindAway k r.kind) (λ r w. ap (timed k r.time) (lefts-away k n r.kind w)) e.records (h c)) es s.away) in
+    ∙ over-path g (hash_of k) es (Each-weaker (λ e. owns (hash_of k) e.header ≡ false → Each (λ r. KindAway k r.kind) e.records) (λ e. owns (hash_of k) e.header ≡ false → flat_map g e.records ≡ []) (λ e h c. flat-none g (λ r. KindAway k r.kind) (λ r w. ap (timed k r.time) (lefts-away k n r.kind w)) e.records (h c)) es s.away) in
     puts-flat k (λ (x : Part). x.ops) sorted
     ∙ flat-same (λ (x : Part). puts k x.ops) (λ x. map (λ y. y.value) (part_timed k x)) (λ x. Unit {0}) (λ x _. sym (timed-lefts k x.time (puts k x.ops))) sorted (each-true sorted)
     ∙ sym (map-flat (λ (y : Timed). y.value) (part_timed k) sorted)
@@ -298,31 +300,13 @@ each-distinct : (P : ℕ → Type 0) (ns : List ℕ) → Each P ns → Each P (d
 each-distinct P [] h = tt
 each-distinct P (n ∷ ns) h = each-insert P n (distinct ns) h.0 (each-distinct P ns h.1)
 
--- each number is below the later ones
-abbrev Rising : List ℕ → Type 0
-Rising [] = Unit {0}
-Rising (n ∷ ns) = Each (λ m. n < m) ns × Rising ns
-
-insert-rising : (n : ℕ) (ns : List ℕ) → Rising ns → Rising (insert_number n ns)
-insert-rising n [] r = (tt, tt)
-insert-rising n (m ∷ ms) r =
-    let go : (b c : Bool) → nat_lt n m ≡ b → (n == m) ≡ c → Rising (cond b (n ∷ m ∷ ms) (cond c (m ∷ ms) (m ∷ insert_number n ms))) =
-    λ b. elim b as (λ b. (c : Bool) → nat_lt n m ≡ b → (n == m) ≡ c → Rising (cond b (n ∷ m ∷ ms) (cond c (m ∷ ms) (m ∷ insert_number n ms)))) [
-      | true ↦ λ c e f. let less : n < m = grind (arith, nat_tests) in ((less, each-weaker (λ k. m < k) (λ k. n < k) (λ k q. omega arith) ms r.0), r)
-      | false ↦ λ c. elim c as (λ c. nat_lt n m ≡ false → (n == m) ≡ c → Rising (cond c (m ∷ ms) (m ∷ insert_number n ms))) [
-        | true ↦ λ e f. r
-        | false ↦ λ e f. let more : m < n = grind (arith, nat_tests) in (each-insert (λ k. m < k) n ms more r.0, insert-rising n ms r.1)
-      ]
-    ]
-    in go (nat_lt n m) (n == m) refl refl
-
-distinct-rising : (ns : List ℕ) → Rising (distinct ns)
-distinct-rising [] = tt
-distinct-rising (n ∷ ns) = insert-rising n (distinct ns) (distinct-rising ns)
+each-has : (P : ℕ → Type 0) (ns : List ℕ) → ((m : ℕ) → has m ns ≡ true → P m) → Each P ns
+each-has P [] h = tt
+each-has P (n ∷ ns) h = (h n (or_left (n == n) (has n ns) (eq-eqb n n refl)), each-has P ns (λ m e. h m (or_right (n == m) (has m ns) e)))
 
 rising-distinct : (ns : List ℕ) → Rising ns → Distinct ns
 rising-distinct [] r = tt
-rising-distinct (n ∷ ns) r = (each-weaker (λ m. n < m) (λ m. m ≢ n) (λ m k q. let z : ⊥ = omega arith in z) ns r.0, rising-distinct ns r.1)
+rising-distinct (n ∷ ns) r = (each-has (λ m. m ≢ n) ns (λ m e k. let q : n < m = r.0 m e in let z : ⊥ = omega arith in z), rising-distinct ns r.1)
 
 pub distinct-distinct : (ns : List ℕ) → Distinct (distinct ns)
 distinct-distinct ns = rising-distinct (distinct ns) (distinct-rising ns)
@@ -338,7 +322,7 @@ known-here a rest h = (h, (a.commit, ap (λ b. cond b (Some a.commit) (first_com
 
 pub all-known : (applies : List Applied) → Each (λ a. 0 < a.txn) applies → Each (Known applies) (map (λ a. a.txn) applies)
 all-known [] h = tt
-all-known (a ∷ rest) h = (known-here a rest h.0, each-weaker (Known rest) (Known (a ∷ rest)) (λ n. known-more a rest n) (map (λ w. w.txn) rest) (all-known rest h.1))
+all-known (a ∷ rest) h = (known-here a rest h.0, Each-weaker (Known rest) (Known (a ∷ rest)) (λ n. known-more a rest n) (map (λ w. w.txn) rest) (all-known rest h.1))
 
 pub committed-is-in : (n c : ℕ) (applies : List Applied) → first_commit n applies ≡ Some c → IsIn n (map (λ a. a.txn) applies)
 committed-is-in n c [] e = grind arith
@@ -356,7 +340,7 @@ version-in es n v =
 pub committed-in : (es : List AcceptedTablet) (evs : List Event) → Each (λ x. IsIn x.txn (0 ∷ numbers es)) (committed (commit_of es) evs)
 committed-in es [] = tt
 committed-in es (Put time v ∷ evs) = (inl refl, committed-in es evs)
-committed-in es (Hold n time v ∷ evs) = each-append (λ x. IsIn x.txn (0 ∷ numbers es)) (version_at (commit_of es n) n v) (committed (commit_of es) evs) (version-in es n v) (committed-in es evs)
+committed-in es (Hold n time v ∷ evs) = Each-append (λ x. IsIn x.txn (0 ∷ numbers es)) (version_at (commit_of es n) n v) (committed (commit_of es) evs) (version-in es n v) (committed-in es evs)
 committed-in es (Apply n c ∷ evs) = committed-in es evs
 committed-in es (Abort n ∷ evs) = committed-in es evs
 committed-in es (Safe v ∷ evs) = committed-in es evs
@@ -416,7 +400,7 @@ commits-at es k s =
     ∙ ap (λ w. w ++ flat_map (entry_versions k) (flat_map (txn_entry es) (numbers es))) (versions-of-writes es (commit_of es) k s)
     ∙ ap (λ w. filter (has_number 0) x ++ w) (flat-flat (txn_entry es) (entry_versions k) (numbers es) ∙ flat-same (λ n. flat_map (entry_versions k) (txn_entry es n)) (λ n. filter (has_number n) x) (λ n. (0 < n) × ((c : ℕ) × (commit_of es n ≡ Some c))) (λ n. txn-versions es k n s) (numbers es) known))
     ∙ sort-grouped not_after not_after-orders (λ (v : Version). v.txn) apart (0 ∷ numbers es) x
-    (each-weaker (λ n. (0 < n) × ((c : ℕ) × (commit_of es n ≡ Some c))) (λ n. n ≢ 0) (λ n h q. let z : ⊥ = (let p : 0 < n = h.0 in omega arith) in z) (numbers es) known, distinct-distinct (map (λ a. a.txn) (over_records record_apply es)))
+    (Each-weaker (λ n. (0 < n) × ((c : ℕ) × (commit_of es n ≡ Some c))) (λ n. n ≢ 0) (λ n h q. let z : ⊥ = (let p : 0 < n = h.0 in omega arith) in z) (numbers es) known, distinct-distinct (map (λ a. a.txn) (over_records record_apply es)))
     (committed-in es (events k (path_of (hash_of k) es)))
 
 made-upto : (t c n : ℕ) (vs : List Written) → filter (upto t) (map (λ v. version_made c n v) vs) ≡ cond (nat_le c t) (map (λ v. version_made c n v) vs) []

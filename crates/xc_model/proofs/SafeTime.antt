@@ -15,10 +15,10 @@ use Rattle.xc_record.specs.SafeTime.{floor_after}
 use Rattle.xc_record.proofs.OrderLaws.{accepted-accepted}
 use Rattle.xc_record.proofs.SafeLaws.{floor-take}
 use Rattle.xc_record.specs.Lists.{least}
-use Rattle.xc_model.proofs.Sorts.{each-append}
 use Rattle.xc_model.proofs.Chain.{KindGoes, Goes, last_after, under-goes, order_after-parts}
 use Rattle.xc_model.proofs.KeyRead.{floor-le-last}
 use Rattle.xc_model.proofs.ReadRows.{under-safe}
+use Rattle.xc_record.proofs.ListLaws.{Each-append}
 
 -- each tablet's accepted records go by the order rules from its start, which is at most the time before it
 pub record Begins (e : AcceptedTablet) : Type 0 where
@@ -64,7 +64,7 @@ begins-from done [] h = h
 begins-from done (t ∷ ts) h =
     let o = parent_order done t.header.parent in
     let e = end_under o t in
-    begins-from (done ++ e ∷ []) ts (each-append Begins done (e ∷ []) h (record { from = o; tablet = t; low = parent-low done t.header.parent h; is = refl }, tt))
+    begins-from (done ++ e ∷ []) ts (Each-append Begins done (e ∷ []) h (record { from = o; tablet = t; low = parent-low done t.header.parent h; is = refl }, tt))
 
 pub begins-placed : (ts : List Tablet) (xs : List Placed) → TabletsOf ts xs → Each (λ x. Begins x.tablet) xs
 begins-placed ts xs h = each-ends Begins xs (subst (Each Begins) (sym h) (begins-from [] ts tt))

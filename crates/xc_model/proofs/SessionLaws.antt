@@ -5,6 +5,7 @@ use Rattle.std.specs.Option.{option_map_or, option_map}
 use Rattle.std.proofs.lemmas.Bool.{cases_Bool, cases_eq, cases_lt, and_parts, and_from, eqb-true, eq-eqb, true≢false}
 use Rattle.std.proofs.lemmas.Bool.Decides.{nat_tests}
 use Rattle.std.proofs.lemmas.List.{get_or-set_same, get_or-set_other, length-set, length-replicate, length-map}
+use Rattle.std.proofs.lemmas.Option.{same_Some, none-some, slice_get_within}
 use Rattle.xc_record.specs.declared.record.Header.{Header}
 use Rattle.xc_record.specs.declared.record.Tablet.{Tablet}
 use Rattle.xc_record.specs.declared.record.Logs.{Logs}
@@ -23,18 +24,20 @@ use Rattle.xc_record.specs.Step.{safe_now, cursor, awaits, halts_at, poll_answer
 use Rattle.xc_record.proofs.SafeLaws.{safe_time-rises}
 use Rattle.xc_model.specs.Laws.{StepsKeepSessions, SessionsStart, StepsKeepTimes}
 use Rattle.xc_model.proofs.StableSort.{Each, Exists}
-use Rattle.xc_model.proofs.Sorts.{exists-left, each-append, each-weaker}
+use Rattle.xc_model.proofs.Sorts.{exists-left, exists-at}
 use Rattle.xc_model.proofs.Tree.{each-itself, each-at, exists-weaker}
 use Rattle.xc_model.proofs.FromRules.{heads}
 use Rattle.xc_model.proofs.FromValid.{rules-suffice, accepted-ends, accepted-numbered}
 use Rattle.xc_model.proofs.Bridge.{get-tablet, closed-of}
 use Rattle.xc_model.proofs.KeepLaws.{stands-new}
 use Rattle.xc_model.proofs.FloorLaw.{heads-logs, none-index}
-use Rattle.xc_model.proofs.DeliverLaw.{get-is, some-below, pick, none-some, some-number}
+use Rattle.xc_model.proofs.DeliverLaw.{get-is, pick}
 use Rattle.xc_record.specs.Order.{Progress, accepted_from}
 use Rattle.xc_model.proofs.Placed.{begun, end_under, order_at, parent_order, ends_from}
 use Rattle.xc_model.proofs.ValidLogs.{ParentThere, GrowsBy}
 use Rattle.xc_model.proofs.KeptSafe.{order-there}
+use Rattle.xc_record.proofs.ListLaws.{Each-append, Each-weaker}
+use Rattle.xc_record.proofs.HeaderLists.{get_of_headers}
 
 -- ---- stores
 
@@ -76,18 +79,13 @@ stays b xs ys h w c =
     let full : place xs b ≡ length b.records = eqb-true _ _ parts.0 in
     and_from (place ys b == length b.records) b.end.split (eq-eqb (place ys b) (length b.records) (omega arith)) parts.1
 
-get-there : (bs : List AcceptedTablet) (i : ℕ) (b : AcceptedTablet) → slice_get bs i ≡ Some b → Exists (λ d. d ≡ b) bs
-get-there [] i b e = cc
-get-there (d ∷ bs) zero b e = inl (let q : d ≡ b = cc in q)
-get-there (d ∷ bs) (suc i) b e = inr (get-there bs i b e)
-
 stays-at : (logs : Logs) (xs ys : List ℕ) (p : ℕ) → Climbs xs ys → Each (λ b. place ys b ≤ length b.records) (accepted_tablets logs) → closed_at logs xs p ≡ true → closed_at logs ys p ≡ true
 unfolding closed_at
 stays-at logs xs ys p h w = go (slice_get (accepted_tablets logs) p) refl
   where
     go : (o : Option AcceptedTablet) → slice_get (accepted_tablets logs) p ≡ o → option_map_or (is_closed_in xs) o false ≡ true → option_map_or (is_closed_in ys) o false ≡ true
     go None e c = c
-    go (Some b) e c = stays b xs ys (h b.header.id) (each-at (λ b. place ys b ≤ length b.records) (accepted_tablets logs) b w (get-there (accepted_tablets logs) p b e)) c
+    go (Some b) e c = stays b xs ys (h b.header.id) (each-at (λ b. place ys b ≤ length b.records) (accepted_tablets logs) b w (exists-at (accepted_tablets logs) p b e)) c
 
 -- what holds of a session after a command
 pub record Good (logs : Logs) (m n : Session) : Type 0 where
@@ -119,7 +117,7 @@ under-from : (done : List AcceptedTablet) (ts : List Tablet) → GrowsBy done ts
 under-from done [] g s = s
 under-from done (t ∷ ts) g s =
     let e = end_under (parent_order done t.header.parent) t in
-    under-from (done ++ e ∷ []) ts g.1 (each-append (UnderSplit (done ++ e ∷ [])) done (e ∷ []) (each-weaker (UnderSplit done) (UnderSplit (done ++ e ∷ [])) (λ w. under-more done (e ∷ []) w) done s)
+    under-from (done ++ e ∷ []) ts g.1 (Each-append (UnderSplit (done ++ e ∷ [])) done (e ∷ []) (Each-weaker (UnderSplit done) (UnderSplit (done ++ e ∷ [])) (λ w. under-more done (e ∷ []) w) done s)
     (under-more done (e ∷ []) e (under-one done t t.header.parent refl g.0.there), tt))
 
 under-splits : (logs : Logs) → is_valid logs ≡ true → Each (UnderSplit (accepted_tablets logs)) (accepted_tablets logs)
@@ -136,23 +134,12 @@ parent-same logs s b valid e = go (slice_get logs.tablets s) refl
     at-heads (c ∷ bs) zero d q = let w : c ≡ d = cc in ap (λ (v : AcceptedTablet). Some v.header) w
     at-heads (c ∷ bs) (suc i) d q = at-heads bs i d q
 
-    at-headers : (ts : List Tablet) (i : ℕ) → slice_get (headers_of ts) i ≡ option_map (λ t. t.header) (slice_get ts i)
-    at-headers [] i = refl
-    at-headers (t ∷ ts) zero = refl
-    at-headers (t ∷ ts) (suc i) = at-headers ts i
-
     head : option_map (λ (t : Tablet). t.header) (slice_get logs.tablets s) ≡ Some b.header
-    head = sym (at-headers logs.tablets s) ∙ ap (λ w. slice_get w s) (sym (heads-logs logs valid)) ∙ at-heads (accepted_tablets logs) s b e
-
-    some-same : (h g : Header) → Some h ≡ Some g → h ≡ g
-    some-same h g q = cc
+    head = sym (get_of_headers logs.tablets s) ∙ ap (λ w. slice_get w s) (sym (heads-logs logs valid)) ∙ at-heads (accepted_tablets logs) s b e
 
     go : (o : Option Tablet) → slice_get logs.tablets s ≡ o → parent_of logs s ≡ b.header.parent
-    go None q = let none : None ≡ Some b.header = ap (option_map (λ (t : Tablet). t.header)) (sym q) ∙ head in absurd (no-header b.header none)
-      where
-        no-header : (h : Header) → None ≡ Some h → ⊥
-        no-header h w = cc
-    go (Some t) q = ap (λ o. option_and_then (λ (t : Tablet). t.header.parent) o) q ∙ ap (λ (h : Header). h.parent) (some-same t.header b.header (ap (option_map (λ (t : Tablet). t.header)) (sym q) ∙ head))
+    go None q = let none : None ≡ Some b.header = ap (option_map (λ (t : Tablet). t.header)) (sym q) ∙ head in absurd (none-some b.header none)
+    go (Some t) q = ap (λ o. option_and_then (λ (t : Tablet). t.header.parent) o) q ∙ ap (λ (h : Header). h.parent) (same_Some t.header b.header (ap (option_map (λ (t : Tablet). t.header)) (sym q) ∙ head))
 
 -- where nothing is awaited, a parent is closed
 not-awaited : (logs : Logs) (m : Session) (s p : ℕ) → awaits logs m s ≡ None → parent_of logs s ≡ Some p → closed_at logs m.places p ≡ true
@@ -203,7 +190,7 @@ module _ (logs : Logs) (valid : is_valid logs ≡ true) (m : Session) (st : IsSe
 
   -- a tablet's number is below their count
   below : (d : AcceptedTablet) → Exists (λ e. e ≡ d) (accepted_tablets logs) → d.header.id < length m.places
-  below d i = let q : d.header.id < length (accepted_tablets logs) = some-below (accepted_tablets logs) d.header.id d (get-tablet (accepted_tablets logs) d (accepted-numbered logs valid) i) in let c = count in omega arith
+  below d i = let q : d.header.id < length (accepted_tablets logs) = slice_get_within (accepted_tablets logs) d.header.id d (get-tablet (accepted_tablets logs) d (accepted-numbered logs valid) i) in let c = count in omega arith
 
   cursor-low : (s : ℕ) → cursor m s ≤ length (accepted logs s)
   cursor-low s = go (slice_get (accepted_tablets logs) s) refl
@@ -211,7 +198,7 @@ module _ (logs : Logs) (valid : is_valid logs ≡ true) (m : Session) (st : IsSe
       go : (o : Option AcceptedTablet) → slice_get (accepted_tablets logs) s ≡ o → cursor m s ≤ length (accepted logs s)
       go None e = let z : cursor m s ≡ 0 = none-index (accepted_tablets logs) m.cursors s 0 (lengths ∙ count) e in omega arith
       go (Some b) e =
-          let w : place m.places b ≤ length b.records = each-at (λ b. place m.places b ≤ length b.records) (accepted_tablets logs) b st.places.within (get-there (accepted_tablets logs) s b e) in
+          let w : place m.places b ≤ length b.records = each-at (λ b. place m.places b ≤ length b.records) (accepted_tablets logs) b st.places.within (exists-at (accepted_tablets logs) s b e) in
           let id : b.header.id ≡ s = get-is (accepted_tablets logs) s b (accepted-numbered logs valid) e in
           let p : slice_index m.places s ≤ length b.records = subst (λ (i : ℕ). slice_index m.places i ≤ length b.records) id w in
           let c : cursor m s ≤ slice_index m.places s = st.cursor s in
@@ -351,7 +338,7 @@ module _ (logs : Logs) (valid : is_valid logs ≡ true) (m : Session) (st : IsSe
           go : (o : Option AcceptedTablet) → slice_get (accepted_tablets logs) i ≡ o → slice_index m.places i ≤ slice_index (ends_of logs) i
           go None e = let z : slice_index m.places i ≡ 0 = none-index (accepted_tablets logs) m.places i 0 count e in omega arith
           go (Some b) e =
-              let w : place m.places b ≤ length b.records = each-at (λ b. place m.places b ≤ length b.records) (accepted_tablets logs) b st.places.within (get-there (accepted_tablets logs) i b e) in
+              let w : place m.places b ≤ length b.records = each-at (λ b. place m.places b ≤ length b.records) (accepted_tablets logs) b st.places.within (exists-at (accepted_tablets logs) i b e) in
               let id : b.header.id ≡ i = get-is (accepted_tablets logs) i b (accepted-numbered logs valid) e in
               let p : slice_index m.places i ≤ length b.records = subst (λ (i : ℕ). slice_index m.places i ≤ length b.records) id w in
               let q : slice_index (ends_of logs) i ≡ length b.records = ends-index (accepted_tablets logs) i b e in omega arith
@@ -363,7 +350,7 @@ module _ (logs : Logs) (valid : is_valid logs ≡ true) (m : Session) (st : IsSe
           ⊎_elim (λ n. absurd (none-some p (sym n ∙ e)))
           (λ j.
           let found = pick (λ w. (Some w.header.id ≡ d.header.parent) × (w.end.split ≡ false → d.records ≡ [])) (accepted_tablets logs) j in
-          let id : found.0.header.id ≡ p = some-number found.0.header.id p (found.1.1.0 ∙ e) in
+          let id : found.0.header.id ≡ p = same_Some found.0.header.id p (found.1.1.0 ∙ e) in
           let shut : is_closed_in (ends_of logs) found.0 ≡ false = sym (closed-of logs (ends_of logs) found.0 (accepted-numbered logs valid) found.1.0) ∙ ap (closed_at logs (ends_of logs)) id ∙ c in
           let open_ : found.0.end.split ≡ false = sym (ap (λ o. o && found.0.end.split) (eq-eqb (place (ends_of logs) found.0) (length found.0.records) (ends-at found.0 found.1.0))) ∙ shut in
           ends-at d i ∙ ap length (found.1.1.1 open_)) from

@@ -12,8 +12,9 @@ use Rattle.xc_record.proofs.HeaderLaws.{Numbered}
 use Rattle.xc_model.specs.Kept.{not_after}
 use Rattle.xc_model.proofs.StableSort.{put_before, stable_sort, Each}
 use Rattle.xc_model.proofs.Paths.{ordered}
-use Rattle.xc_model.proofs.Sorts.{each-append, each-weaker, each-sort}
+use Rattle.xc_model.proofs.Sorts.{each-sort}
 use Rattle.xc_model.proofs.FromRules.{heads}
+use Rattle.xc_record.proofs.ListLaws.{Each-append, Each-weaker}
 
 module _ {A : Type 0} (cmp : A → A → Ordering) (le : A → A → Bool) (same : (x y : A) → is_gt (cmp x y) ≡ not (le x y)) where
   insert-as : (x : A) (xs : List A) → insert_by cmp x xs ≡ put_before le x xs
@@ -79,24 +80,24 @@ module _ {A : Type 0} (fine coarse : A → A → Bool) (finer : (x y : A) → fi
 
 pub ties-append : {A : Type 0} (fine coarse : A → A → Bool) (xs ys : List A) → Ties fine coarse xs → Ties fine coarse ys → Each (λ x. Each (Agreeing fine coarse x) ys) xs → Ties fine coarse (xs ++ ys)
 ties-append fine coarse [] ys t u b = u
-ties-append fine coarse (x ∷ xs) ys t u b = (each-append (Agreeing fine coarse x) xs ys t.0 b.0, ties-append fine coarse xs ys t.1 u b.1)
+ties-append fine coarse (x ∷ xs) ys t u b = (Each-append (Agreeing fine coarse x) xs ys t.0 b.0, ties-append fine coarse xs ys t.1 u b.1)
 
 -- elements of rising tablets
 module _ {A : Type 0} (fine coarse : A → A → Bool) (tablet : A → ℕ) (by_tablet : (x y : A) → tablet x ≤ tablet y → Agreeing fine coarse x y) where
   pub ties-same : (s : ℕ) (xs : List A) → Each (λ x. tablet x ≡ s) xs → Ties fine coarse xs
   ties-same s [] h = tt
-  ties-same s (x ∷ xs) h = (each-weaker (λ y. tablet y ≡ s) (Agreeing fine coarse x) (λ y e. by_tablet x y (let q : tablet x ≡ s = h.0 in omega arith)) xs h.1, ties-same s xs h.1)
+  ties-same s (x ∷ xs) h = (Each-weaker (λ y. tablet y ≡ s) (Agreeing fine coarse x) (λ y e. by_tablet x y (let q : tablet x ≡ s = h.0 in omega arith)) xs h.1, ties-same s xs h.1)
 
   each-above : (f : AcceptedTablet → List A) → ((b : AcceptedTablet) → Each (λ x. tablet x ≡ b.header.id) (f b)) → (n : ℕ) (bs : List AcceptedTablet) → Numbered n (heads bs) → Each (λ x. n ≤ tablet x) (flat_map f bs)
   each-above f own n [] m = tt
-  each-above f own n (b ∷ bs) m = each-append (λ x. n ≤ tablet x) (f b) (flat_map f bs) (each-weaker (λ x. tablet x ≡ b.header.id) (λ x. n ≤ tablet x) (λ x e. let q = m.0 in omega arith) (f b) (own b))
-      (each-weaker (λ x. n + 1 ≤ tablet x) (λ x. n ≤ tablet x) (λ x e. omega arith) (flat_map f bs) (each-above f own (n + 1) bs m.1))
+  each-above f own n (b ∷ bs) m = Each-append (λ x. n ≤ tablet x) (f b) (flat_map f bs) (Each-weaker (λ x. tablet x ≡ b.header.id) (λ x. n ≤ tablet x) (λ x e. let q = m.0 in omega arith) (f b) (own b))
+      (Each-weaker (λ x. n + 1 ≤ tablet x) (λ x. n ≤ tablet x) (λ x e. omega arith) (flat_map f bs) (each-above f own (n + 1) bs m.1))
 
   pub ties-rising : (f : AcceptedTablet → List A) → ((b : AcceptedTablet) → Each (λ x. tablet x ≡ b.header.id) (f b)) → (n : ℕ) (bs : List AcceptedTablet) → Numbered n (heads bs) → Ties fine coarse (flat_map f bs)
   ties-rising f own n [] m = tt
   ties-rising f own n (b ∷ bs) m =
       ties-append fine coarse (f b) (flat_map f bs) (ties-same b.header.id (f b) (own b)) (ties-rising f own (n + 1) bs m.1)
-      (each-weaker (λ x. tablet x ≡ b.header.id) (λ x. Each (Agreeing fine coarse x) (flat_map f bs)) (λ x e. each-weaker (λ y. n + 1 ≤ tablet y) (Agreeing fine coarse x) (λ y k. by_tablet x y (let q = m.0 in omega arith)) (flat_map f bs) (each-above f own (n + 1) bs m.1)) (f b) (own b))
+      (Each-weaker (λ x. tablet x ≡ b.header.id) (λ x. Each (Agreeing fine coarse x) (flat_map f bs)) (λ x e. Each-weaker (λ y. n + 1 ≤ tablet y) (Agreeing fine coarse x) (λ y k. by_tablet x y (let q = m.0 in omega arith)) (flat_map f bs) (each-above f own (n + 1) bs m.1)) (f b) (own b))
 
 -- ---- a map that keeps the test
 

@@ -1,9 +1,11 @@
 -- Laws of the stable sort.
-use Rattle.std.proofs.Common.{◌≡◌, Bool, true, false, cond, List, [], ◌∷◌, ◌++◌, refl, ap, ◌∙◌, arith, inl, inr, ⊎_elim}
-use Rattle.std.specs.List.{filter}
+use Rattle.std.proofs.Common.{◌≡◌, ℕ, zero, suc, Some, Bool, true, false, cond, List, [], ◌∷◌, ◌++◌, refl, ap, ◌∙◌, arith, inl, inr, ⊎_elim}
+use Rattle.std.specs.List.{filter, slice_get}
 use Rattle.std.proofs.lemmas.Bool.{cases_Bool}
+use Rattle.std.proofs.lemmas.Option.{same_Some}
 use Rattle.xc_model.proofs.StableSort.{Exists, put_before, stable_sort, Orders, Each, InOrder}
 use Rattle.xc_model.specs.Kept.{put_after}
+use Rattle.xc_record.proofs.ListLaws.{Each-filter, Each-weaker}
 
 -- the two ways to put an element in don't disturb each other
 pub put-both : {A : Type 0} (le : A → A → Bool) (o : Orders le) (x y : A) (xs : List A) → put_before le x (put_after le y xs) ≡ put_after le y (put_before le x xs)
@@ -14,18 +16,6 @@ put-both le o x y (z ∷ zs) = grind (arith, put-both le o x y zs, o.trans x z y
 pub sort-push : {A : Type 0} (le : A → A → Bool) (o : Orders le) (xs : List A) (y : A) → stable_sort le (xs ++ y ∷ []) ≡ put_after le y (stable_sort le xs)
 sort-push le o [] y = refl
 sort-push le o (x ∷ xs) y = ap (put_before le x) (sort-push le o xs y) ∙ put-both le o x y (stable_sort le xs)
-
-pub each-append : {A : Type 0} (P : A → Type 0) (xs ys : List A) → Each P xs → Each P ys → Each P (xs ++ ys)
-each-append P [] ys h k = k
-each-append P (x ∷ xs) ys h k = (h.0, each-append P xs ys h.1 k)
-
-pub each-filter : {A : Type 0} (P : A → Type 0) (p : A → Bool) (xs : List A) → Each P xs → Each P (filter p xs)
-each-filter P p [] h = tt
-each-filter P p (x ∷ xs) h = elim (p x) as (λ b. Each P (cond b (x ∷ filter p xs) (filter p xs))) [ true ↦ (h.0, each-filter P p xs h.1) | false ↦ each-filter P p xs h.1 ]
-
-pub each-weaker : {A : Type 0} (P Q : A → Type 0) → ((x : A) → P x → Q x) → (xs : List A) → Each P xs → Each Q xs
-each-weaker P Q f [] h = tt
-each-weaker P Q f (x ∷ xs) h = (f x h.0, each-weaker P Q f xs h.1)
 
 pub each-put_before : {A : Type 0} (le : A → A → Bool) (P : A → Type 0) (x : A) (xs : List A) → P x → Each P xs → Each P (put_before le x xs)
 each-put_before le P x [] p h = (p, tt)
@@ -44,7 +34,7 @@ in_order-put le o x [] s = (tt, tt)
 in_order-put le o x (y ∷ ys) s =
     let at : (b : Bool) → le x y ≡ b → InOrder le (cond b (x ∷ y ∷ ys) (y ∷ put_before le x ys)) =
     λ b. elim b as (λ b. le x y ≡ b → InOrder le (cond b (x ∷ y ∷ ys) (y ∷ put_before le x ys))) [
-      | true ↦ λ e. ((e, each-weaker (λ z. le y z ≡ true) (λ z. le x z ≡ true) (λ z. o.trans x y z e) ys s.0), s)
+      | true ↦ λ e. ((e, Each-weaker (λ z. le y z ≡ true) (λ z. le x z ≡ true) (λ z. o.trans x y z e) ys s.0), s)
       | false ↦ λ e. (each-put_before le (λ z. le y z ≡ true) x ys (o.total x y e) s.0, in_order-put le o x ys s.1)
     ]
     in at (le x y) refl
@@ -64,7 +54,7 @@ filter-put_out le p x (y ∷ ys) e = grind (arith, filter-put_out le p x ys e)
 pub filter-put_in : {A : Type 0} (le : A → A → Bool) (o : Orders le) (p : A → Bool) (x : A) (xs : List A) → InOrder le xs → p x ≡ true → filter p (put_before le x xs) ≡ put_before le x (filter p xs)
 filter-put_in le o p x [] s e = grind arith
 filter-put_in le o p x (y ∷ ys) s e =
-    ⊎_elim (λ t. let first : put_before le x (filter p ys) ≡ x ∷ filter p ys = put_before-first le x (filter p ys) (each-filter (λ z. le x z ≡ true) p ys (each-weaker (λ z. le y z ≡ true) (λ z. le x z ≡ true) (λ z. o.trans x y z t) ys s.0)) in grind arith)
+    ⊎_elim (λ t. let first : put_before le x (filter p ys) ≡ x ∷ filter p ys = put_before-first le x (filter p ys) (Each-filter (λ z. le x z ≡ true) p ys (Each-weaker (λ z. le y z ≡ true) (λ z. le x z ≡ true) (λ z. o.trans x y z t) ys s.0)) in grind arith)
     (λ f. grind (arith, filter-put_in le o p x ys s.1 e)) (cases_Bool (le x y))
 
 -- a filter of what is sorted is what the filter leaves, sorted
@@ -92,3 +82,8 @@ exists-left P (x ∷ xs) ys i = ⊎_elim (λ a. inl a) (λ r. inr (exists-left P
 pub exists-right : {A : Type 0} (P : A → Type 0) (xs ys : List A) → Exists P ys → Exists P (xs ++ ys)
 exists-right P [] ys i = i
 exists-right P (x ∷ xs) ys i = inr (exists-right P xs ys i)
+
+pub exists-at : {A : Type 0} (xs : List A) (i : ℕ) (x : A) → slice_get xs i ≡ Some x → Exists (λ y. y ≡ x) xs
+exists-at [] i x e = cc
+exists-at (y ∷ xs) zero x e = inl (same_Some y x e)
+exists-at (y ∷ xs) (suc i) x e = inr (exists-at xs i x e)

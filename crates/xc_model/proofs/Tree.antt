@@ -12,8 +12,8 @@ use Rattle.xc_record.specs.Order.{Progress}
 use Rattle.xc_model.proofs.Placed.{order_after, origin, begun, accepted_under, end_under, order_at, parent_order, ends_from, ends, Placed, placed, owns, owners, is_closed, path, LegalChain, Stops}
 use Rattle.xc_record.specs.Accepted.{AcceptedTablet}
 use Rattle.xc_model.proofs.ValidLogs.{IsBelow, HasParent, Follows, GrowsBy, Covers}
-use Rattle.xc_model.proofs.Sorts.{each-append, each-weaker, each-filter}
 use Rattle.xc_model.proofs.Chain.{Threads}
+use Rattle.xc_record.proofs.ListLaws.{Each-append, Each-filter, Each-weaker}
 
 abbrev pub own : ℕ → AcceptedTablet → Bool
 own h e = owns h e.header
@@ -101,7 +101,7 @@ each-at P (y ∷ ys) x h i = ⊎_elim (λ e. subst P e h.0) (λ r. each-at P ys 
 
 found-push : (done : List AcceptedTablet) (e : AcceptedTablet) → Each (λ d. d.header.id ≢ e.header.id) done → Found done done → Found (done ++ e ∷ []) (done ++ e ∷ [])
 found-push done e n f =
-    each-append (λ x. order_at x.header.id (done ++ e ∷ []) ≡ x.end) done (e ∷ [])
+    Each-append (λ x. order_at x.header.id (done ++ e ∷ []) ≡ x.end) done (e ∷ [])
     (each-itself (λ x. order_at x.header.id (done ++ e ∷ []) ≡ x.end) done (λ x i. order_at-there x.header.id done (e ∷ []) (exists-weaker (λ y. y ≡ x) (λ y. y.header.id ≡ x.header.id) (λ y q. ap (λ (w : AcceptedTablet). w.header.id) q) done i) ∙ each-at (λ x. order_at x.header.id done ≡ x.end) done x f i))
     (order_at-new done e n, tt)
 
@@ -125,9 +125,9 @@ chained-push done t e h is v f c =
           let split : filter (own h) (done ++ e ∷ []) ≡ os ++ e ∷ [] = filter-append (own h) done (e ∷ []) ∙ ap (λ b. os ++ cond b (e ∷ []) []) mine in
           let last : t.header.parent ≡ last_id None os =
           last-link None t.header.parent os c.linked
-          (each-weaker (λ d. ((d.header.parent ≡ t.header.parent) → own h d ≡ false) × (own h d ≡ true)) (λ d. d.header.parent ≢ t.header.parent) (λ d w z. true≢false (sym w.1 ∙ w.0 z)) os (each-both (λ d. (d.header.parent ≡ t.header.parent) → own h d ≡ false) (λ d. own h d ≡ true) os (each-filter (λ d. (d.header.parent ≡ t.header.parent) → own h d ≡ false) (own h) done (v.apart h q)) (each-passes (own h) done)))
+          (Each-weaker (λ d. ((d.header.parent ≡ t.header.parent) → own h d ≡ false) × (own h d ≡ true)) (λ d. d.header.parent ≢ t.header.parent) (λ d w z. true≢false (sym w.1 ∙ w.0 z)) os (each-both (λ d. (d.header.parent ≡ t.header.parent) → own h d ≡ false) (λ d. own h d ≡ true) os (Each-filter (λ d. (d.header.parent ≡ t.header.parent) → own h d ≡ false) (own h) done (v.apart h q)) (each-passes (own h) done)))
           (parent-there done h t.header.parent (v.under h q)) in
-          let orders : parent_order done t.header.parent ≡ end_order origin os = ap (parent_order done) last ∙ orders-here done None origin os (each-filter (λ x. order_at x.header.id done ≡ x.end) (own h) done f) refl in
+          let orders : parent_order done t.header.parent ≡ end_order origin os = ap (parent_order done) last ∙ orders-here done None origin os (Each-filter (λ x. order_at x.header.id done ≡ x.end) (own h) done f) refl in
           record {
             linked = subst (Linked None) (sym split) (linked-push None os e c.linked (ap (λ (w : Header). w.parent) head ∙ last));
             follow = subst (Follow origin) (sym split) (follow-push origin os e t c.follow (is ∙ ap (λ w. end_under w t) orders));
@@ -156,13 +156,13 @@ pub below-from : (done : List AcceptedTablet) (ts : List Tablet) → GrowsBy don
 below-from done [] g b = b
 below-from done (t ∷ ts) g b =
     let e = end_under (parent_order done t.header.parent) t in
-    below-from (done ++ e ∷ []) ts g.1 (each-append Below done (e ∷ []) b (g.0.below, tt))
+    below-from (done ++ e ∷ []) ts g.1 (Each-append Below done (e ∷ []) b (g.0.below, tt))
 
 ids-rise : (p : ℕ) (os : List AcceptedTablet) → Linked (Some p) os → Each Below os → Each (λ e. p < e.header.id) os
 ids-rise p [] l b = tt
 ids-rise p (e ∷ es) l b =
     let first : p < e.header.id = subst (λ w. IsBelow w e.header.id) l.0 b.0 in
-    (first, each-weaker (λ d. e.header.id < d.header.id) (λ d. p < d.header.id) (λ d q. omega arith) es (ids-rise e.header.id es l.1 b.1))
+    (first, Each-weaker (λ d. e.header.id < d.header.id) (λ d. p < d.header.id) (λ d q. omega arith) es (ids-rise e.header.id es l.1 b.1))
 
 last-above : (p : ℕ) (e : AcceptedTablet) (os : List AcceptedTablet) → Each (λ d. p < d.header.id) (e ∷ os) → Some p ≢ last_id (Some e.header.id) os
 last-above p e [] h q = let z : p ≡ e.header.id = cc in let y : p < e.header.id = h.0 in let w : ⊥ = omega arith in w
@@ -192,12 +192,12 @@ stops es h c b v =
     let os = filter (own h) es in
     let Q : Option ℕ → Progress → Type 0 = λ p o. o.split ≡ true → Exists (λ d. (d.header.parent ≡ p) × (owns h d.header ≡ true)) es in
     let child : Q (last_id None os) (end_order origin os) =
-    last-is origin None os Q (λ _. v.root) (each-weaker (λ e. (e.end.split ≡ true → owns h e.header ≡ true → Exists (λ d. (d.header.parent ≡ Some e.header.id) × (owns h d.header ≡ true)) es) × (own h e ≡ true)) (λ e. Q (Some e.header.id) e.end) (λ e w s. w.0 s w.1) os
-    (each-both (λ e. e.end.split ≡ true → owns h e.header ≡ true → Exists (λ d. (d.header.parent ≡ Some e.header.id) × (owns h d.header ≡ true)) es) (λ e. own h e ≡ true) os (each-filter (λ e. e.end.split ≡ true → owns h e.header ≡ true → Exists (λ d. (d.header.parent ≡ Some e.header.id) × (owns h d.header ≡ true)) es) (own h) es v.child) (each-passes (own h) es))) in
+    last-is origin None os Q (λ _. v.root) (Each-weaker (λ e. (e.end.split ≡ true → owns h e.header ≡ true → Exists (λ d. (d.header.parent ≡ Some e.header.id) × (owns h d.header ≡ true)) es) × (own h e ≡ true)) (λ e. Q (Some e.header.id) e.end) (λ e w s. w.0 s w.1) os
+    (each-both (λ e. e.end.split ≡ true → owns h e.header ≡ true → Exists (λ d. (d.header.parent ≡ Some e.header.id) × (owns h d.header ≡ true)) es) (λ e. own h e ≡ true) os (Each-filter (λ e. e.end.split ≡ true → owns h e.header ≡ true → Exists (λ d. (d.header.parent ≡ Some e.header.id) × (owns h d.header ≡ true)) es) (own h) es v.child) (each-passes (own h) es))) in
     false_from_ne_true (end_order origin os).split
     (λ s. exists-each (λ d. d.header.parent ≡ last_id None os) os
     (exists-filter (λ d. (d.header.parent ≡ last_id None os) × (owns h d.header ≡ true)) (λ d. d.header.parent ≡ last_id None os) (own h) (λ d w. (w.1, w.0)) es (child s))
-    (no-child None os c.linked (each-filter Below (own h) es b)))
+    (no-child None os c.linked (Each-filter Below (own h) es b)))
 
 -- the same with places
 pub place-follow : (o : Progress) (es : List AcceptedTablet) (ps : List ℕ) (h : ℕ) → Follow o (filter (own h) es) → Threads o (owners h (placed es ps))
@@ -254,11 +254,11 @@ zeros x [] o l t c p q = tt
 zeros x (y ∷ ys) o l t c p q =
     let here : y.place ≡ 0 = p.0 l.0 in
     let open_ : is_closed y ≡ false = empty-open y o t.0.0 t.0.1 here in
-    (here, zeros y ys y.tablet.end l.1 t.1 open_ (q.0 open_).1 (each-weaker (λ z. is_closed z ≡ false → Each (λ w. w.tablet.header.parent ≡ Some z.tablet.header.id → w.place ≡ 0) (y ∷ ys)) (λ z. is_closed z ≡ false → Each (λ w. w.tablet.header.parent ≡ Some z.tablet.header.id → w.place ≡ 0) ys) (λ z f d. (f d).1) ys q.1))
+    (here, zeros y ys y.tablet.end l.1 t.1 open_ (q.0 open_).1 (Each-weaker (λ z. is_closed z ≡ false → Each (λ w. w.tablet.header.parent ≡ Some z.tablet.header.id → w.place ≡ 0) (y ∷ ys)) (λ z. is_closed z ≡ false → Each (λ w. w.tablet.header.parent ≡ Some z.tablet.header.id → w.place ≡ 0) ys) (λ z f d. (f d).1) ys q.1))
 
 pub legal-chain : (prev : Option ℕ) (o : Progress) (xs : List Placed) → Linked prev (the_ends xs) → Threads o xs → Each (λ x. x.place ≤ length x.tablet.records) xs
     → Each (λ y. is_closed y ≡ false → Each (λ z. z.tablet.header.parent ≡ Some y.tablet.header.id → z.place ≡ 0) xs) xs → LegalChain xs
 legal-chain prev o [] l t w c = tt
 legal-chain prev o (x ∷ xs) l t w c =
-    let rest = each-weaker (λ z. is_closed z ≡ false → Each (λ v. v.tablet.header.parent ≡ Some z.tablet.header.id → v.place ≡ 0) (x ∷ xs)) (λ z. is_closed z ≡ false → Each (λ v. v.tablet.header.parent ≡ Some z.tablet.header.id → v.place ≡ 0) xs) (λ z f d. (f d).1) xs c.1 in
+    let rest = Each-weaker (λ z. is_closed z ≡ false → Each (λ v. v.tablet.header.parent ≡ Some z.tablet.header.id → v.place ≡ 0) (x ∷ xs)) (λ z. is_closed z ≡ false → Each (λ v. v.tablet.header.parent ≡ Some z.tablet.header.id → v.place ≡ 0) xs) (λ z f d. (f d).1) xs c.1 in
     (w.0, ⊎_elim (λ y. inl y) (λ n. inr (zeros x xs x.tablet.end l.1 t.1 n (c.0 n).1 rest)) (cases_Bool (is_closed x)), legal-chain (Some x.tablet.header.id) x.tablet.end xs l.1 t.1 w.1 rest)

@@ -1,6 +1,6 @@
 -- Laws of accepted_tablets.
-use Rattle.std.proofs.Common.{◌≡◌, Bool, true, false, cond, List, [], ◌∷◌, ◌++◌, refl}
-use Rattle.std.specs.Prelude.{fold, if◌then◌else◌, filter}
+use Rattle.std.proofs.Common.{◌≡◌, Bool, true, false, List, [], ◌∷◌, ◌++◌, refl}
+use Rattle.std.specs.Prelude.{fold, if◌then◌else◌}
 pub use Rattle.std.specs.List.{AllByRecursion as Each}
 use Rattle.xc_record.specs.declared.record.Record.{Record}
 use Rattle.xc_record.specs.declared.record.Tablet.{Tablet}
@@ -8,14 +8,7 @@ use Rattle.xc_record.specs.declared.record.Logs.{Logs}
 use Rattle.xc_record.specs.Order.{Progress, after, accepted_from}
 use Rattle.xc_record.specs.Accepted.{AcceptedTablet, accepted_tablets, accepted_tablets_after, accepted_tablet_after, start_after, reached_after}
 use Rattle.xc_record.proofs.OrderLaws.{accepted-accepted}
-
-pub Each-append : {X : Type 0} (P : X → Type 0) (xs ys : List X) → Each P xs → Each P ys → Each P (xs ++ ys)
-Each-append P [] ys h k = k
-Each-append P (x ∷ xs) ys h k = (h.0, Each-append P xs ys h.1 k)
-
-pub Each-filter : {X : Type 0} (P : X → Type 0) (p : X → Bool) (xs : List X) → Each P xs → Each P (filter p xs)
-Each-filter P p [] e = tt
-Each-filter P p (x ∷ xs) e = elim (p x) as (λ c. Each P (cond c (x ∷ filter p xs) (filter p xs))) [ true ↦ (e.0, Each-filter P p xs e.1) | false ↦ Each-filter P p xs e.1 ]
+use Rattle.xc_record.proofs.ListLaws.{Each-append}
 
 pub accepted-reached : (reached : Bool) (p : Progress) (rs : List Record) → accepted_from p (if reached then accepted_from p rs else []) ≡ if reached then accepted_from p rs else []
 accepted-reached true p rs = accepted-accepted p rs

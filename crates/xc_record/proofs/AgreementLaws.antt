@@ -1,34 +1,20 @@
 -- Laws of agreement: logs with no disagreement have no case of any transaction that was applied.
-use Rattle.std.proofs.Common.{◌≡◌, ℕ, Bool, true, false, ◌||◌, List, [], ◌∷◌, ◌++◌, refl, ap, ◌∙◌, subst, arith}
+use Rattle.std.proofs.Common.{◌≡◌, ℕ, Bool, true, false, ◌||◌, List, [], ◌∷◌, refl, ◌∙◌, subst, arith}
 use Rattle.std.proofs.lemmas.Bool.Decides.{nat_tests}
 use Rattle.std.proofs.lemmas.Bool.{eqb-true}
 use Rattle.std.specs.Prelude.{Option, Some, None, flat_map, option_map, ◌==◌}
 use Rattle.std.specs.Option.{option_map_or}
-use Rattle.std.specs.List.{list_any, filter_map, cons_option}
+use Rattle.std.specs.List.{filter_map, cons_option}
 use Rattle.xc_record.specs.declared.record.Kind.{Kind}
 use Rattle.xc_record.specs.declared.record.Kind.TheVariants.{Write, Intent, Apply, Abort, Safe, Split}
 use Rattle.xc_record.specs.declared.record.Record.{Record}
 use Rattle.xc_record.specs.declared.record.Logs.{Logs}
 use Rattle.xc_record.specs.Accepted.{AcceptedTablet, accepted_tablets}
-use Rattle.xc_record.specs.Commits.{applies, applied_txn, applied, commit_of, insert_number, distinct}
+use Rattle.xc_record.specs.Commits.{applies, applied_txn, applied, commit_of}
 use Rattle.xc_record.specs.Agreement.{Disagreement, kind_at, disagreement_on, disagreement}
 use Rattle.xc_record.specs.Lists.{first_some, or_else}
 use Rattle.xc_record.proofs.AcceptedLaws.{Each}
-
-abbrev has : ℕ → List ℕ → Bool
-has n ms = list_any (λ m. m == n) ms
-
-has-insert : (n m : ℕ) (ms : List ℕ) → has n (insert_number m ms) ≡ (m == n || has n ms)
-has-insert n m [] = refl
-has-insert n m (k ∷ ms) = grind (arith, nat_tests, has-insert n m ms)
-
-has-distinct : (n : ℕ) (ms : List ℕ) → has n (distinct ms) ≡ has n ms
-has-distinct n [] = refl
-has-distinct n (m ∷ ms) = has-insert n m (distinct ms) ∙ ap (λ b. m == n || b) (has-distinct n ms)
-
-has-append : (n : ℕ) (xs ys : List ℕ) → has n (xs ++ ys) ≡ (has n xs || has n ys)
-has-append n [] ys = refl
-has-append n (x ∷ xs) ys = grind (arith, has-append n xs ys)
+use Rattle.xc_record.proofs.NumberLaws.{has, has-distinct, has-append}
 
 -- an apply of n names n
 applied-kind : (n c : ℕ) (kind : Kind) (ms : List ℕ) → applies n kind ≡ Some c → has n (cons_option (applied_txn kind) ms) ≡ true

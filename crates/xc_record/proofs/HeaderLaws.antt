@@ -1,17 +1,18 @@
 -- Laws of headers that fit: the tablets that hold a hash form a line from a root down.
-use Rattle.std.proofs.Common.{◌≡◌, ℕ, zero, suc, ◌<◌, ◌≤◌, ◌+◌, Bool, true, false, cond, ◌&&◌, List, [], ◌∷◌, ◌++◌, length, refl, ap, sym, ◌∙◌, subst, arith, zero-add, append_assoc}
+use Rattle.std.proofs.Common.{◌≡◌, ℕ, zero, suc, ◌<◌, ◌≤◌, ◌+◌, true, false, cond, ◌&&◌, List, [], ◌∷◌, ◌++◌, length, refl, ap, sym, ◌∙◌, subst, arith, zero-add, append_assoc}
 use Rattle.std.proofs.lemmas.Bool.Decides.{nat_tests}
 use Rattle.std.proofs.lemmas.Bool.{both_ways, and_parts, eqb-true, leb-true, ltb-true, not-true}
 use Rattle.std.proofs.lemmas.List.{append-nil}
 use Rattle.std.specs.Prelude.{Option, Some, None, filter, slice_get, ◌==◌, nat_le, nat_lt}
 use Rattle.std.specs.Option.{option_map_or}
 use Rattle.std.specs.List.{list_any}
+use Rattle.std.proofs.lemmas.List.Elements.{filter-append}
 use Rattle.xc_record.specs.declared.record.Header.{Header}
 use Rattle.xc_record.specs.declared.rules.Next.{Next}
 use Rattle.xc_record.specs.declared.rules.Next.TheVariants.{RootAt, LeftChild, RightChild}
 use Rattle.xc_record.specs.Hash.{holds}
 use Rattle.xc_record.specs.Headers.{hi_of, after_child, root_fits, is_child_of, fits, next_after, fit_from, headers_fit, parent_fits, splits_off, child_fits}
-use Rattle.xc_record.proofs.AcceptedLaws.{Each, Each-append}
+use Rattle.xc_record.proofs.ListLaws.{Each, Each-append, Each-weaker}
 
 -- the first has the parent q, and each other one has the one before as its parent
 abbrev pub Line : Option ℕ → List Header → Type 0
@@ -31,7 +32,7 @@ abbrev pub Numbered : ℕ → List Header → Type 0
 Numbered n [] = Unit {0}
 Numbered n (h ∷ hs) = (h.id ≡ n) × Numbered (n + 1) hs
 
-Numbered-snoc : (n : ℕ) (hs : List Header) (t : Header) → Numbered n hs → t.id ≡ n + length hs → Numbered n (hs ++ t ∷ [])
+pub Numbered-snoc : (n : ℕ) (hs : List Header) (t : Header) → Numbered n hs → t.id ≡ n + length hs → Numbered n (hs ++ t ∷ [])
 Numbered-snoc n [] t h e = (omega arith, tt)
 Numbered-snoc n (x ∷ hs) t h e = (h.0, Numbered-snoc (n + 1) hs t h.1 (omega arith))
 
@@ -42,10 +43,6 @@ Numbered-at n (x ∷ hs) (suc i) b h e = let k : b.id ≡ n + 1 + i = Numbered-a
 
 abbrev line : ℕ → List Header → List Header
 line hash hs = filter (λ h. holds h hash) hs
-
-filter-snoc : (p : Header → Bool) (hs : List Header) (t : Header) → filter p (hs ++ t ∷ []) ≡ filter p hs ++ filter p (t ∷ [])
-filter-snoc p [] t = refl
-filter-snoc p (h ∷ hs) t = grind (arith, filter-snoc p hs t)
 
 -- no tablet that holds the hash has the parent id
 abbrev Childless : ℕ → ℕ → List Header → Type 0
@@ -76,10 +73,6 @@ ends_line q (h ∷ hs) hash (suc i) b l e s n = elim (holds h hash) as (λ c. Li
   | false ↦ λ l. ends_line q hs hash i b l e s n.1
 ] l
 
-Each-map : {P Q : Header → Type 0} (hs : List Header) → ((h : Header) → P h → Q h) → Each P hs → Each Q hs
-Each-map [] f e = tt
-Each-map (h ∷ hs) f e = (f h e.0, Each-map hs f e.1)
-
 pub slice_get-append : (hs ts : List Header) (i : ℕ) (b : Header) → slice_get hs i ≡ Some b → slice_get (hs ++ ts) i ≡ Some b
 slice_get-append [] ts i b e = cc
 slice_get-append (h ∷ hs) ts zero b e = e
@@ -87,7 +80,7 @@ slice_get-append (h ∷ hs) ts (suc i) b e = slice_get-append hs ts i b e
 
 -- the line of a header more, where it holds the hash only after the line's end
 line-snoc : (q : Option ℕ) (hs : List Header) (hash : ℕ) (t : Header) → Line q (line hash hs) → (holds t hash ≡ true → t.parent ≡ line_end q (line hash hs)) → Line q (line hash (hs ++ t ∷ []))
-line-snoc q hs hash t l after = rw (filter-snoc (λ h. holds h hash) hs t) (elim (holds t hash) as (λ c. (c ≡ true → t.parent ≡ line_end q (line hash hs)) → Line q (line hash hs ++ cond c (t ∷ []) [])) [
+line-snoc q hs hash t l after = rw (filter-append (λ h. holds h hash) hs (t ∷ [])) (elim (holds t hash) as (λ c. (c ≡ true → t.parent ≡ line_end q (line hash hs)) → Line q (line hash hs ++ cond c (t ∷ []) [])) [
   | true ↦ λ after. Line-snoc q (line hash hs) t l (after refl)
   | false ↦ λ after. rw append-nil l
 ] after)
@@ -107,7 +100,7 @@ pub record Fits (before : List Header) (next : Next) : Type 0 where
 -- no child of the parent holds a hash of the child that comes next
 childless : (before : List Header) (hash id : ℕ) (parent t : Header) → parent.id ≡ id → holds t hash ≡ true
     → Each (λ b. b.parent ≡ Some id → b.hi < t.lo) before → Childless parent.id hash before
-childless before hash id parent t same s n = Each-map before (λ b below e. let k : b.hi < t.lo = below (e ∙ ap Some same) in grind (arith, nat_tests)) n
+childless before hash id parent t same s n = Each-weaker _ _ (λ b below e. let k : b.hi < t.lo = below (e ∙ ap Some same) in grind (arith, nat_tests)) before n
 
 within_parent : (hash : ℕ) (parent t : Header) → holds t hash ≡ true → parent.lo ≤ t.lo → t.hi ≤ parent.hi → holds parent hash ≡ true
 within_parent hash parent t s lo hi = grind (arith, nat_tests)
@@ -131,8 +124,8 @@ root_line before hash t l p n = line-snoc None before hash t l (λ s. p ∙ ap (
 pub Fits-root : (before : List Header) (lo : ℕ) (t : Header) → Fits before (RootAt lo) → t.id ≡ length before → t.lo ≤ t.hi → t.parent ≡ None → t.lo ≡ lo → Fits (before ++ t ∷ []) (RootAt (t.hi + 1))
 Fits-root before lo t f i r p e = record {
   numbered = Numbered-snoc 0 before t f.numbered (i ∙ sym (zero-add (length before)));
-  lines = λ hash. root_line before hash t (f.lines hash) p (Each-map before (λ b below. let k : b.hi < lo = below in omega arith) f.awaited);
-  awaited = Each-append _ before (t ∷ []) (Each-map before (λ b below. let k : b.hi < lo = below in omega arith) f.awaited) (omega arith, tt);
+  lines = λ hash. root_line before hash t (f.lines hash) p (Each-weaker _ _ (λ b below. let k : b.hi < lo = below in omega arith) before f.awaited);
+  awaited = Each-append _ before (t ∷ []) (Each-weaker _ _ (λ b below. let k : b.hi < lo = below in omega arith) before f.awaited) (omega arith, tt);
 }
 
 no_child : (hs : List Header) (id : ℕ) → list_any (is_child_of id) hs ≡ false → Each (λ b. b.parent ≡ Some id → ⊥) hs
@@ -143,9 +136,9 @@ pub Fits-left : (before : List Header) (id : ℕ) (parent t : Header) → Number
     → list_any (is_child_of id) before ≡ false → slice_get before id ≡ Some parent → t.lo ≡ parent.lo → t.hi < parent.hi → Fits (before ++ t ∷ []) (RightChild id (t.hi + 1) (hi_of before id))
 Fits-left before id parent t m l i r p n e lo hi = record {
   numbered = Numbered-snoc 0 before t m (i ∙ sym (zero-add (length before)));
-  lines = λ hash. child_line before hash id parent t m (l hash) e p (omega arith) (omega arith) (Each-map before (λ b none is. absurd (none is)) (no_child before id n));
+  lines = λ hash. child_line before hash id parent t m (l hash) e p (omega arith) (omega arith) (Each-weaker _ _ (λ b none is. absurd (none is)) before (no_child before id n));
   awaited = (
-    Each-append _ before (t ∷ []) (Each-map before (λ b none is. absurd (none is)) (no_child before id n)) (λ is. omega arith, tt),
+    Each-append _ before (t ∷ []) (Each-weaker _ _ (λ b none is. absurd (none is)) before (no_child before id n)) (λ is. omega arith, tt),
     (parent, slice_get-append before (t ∷ []) id parent e, omega arith, rw e refl),
   );
 }
@@ -158,7 +151,7 @@ Fits-right before id lo hi t f i p el eh =
     record {
       numbered = Numbered-snoc 0 before t f.numbered (i ∙ sym (zero-add (length before)));
       lines = λ hash. child_line before hash id parent t f.numbered (f.lines hash) f.awaited.1.1 p (omega arith) (omega arith)
-          (Each-map before (λ b below is. let k : b.hi < lo = below is in omega arith) f.awaited.0);
+          (Each-weaker _ _ (λ b below is. let k : b.hi < lo = below is in omega arith) before f.awaited.0);
       awaited = tt;
     }
 
@@ -213,19 +206,21 @@ Fits-snoc before next t f e = go t.parent refl (and_parts _ _ rest.1)
     go None p h = root_fits-snoc before next t f (eqb-true _ _ rest.0) (leb-true _ _ h.0) p h.1
     go (Some id) p h = child_fits-snoc before next id t f (eqb-true _ _ rest.0) (leb-true _ _ h.0) p h.1
 
-fit_from-lines : (before : List Header) (next : Next) (hs : List Header) → Fits before next → fit_from before next hs ≡ true → (hash : ℕ) → Line None (line hash (before ++ hs))
-fit_from-lines before next [] f e hash = rw append-nil (f.lines hash)
-fit_from-lines before next (h ∷ hs) f e hash =
-    rw (← append_assoc before (h ∷ []) hs) (fit_from-lines (before ++ h ∷ []) (next_after before next h h.parent) hs (Fits-snoc before next h f (and_parts _ _ e).0) (and_parts _ _ e).1 hash)
-
 -- before the first header
 pub Fits-none : Fits [] (RootAt 0)
 Fits-none = record { numbered = tt; lines = λ hash. tt; awaited = tt }
 
--- the tablets that hold a hash form a line from a root down
-pub headers_fit-line : (hs : List Header) → headers_fit hs ≡ true → (hash : ℕ) → Line None (line hash hs)
+abbrev pub FitsAll : List Header → Type 0
+FitsAll hs = (next : Next) × Fits hs next
+
+fit_from-all : (before : List Header) (next : Next) (hs : List Header) → Fits before next → fit_from before next hs ≡ true → FitsAll (before ++ hs)
+fit_from-all before next [] f e = subst FitsAll (sym (append-nil before)) (next, f)
+fit_from-all before next (h ∷ hs) f e =
+    subst FitsAll (append_assoc before (h ∷ []) hs) (fit_from-all (before ++ h ∷ []) (next_after before next h h.parent) hs (Fits-snoc before next h f (and_parts _ _ e).0) (and_parts _ _ e).1)
+
+pub headers_fit-all : (hs : List Header) → headers_fit hs ≡ true → FitsAll hs
 unfolding headers_fit
-headers_fit-line hs e hash = fit_from-lines [] (RootAt 0) hs Fits-none e hash
+headers_fit-all hs e = fit_from-all [] (RootAt 0) hs Fits-none e
 
 -- a child's parent stands before it
 pub parent_stands : (before : List Header) (next : Next) (t : Header) (id : ℕ) → Fits before next → fits before next t ≡ true → t.parent ≡ Some id → (parent : Header) × (slice_get before id ≡ Some parent)

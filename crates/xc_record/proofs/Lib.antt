@@ -1,6 +1,8 @@
 pub mod WorkedLogs
-mod WorkedRows
+pub mod WorkedRows
 mod WorkedSteps
+pub mod ListLaws
+pub mod NumberLaws
 pub mod OrderLaws
 pub mod AcceptedLaws
 pub mod SafeLaws
@@ -8,3 +10,4 @@ pub mod HeaderLists
 pub mod HeaderLaws
 pub mod RowLaws
 pub mod AgreementLaws
+pub mod OpsLaws

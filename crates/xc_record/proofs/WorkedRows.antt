@@ -101,7 +101,7 @@ equal-safe : safe_time with_equal_commits (6 ∷ []) ≡ 15
 unfolding computed
 equal-safe = refl
 
-valid-two : is_valid (two_tablets 14 15) ≡ true
+pub valid-two : is_valid (two_tablets 14 15) ≡ true
 unfolding computed
 valid-two = refl
 

@@ -1,8 +1,7 @@
 -- Tablets with the records of entries behind their own.
 use Rattle.std.proofs.Common.{◌≡◌, ℕ, zero, suc, ◌+◌, ◌<◌, ◌==◌, true, false, nat_lt, List, [], ◌∷◌, ◌++◌, length, Option, Some, None, slice_get, slice_set, refl, sym, ap, ◌∙◌, append_assoc, arith, sum_by}
-use Rattle.std.proofs.lemmas.Bool.{and_parts}
-use Rattle.std.proofs.lemmas.Bool.Decides.{nat_tests}
-use Rattle.std.proofs.lemmas.List.{length_push}
+use Rattle.std.proofs.lemmas.Bool.{and_parts, ltb-true, ne_eqb, eq-eqb}
+use Rattle.std.proofs.lemmas.List.{length_push, append-nil}
 use Rattle.std.proofs.lemmas.List.Sums.{sum_by-cons, sum_by_push}
 use Rattle.std.specs.List.{list_all}
 use Rattle.std.specs.Option.{option_map_or}
@@ -13,7 +12,7 @@ use Rattle.xc_record.specs.declared.record.Tablet.{Tablet}
 use Rattle.xc_text.specs.Spelled.{Entry, given}
 use Rattle.xc_text.proofs.ValidParts.{place}
 use Rattle.xc_text.proofs.ValidLaws.{records_of, operations_of, sums}
-use Rattle.xc_text.proofs.PrintedLaws.{append-nil, part}
+use Rattle.xc_text.proofs.PrintedLaws.{part}
 use Rattle.xc_text.proofs.PrintedEnds.{bares}
 
 -- the first tablet has number n
@@ -24,20 +23,11 @@ filled n es (t ∷ ts) = part t.header (t.records ++ given n es) ∷ filled (n +
 abbrev pub all_known : ℕ → List Entry → Type 0
 all_known count es = list_all (λ e. nat_lt e.id count) es ≡ true
 
-pub lt_of : (a b : ℕ) → nat_lt a b ≡ true → a < b
-lt_of a b h = grind (arith, nat_tests)
-
-differs : (a b : ℕ) → a < b → (a == b) ≡ false
-differs a b h = grind (arith, nat_tests)
-
-same : (a b : ℕ) → a ≡ b → (a == b) ≡ true
-same a b h = grind (arith, nat_tests)
-
 given_other : (id : ℕ) (e : Entry) (es : List Entry) → (e.id == id) ≡ false → given id (e ∷ es) ≡ given id es
 given_other id e es h = rw h refl
 
 pub given_same : (id : ℕ) (e : Entry) (es : List Entry) → e.id ≡ id → given id (e ∷ es) ≡ e.item ∷ given id es
-given_same id e es h = rw (same e.id id h) refl
+given_same id e es h = rw (eq-eqb e.id id h) refl
 
 pub filled_none : (n : ℕ) (ts : List Tablet) → filled n [] ts ≡ ts
 filled_none n [] = refl
@@ -47,7 +37,7 @@ filled_none n (t ∷ ts) = ap (λ rs. part t.header rs ∷ filled (n + 1) [] ts)
 filled_past : (n : ℕ) (e : Entry) (es : List Entry) (ts : List Tablet) → e.id < n → filled n (e ∷ es) ts ≡ filled n es ts
 filled_past n e es [] l = refl
 filled_past n e es (t ∷ ts) l =
-    ap (λ rs. part t.header (t.records ++ rs) ∷ filled (n + 1) (e ∷ es) ts) (given_other n e es (differs e.id n l))
+    ap (λ rs. part t.header (t.records ++ rs) ∷ filled (n + 1) (e ∷ es) ts) (given_other n e es (ne_eqb e.id n (λ same. omega arith)))
     ∙ ap (λ us. part t.header (t.records ++ given n es) ∷ us) (filled_past (n + 1) e es ts (omega arith))
 
 with_later : (j : ℕ) (r : Record) (t : Tablet) (ts : List Tablet) → with_record (suc j) r (t ∷ ts) ≡ t ∷ with_record j r ts
@@ -56,9 +46,6 @@ with_later j r t ts = by (slice_get ts j)
     by : (o : Option Tablet) → option_map_or (λ u. slice_set (t ∷ ts) (suc j) (grown u r)) o (t ∷ ts) ≡ t ∷ option_map_or (λ u. slice_set ts j (grown u r)) o ts
     by None = refl
     by (Some u) = refl
-
-above : (a b : ℕ) → b < a → (a == b) ≡ false
-above a b h = grind (arith, nat_tests)
 
 -- the first entry may be put in before the others
 filled_at : (n k : ℕ) (e : Entry) (es : List Entry) (ts : List Tablet) → e.id ≡ n + k → k < length ts → filled n es (with_record k e.item ts) ≡ filled n (e ∷ es) ts
@@ -71,7 +58,7 @@ filled_at n zero e es (t ∷ ts) is l =
 filled_at n (suc j) e es (t ∷ ts) is l =
     ap (filled n es) (with_later j e.item t ts)
     ∙ ap (λ us. part t.header (t.records ++ given n es) ∷ us) (filled_at (n + 1) j e es ts (omega arith) (omega arith))
-    ∙ ap (λ rs. part t.header (t.records ++ rs) ∷ filled (n + 1) (e ∷ es) ts) (sym (given_other n e es (above e.id n (omega arith))))
+    ∙ ap (λ rs. part t.header (t.records ++ rs) ∷ filled (n + 1) (e ∷ es) ts) (sym (given_other n e es (ne_eqb e.id n (λ same. omega arith))))
 
 pub filled_entry : (e : Entry) (es : List Entry) (ts : List Tablet) → e.id < length ts → filled 0 es (with_record e.id e.item ts) ≡ filled 0 (e ∷ es) ts
 filled_entry e es ts l = filled_at 0 e.id e es ts (omega arith) l
@@ -129,7 +116,7 @@ pub records_filled : (es : List Entry) (ts : List Tablet) → all_known (length 
 records_filled [] ts k = ap records_of (filled_none 0 ts) ∙ omega arith
 records_filled (e ∷ es) ts k =
     let p = and_parts (nat_lt e.id (length ts)) (list_all (λ x. nat_lt x.id (length ts)) es) k in
-    let l = lt_of e.id (length ts) p.0 in
+    let l = ltb-true e.id (length ts) p.0 in
     let here : records_of (with_record e.id e.item ts) ≡ records_of ts + 1 = sum_with (λ t. length t.records) e.id e.item ts 1 (λ t. length_push t.records e.item) l in
     let more = records_filled es (with_record e.id e.item ts) (known_with e es ts p.1) in
     ap records_of (sym (filled_entry e es ts l)) ∙ omega arith
@@ -138,7 +125,7 @@ pub operations_filled : (es : List Entry) (ts : List Tablet) → all_known (leng
 operations_filled [] ts k = ap operations_of (filled_none 0 ts) ∙ omega arith
 operations_filled (e ∷ es) ts k =
     let p = and_parts (nat_lt e.id (length ts)) (list_all (λ x. nat_lt x.id (length ts)) es) k in
-    let l = lt_of e.id (length ts) p.0 in
+    let l = ltb-true e.id (length ts) p.0 in
     let here : operations_of (with_record e.id e.item ts) ≡ operations_of ts + ops_in e.item.kind =
     sum_with (λ t. sum_by (λ q. ops_in q.kind) t.records) e.id e.item ts (ops_in e.item.kind) (λ t. sum_by_push (λ q. ops_in q.kind) t.records e.item) l in
     let more = operations_filled es (with_record e.id e.item ts) (known_with e es ts p.1) in

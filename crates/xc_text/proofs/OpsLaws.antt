@@ -2,6 +2,7 @@
 use Rattle.std.proofs.Common.{◌≡◌, ℕ, Bool, true, false, List, [], ◌∷◌, ◌++◌, length, Option, Some, None, Result, Ok, Err, is_some, refl, sym, ap, ◌∙◌, append_assoc, option_and_then, arith}
 use Rattle.std.specs.List.{list_all}
 use Rattle.std.specs.Option.{option_map}
+use Rattle.std.proofs.lemmas.List.{append-nil}
 use Rattle.xc_record.specs.declared.record.Op.{Op}
 use Rattle.xc_text.specs.declared.kind.LogKind.{LogKind}
 use Rattle.xc_text.specs.declared.kind.LogKind.TheVariants.{Form, Key}
@@ -94,10 +95,6 @@ seen_bad_key seen w ws all op h is bad some = by (all_ops ws) refl
     by (Some ops) left = seen_bad seen w ws all op h is bad (Some ops) left
 
 -- ---- the end of the words
-
-append-nil : (xs : List Op) → xs ++ [] ≡ xs
-append-nil [] = refl
-append-nil (x ∷ xs) = ap (λ ys. x ∷ ys) (append-nil xs)
 
 no_ops : (all : List (List ℕ)) → all_ops all ≡ Some [] → ops_of all ≡ None
 no_ops [] h = refl

@@ -1,7 +1,6 @@
 -- The rules that a record's line meets, and the ends of a text.
 use Rattle.std.proofs.Common.{◌≡◌, ℕ, ◌+◌, ◌-◌, ◌≤◌, ◌==◌, Bool, true, false, ◌&&◌, not, nat_le, nat_lt, List, [], ◌∷◌, ◌++◌, length, map, flat_map, Some, None, is_some, slice_get, if◌then◌else◌, refl, ap, ◌∙◌, codes, arith}
-use Rattle.std.proofs.lemmas.Bool.{and_parts}
-use Rattle.std.proofs.lemmas.Bool.Decides.{nat_tests}
+use Rattle.std.proofs.lemmas.Bool.{and_parts, eqb-true}
 use Rattle.std.specs.List.{list_all, list_any}
 use Rattle.xc_base.specs.Words.{split_on}
 use Rattle.xc_record.specs.Order.{is_split}
@@ -21,7 +20,6 @@ use Rattle.xc_text.specs.Printed.{header_text}
 use Rattle.xc_text.proofs.StepLaws.{entry_in_place, end_in_place}
 use Rattle.xc_text.proofs.ValidParts.{ends_split, split_off_is}
 use Rattle.xc_text.proofs.ValidLaws.{bare}
-use Rattle.xc_text.proofs.PrintedHeaders.{eq_of}
 use Rattle.xc_text.proofs.PrintedLines.{EntryFits}
 use Rattle.xc_text.proofs.PrintedLaws.{Gives, back, step_is, at}
 
@@ -46,7 +44,7 @@ ends_in_split (r ∷ []) f = by (is_split r.kind) f
 ends_in_split (r ∷ (x ∷ xs)) f = by (λ g. ends_in_split (x ∷ xs) g) (is_split r.kind) f
   where
     by : (ends_fit true (x ∷ xs) ≡ true → ends_split (x ∷ xs) ≡ true) → (t : Bool) → (if t then (length (x ∷ xs) == 0) else ends_fit true (x ∷ xs)) ≡ true → ends_split (x ∷ xs) ≡ true
-    by more true g = let e = eq_of (length (x ∷ xs)) 0 g in absurd (omega arith)
+    by more true g = let e = eqb-true (length (x ∷ xs)) 0 g in absurd (omega arith)
     by more false g = more g
 
 not_orphaned_by : (b : Bool) (rs : List Record) → ends_fit b rs ≡ true → (b && not (ends_split rs)) ≡ false
@@ -87,13 +85,6 @@ headers_text (t ∷ ts) = ap (λ rest. header_text t.header ++ rest) (headers_te
 pub bares_are : (ts : List Tablet) → map bare (headers_of ts) ≡ bares ts
 bares_are [] = refl
 bares_are (t ∷ ts) = ap (λ rest. bare t.header ∷ rest) (bares_are ts)
-
-pub le_of : (a b : ℕ) → nat_le a b ≡ true → a ≤ b
-le_of a b h = grind (arith, nat_tests)
-
-pub length_headers : (ts : List Tablet) → length (headers_of ts) ≡ length ts
-length_headers [] = refl
-length_headers (t ∷ ts) = let e = length_headers ts in omega arith
 
 pub rest_of : (a b : ℕ) → a ≤ b → b ≡ a + (b - a)
 rest_of a b h = omega arith

@@ -1,56 +1,35 @@
 -- The numbers of headers that fit are within their ranges.
-use Rattle.std.proofs.Common.{◌≡◌, ℕ, zero, suc, ◌+◌, ◌<◌, ◌≤◌, ◌==◌, Bool, true, false, ◌&&◌, not, nat_le, nat_lt, List, [], ◌∷◌, ◌++◌, length, Option, Some, None, slice_get, if◌then◌else◌, refl, sym, ap, ◌∙◌, arith}
-use Rattle.std.proofs.lemmas.Bool.{and_parts}
-use Rattle.std.proofs.lemmas.Bool.Decides.{nat_tests}
+use Rattle.std.proofs.Common.{◌≡◌, ℕ, ◌+◌, ◌<◌, ◌≤◌, ◌==◌, Bool, true, false, ◌&&◌, not, nat_le, nat_lt, List, [], ◌∷◌, ◌++◌, length, Option, Some, None, slice_get, if◌then◌else◌, refl, sym, ap, ◌∙◌, arith}
+use Rattle.std.proofs.lemmas.Bool.{and_parts, lt-ltb, ltb-true, leb-true, eqb-true}
 use Rattle.std.proofs.lemmas.List.{length_push}
 use Rattle.std.proofs.lemmas.List.Folds.{list_all-append}
 use Rattle.std.specs.List.{list_all, list_any}
 use Rattle.std.specs.Option.{option_map_or}
+use Rattle.std.proofs.lemmas.Option.{slice_get_within}
 use Rattle.xc_record.specs.Headers.{is_child_of, splits_off, parent_fits, fits, hi_of, next_after, fit_from, children, with_next}
 use Rattle.xc_record.specs.declared.rules.Next.{Next}
 use Rattle.xc_record.specs.declared.rules.Next.TheVariants.{RootAt, LeftChild, RightChild}
 use Rattle.xc_record.specs.declared.record.Header.{Header}
 use Rattle.xc_text.specs.Lines.{header_numbers_fit}
-
-pub eq_of : (a b : ℕ) → (a == b) ≡ true → a ≡ b
-eq_of a b h = grind (arith, nat_tests)
-
-pub le_of : (a b : ℕ) → nat_le a b ≡ true → a ≤ b
-le_of a b h = grind (arith, nat_tests)
-
-pub lt_of : (a b : ℕ) → nat_lt a b ≡ true → a < b
-lt_of a b h = grind (arith, nat_tests)
-
-pub lt_test : (a b : ℕ) → a < b → nat_lt a b ≡ true
-lt_test a b h = grind (arith, nat_tests)
+use Rattle.xc_record.proofs.ListLaws.{all-at}
 
 -- ---- what stands in a list
-
-got_within : (hs : List Header) (i : ℕ) (h : Header) → slice_get hs i ≡ Some h → i < length hs
-got_within [] i h e = cc
-got_within (x ∷ hs) zero h e = omega arith
-got_within (x ∷ hs) (suc n) h e = let k = got_within hs n h e in omega arith
-
-got_all : (p : Header → Bool) (hs : List Header) (i : ℕ) (h : Header) → list_all p hs ≡ true → slice_get hs i ≡ Some h → p h ≡ true
-got_all p [] i h a e = cc
-got_all p (x ∷ hs) zero h a e = let q = and_parts (p x) (list_all p hs) a in let same : x ≡ h = cc in ap p (sym same) ∙ q.0
-got_all p (x ∷ hs) (suc n) h a e = got_all p hs n h (and_parts (p x) (list_all p hs) a).1 e
 
 -- ---- roots end at 65535
 
 root_cases : (before : List Header) (lo : ℕ) (h : Header) (hs : List Header) → nat_le h.lo h.hi ≡ true → (parent : Option ℕ) → parent_fits before (RootAt lo) h parent ≡ true
     → (parent ≡ None → h.hi + 1 ≤ 65536) → lo ≤ 65536
 root_cases before lo h hs o None f more =
-    let e : h.lo ≡ lo = eq_of h.lo lo f in let l : h.lo ≤ h.hi = le_of h.lo h.hi o in let k : h.hi + 1 ≤ 65536 = more refl in omega arith
-root_cases before lo h hs o (Some id) f more = let e : lo ≡ 65536 = eq_of lo 65536 (and_parts (lo == 65536) (splits_off before id h) f).0 in omega arith
+    let e : h.lo ≡ lo = eqb-true h.lo lo f in let l : h.lo ≤ h.hi = leb-true h.lo h.hi o in let k : h.hi + 1 ≤ 65536 = more refl in omega arith
+root_cases before lo h hs o (Some id) f more = let e : lo ≡ 65536 = eqb-true lo 65536 (and_parts (lo == 65536) (splits_off before id h) f).0 in omega arith
 
 fits_order : (before : List Header) (next : Next) (h : Header) → fits before next h ≡ true → (h.id ≡ length before) × (nat_le h.lo h.hi ≡ true) × (parent_fits before next h h.parent ≡ true)
 fits_order before next h f =
     let p = and_parts (h.id == length before) (nat_le h.lo h.hi && parent_fits before next h h.parent) f in
-    let q = and_parts (nat_le h.lo h.hi) (parent_fits before next h h.parent) p.1 in (eq_of h.id (length before) p.0, q.0, q.1)
+    let q = and_parts (nat_le h.lo h.hi) (parent_fits before next h h.parent) p.1 in (eqb-true h.id (length before) p.0, q.0, q.1)
 
 pub root_within : (before : List Header) (lo : ℕ) (hs : List Header) → fit_from before (RootAt lo) hs ≡ true → lo ≤ 65536
-root_within before lo [] f = let e = eq_of lo 65536 f in omega arith
+root_within before lo [] f = let e = eqb-true lo 65536 f in omega arith
 root_within before lo (h ∷ hs) f =
     let p = and_parts (fits before (RootAt lo) h) (fit_from (before ++ h ∷ []) (next_after before (RootAt lo) h h.parent) hs) f in
     let o = fits_order before (RootAt lo) h p.0 in
@@ -80,16 +59,16 @@ Splits before id h = (id < 64) × (h.hi < 65536) × (hi_of before id < 65536)
 splits_cases : (before : List Header) (id : ℕ) (h : Header) → bounded before ≡ true → length before ≤ 64 → (o : Option Header) → slice_get before id ≡ o → option_map_or (λ parent. h.lo == parent.lo && nat_lt h.hi parent.hi) o false ≡ true → Splits before id h
 splits_cases before id h b l None e f = cc
 splits_cases before id h b l (Some parent) e f =
-    let less : h.hi < parent.hi = lt_of h.hi parent.hi (and_parts (h.lo == parent.lo) (nat_lt h.hi parent.hi) f).1 in
-    let top : parent.hi < 65536 = lt_of parent.hi 65536 (got_all (λ x. nat_lt x.hi 65536) before id parent b e) in
-    let within = got_within before id parent e in
+    let less : h.hi < parent.hi = ltb-true h.hi parent.hi (and_parts (h.lo == parent.lo) (nat_lt h.hi parent.hi) f).1 in
+    let top : parent.hi < 65536 = ltb-true parent.hi 65536 (all-at (λ x. nat_lt x.hi 65536) before id parent b e) in
+    let within = slice_get_within before id parent e in
     let is : hi_of before id ≡ parent.hi = rw e refl in (omega arith, omega arith, omega arith)
 
 splits : (before : List Header) (id : ℕ) (h : Header) → bounded before ≡ true → length before ≤ 64 → splits_off before id h ≡ true → Splits before id h
 splits before id h b l f = splits_cases before id h b l (slice_get before id) refl (and_parts (not (list_any (is_child_of id) before)) _ f).1
 
 left_fitted : (before : List Header) (id : ℕ) (h : Header) → Splits before id h → (next : Next) → next_after before next h (Some id) ≡ RightChild id (h.hi + 1) (hi_of before id) → Fitted before next h (Some id)
-left_fitted before id h s next e = record { hi = s.1; parents = lt_test id 64 s.0; after = rw e (s.0, s.2) }
+left_fitted before id h s next e = record { hi = s.1; parents = lt-ltb id 64 s.0; after = rw e (s.0, s.2) }
 
 fitted : (before : List Header) (next : Next) (h : Header) (hs : List Header) (parent : Option ℕ) → bounded before ≡ true → length before ≤ 64 → NextFits next → parent_fits before next h parent ≡ true
     → fit_from (before ++ h ∷ []) (next_after before next h parent) hs ≡ true → Fitted before next h parent
@@ -101,10 +80,10 @@ fitted before LeftChild h hs (Some id) b l n f rest = left_fitted before id h (s
 fitted before (RightChild p lo hi) h hs (Some id) b l n f rest =
     let q = and_parts (id == p) (h.lo == lo && h.hi == hi) f in
     let r = and_parts (h.lo == lo) (h.hi == hi) q.1 in
-    let e : id ≡ p = eq_of id p q.0 in
-    let g : h.hi ≡ hi = eq_of h.hi hi r.1 in
+    let e : id ≡ p = eqb-true id p q.0 in
+    let g : h.hi ≡ hi = eqb-true h.hi hi r.1 in
     let low : id < 64 = let k = n.0 in omega arith in
-    record { hi = let k = n.1 in omega arith; parents = lt_test id 64 low; after = tt }
+    record { hi = let k = n.1 in omega arith; parents = lt-ltb id 64 low; after = tt }
 
 pub all_small : (before : List Header) (next : Next) (hs : List Header) → bounded before ≡ true → NextFits next → length before + length hs ≤ 64 → fit_from before next hs ≡ true → list_all header_numbers_fit hs ≡ true
 all_small before next [] b n l f = refl
@@ -113,12 +92,12 @@ all_small before next (h ∷ hs) b n l f =
     let o = fits_order before next h p.0 in
     let few : length before ≤ 64 = omega arith in
     let t = fitted before next h hs h.parent b few n o.2 p.1 in
-    let hi : nat_lt h.hi 65536 ≡ true = lt_test h.hi 65536 t.hi in
-    let order : h.lo ≤ h.hi = le_of h.lo h.hi o.1 in
+    let hi : nat_lt h.hi 65536 ≡ true = lt-ltb h.hi 65536 t.hi in
+    let order : h.lo ≤ h.hi = leb-true h.lo h.hi o.1 in
     let top : h.hi < 65536 = t.hi in
     let number : h.id ≡ length before = o.0 in
-    let id : nat_lt h.id 64 ≡ true = lt_test h.id 64 (omega arith) in
-    let lo : nat_lt h.lo 65536 ≡ true = lt_test h.lo 65536 (omega arith) in
+    let id : nat_lt h.id 64 ≡ true = lt-ltb h.id 64 (omega arith) in
+    let lo : nat_lt h.lo 65536 ≡ true = lt-ltb h.lo 65536 (omega arith) in
     let more : length (before ++ h ∷ []) ≡ length before + 1 = length_push before h in
     let longer : length (before ++ h ∷ []) + length hs ≤ 64 = omega arith in
     let all : bounded (before ++ h ∷ []) ≡ true = list_all-append (λ x. nat_lt x.hi 65536) before (h ∷ []) ∙ rw (b, hi) refl in

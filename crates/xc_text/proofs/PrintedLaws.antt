@@ -1,9 +1,10 @@
 -- The header lines of valid logs are read, and a record that fits its tablet breaks no rule.
-use Rattle.std.proofs.Common.{◌≡◌, ℕ, ◌+◌, ◌^◌, ◌<◌, ◌≤◌, ◌==◌, Bool, true, false, ◌&&◌, nat_le, nat_lt, List, [], ◌∷◌, ◌++◌, length, map, flat_map, Option, Some, None, Ok, if◌then◌else◌, refl, sym, ap, subst, ◌∙◌, append_assoc, arith}
-use Rattle.std.proofs.lemmas.Bool.{and_parts}
+use Rattle.std.proofs.Common.{◌≡◌, ℕ, ◌+◌, ◌^◌, ◌≤◌, ◌==◌, Bool, true, false, ◌&&◌, nat_le, nat_lt, List, [], ◌∷◌, ◌++◌, length, map, flat_map, Option, Some, None, Ok, if◌then◌else◌, refl, sym, ap, subst, ◌∙◌, append_assoc, arith}
+use Rattle.std.proofs.lemmas.Bool.{and_parts, eqb-true}
 use Rattle.std.proofs.lemmas.Bool.Decides.{nat_tests}
 use Rattle.std.specs.List.{list_all}
 use Rattle.std.specs.Option.{option_map_or}
+use Rattle.std.proofs.lemmas.List.{append-nil}
 use Rattle.xc_base.specs.Names.{is_key, is_value}
 use Rattle.xc_base.specs.Words.{split_on}
 use Rattle.xc_record.specs.Hash.{hash_of, holds}
@@ -30,7 +31,7 @@ use Rattle.xc_text.specs.Printed.{header_text}
 use Rattle.xc_text.proofs.StepLaws.{lines_more}
 use Rattle.xc_text.proofs.ValidParts.{has_ops, ends_split}
 use Rattle.xc_text.proofs.ValidLaws.{bare}
-use Rattle.xc_text.proofs.PrintedHeaders.{children_all, eq_of}
+use Rattle.xc_text.proofs.PrintedHeaders.{children_all}
 use Rattle.xc_text.proofs.PrintedLines.{HeaderSmall, header_bytes, header_line, header_is}
 
 -- from this reading on, the bytes give the logs
@@ -53,10 +54,6 @@ headers_bare (h ∷ hs) = ap (λ rest. h ∷ rest) (headers_bare hs)
 bare_push : (hs : List Header) (h : Header) → map bare hs ++ bare h ∷ [] ≡ map bare (hs ++ h ∷ [])
 bare_push [] h = refl
 bare_push (x ∷ hs) h = ap (λ rest. bare x ∷ rest) (bare_push hs h)
-
-pub append-nil : {A : Type 0} (xs : List A) → xs ++ [] ≡ xs
-append-nil [] = refl
-append-nil (x ∷ xs) = ap (λ rest. x ∷ rest) (append-nil xs)
 
 abbrev pub at : Stage → List Tablet → Next → ℕ → ℕ → Reading
 at stage ts next records operations = record { tablets = ts; next = next; stage = stage; records_left = records; operations_left = operations }
@@ -125,7 +122,7 @@ split_good hs h place left right small (Some pair) e f =
     let r = small_parts pair.1 all.1 in
     let p = and_parts (place == pair.1.lo) (left == pair.0.id && right == pair.1.id) f in
     let q = and_parts (left == pair.0.id) (right == pair.1.id) p.1 in
-    rw (eq_of place pair.1.lo p.0, eq_of left pair.0.id q.0, eq_of right pair.1.id q.1) (rw (r.lo, l.id, r.id) refl)
+    rw (eqb-true place pair.1.lo p.0, eqb-true left pair.0.id q.0, eqb-true right pair.1.id q.1) (rw (r.lo, l.id, r.id) refl)
 
 pub kind_good : (hs : List Header) (h : Header) (k : Kind) → list_all header_numbers_fit hs ≡ true → kind_fits h (children hs h.id) k ≡ true → KindGood hs h k
 kind_good hs h (Write ops) small f = let g = ops_good h ops f in record { numbers = refl; names = g.2; some = g.0; few = g.1; range = g.3 }
@@ -136,12 +133,6 @@ kind_good hs h (Abort txn) small f = record { numbers = f; names = refl; some = 
 kind_good hs h (Safe value) small f = record { numbers = f; names = refl; some = refl; few = refl; range = refl }
 kind_good hs h (Split place left right) small f = record { numbers = split_good hs h place left right small (children hs h.id) refl f; names = refl; some = refl; few = refl; range = f }
 
-pub not_le : (a b : ℕ) → b < a → nat_le a b ≡ false
-not_le a b h = grind (arith, nat_tests)
-
-pub not_lt : (a b : ℕ) → b ≤ a → nat_lt a b ≡ false
-not_lt a b h = grind (arith, nat_tests)
-
 pub not_zero : (a : ℕ) → 1 ≤ a → (a == 0) ≡ false
 not_zero a h = grind (arith, nat_tests)
 
@@ -151,12 +142,12 @@ no_split_yet b [] r left f = refl
 no_split_yet b (q ∷ []) r left f = by (is_split q.kind) f
   where
     by : (t : Bool) → (if t then (b && length (r ∷ left) == 0) else ends_fit b (r ∷ left)) ≡ true → t ≡ false
-    by true g = let p = and_parts b (length (r ∷ left) == 0) g in let e = eq_of (length (r ∷ left)) 0 p.1 in absurd (omega arith)
+    by true g = let p = and_parts b (length (r ∷ left) == 0) g in let e = eqb-true (length (r ∷ left)) 0 p.1 in absurd (omega arith)
     by false g = refl
 no_split_yet b (q ∷ (x ∷ xs)) r left f = by (λ g. no_split_yet b (x ∷ xs) r left g) (is_split q.kind) f
   where
     by : (ends_fit b ((x ∷ xs) ++ r ∷ left) ≡ true → ends_split (x ∷ xs) ≡ false) → (t : Bool) → (if t then (b && length ((x ∷ xs) ++ r ∷ left) == 0) else ends_fit b ((x ∷ xs) ++ r ∷ left)) ≡ true → ends_split (x ∷ xs) ≡ false
-    by more true g = let p = and_parts b (length ((x ∷ xs) ++ r ∷ left) == 0) g in let e = eq_of (length ((x ∷ xs) ++ r ∷ left)) 0 p.1 in absurd (omega arith)
+    by more true g = let p = and_parts b (length ((x ∷ xs) ++ r ∷ left) == 0) g in let e = eqb-true (length ((x ∷ xs) ++ r ∷ left)) 0 p.1 in absurd (omega arith)
     by more false g = more g
 
 abbrev pub part : Header → List Record → Tablet

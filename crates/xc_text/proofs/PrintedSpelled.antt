@@ -1,38 +1,21 @@
 -- What is printed of valid logs spells them: the entries of tablet 0, then those of tablet 1 and so on.
-use Rattle.std.proofs.Common.{◌≡◌, ℕ, zero, suc, ◌+◌, ◌<◌, ◌≤◌, ◌==◌, Bool, true, false, ◌&&◌, nat_lt, List, [], ◌∷◌, ◌++◌, length, map, flat_map, Some, Ok, if◌then◌else◌, slice_get, refl, sym, ap, ◌∙◌, append_assoc, codes, arith}
-use Rattle.std.proofs.lemmas.Bool.{and_parts}
-use Rattle.std.proofs.lemmas.Bool.Decides.{nat_tests}
-use Rattle.std.proofs.lemmas.List.{length_push}
+use Rattle.std.proofs.Common.{◌≡◌, ℕ, zero, suc, ◌+◌, ◌<◌, ◌≤◌, ◌==◌, Bool, true, false, nat_lt, List, [], ◌∷◌, ◌++◌, length, map, flat_map, Some, Ok, if◌then◌else◌, slice_get, refl, sym, ap, ◌∙◌, codes, arith}
+use Rattle.std.proofs.lemmas.Bool.{and_parts, lt-ltb, ne_eqb, eq-eqb}
+use Rattle.std.proofs.lemmas.List.{append-nil}
 use Rattle.std.proofs.lemmas.List.Folds.{list_all-append}
 use Rattle.std.specs.List.{list_all}
-use Rattle.xc_record.specs.Headers.{fit_from, fits, next_after, headers_fit}
+use Rattle.std.proofs.lemmas.Grind.{flat_map-append}
+use Rattle.xc_record.specs.Headers.{fit_from, headers_fit}
 use Rattle.xc_record.specs.Valid.{headers_of, is_valid}
-use Rattle.xc_record.specs.declared.rules.Next.{Next}
 use Rattle.xc_record.specs.declared.rules.Next.TheVariants.{RootAt}
 use Rattle.xc_record.specs.declared.record.Record.{Record}
-use Rattle.xc_record.specs.declared.record.Header.{Header}
 use Rattle.xc_record.specs.declared.record.Tablet.{Tablet}
 use Rattle.xc_record.specs.declared.record.Logs.{Logs}
 use Rattle.xc_text.specs.LogText.{logs_of}
 use Rattle.xc_text.specs.Printed.{header_text, record_text, records_text, text_of}
 use Rattle.xc_text.specs.Spelled.{Entry, entry_text, given, PrintedIsSpelled}
-use Rattle.xc_text.proofs.PrintedHeaders.{eq_of}
-use Rattle.xc_text.proofs.PrintedLaws.{append-nil}
 use Rattle.xc_text.proofs.SpelledRun.{spelled_is_read}
-
--- headers by number, from n on
-abbrev numbered : ℕ → List Header → Bool
-numbered n [] = true
-numbered n (h ∷ hs) = h.id == n && numbered (n + 1) hs
-
-fit_numbered : (before : List Header) (next : Next) (hs : List Header) (n : ℕ) → n ≡ length before → fit_from before next hs ≡ true → numbered n hs ≡ true
-fit_numbered before next [] n e f = refl
-fit_numbered before next (h ∷ hs) n e f =
-    let p = and_parts (fits before next h) (fit_from (before ++ h ∷ []) (next_after before next h h.parent) hs) f in
-    let q = and_parts (h.id == length before) _ p.0 in
-    let is : (h.id == n) ≡ true = rw e q.0 in
-    let more : n + 1 ≡ length (before ++ h ∷ []) = let l = length_push before h in omega arith in
-    rw is (fit_numbered (before ++ h ∷ []) (next_after before next h h.parent) hs (n + 1) more p.1)
+use Rattle.xc_record.proofs.HeaderLaws.{Numbered, headers_fit-all}
 
 abbrev entries : ℕ → List Record → List Entry
 entries id rs = map (λ r. record { id = id; item = r }) rs
@@ -42,10 +25,6 @@ printed ts = flat_map (λ t. entries t.header.id t.records) ts
 
 -- ---- their text
 
-texts_append : (xs ys : List Entry) → flat_map entry_text (xs ++ ys) ≡ flat_map entry_text xs ++ flat_map entry_text ys
-texts_append [] ys = refl
-texts_append (x ∷ xs) ys = ap (λ more. entry_text x ++ more) (texts_append xs ys) ∙ sym (append_assoc (entry_text x) (flat_map entry_text xs) (flat_map entry_text ys))
-
 entries_text : (id : ℕ) (rs : List Record) → flat_map entry_text (entries id rs) ≡ flat_map (record_text id) rs
 entries_text id [] = refl
 entries_text id (r ∷ rs) = ap (λ more. record_text id r ++ more) (entries_text id rs)
@@ -53,7 +32,7 @@ entries_text id (r ∷ rs) = ap (λ more. record_text id r ++ more) (entries_tex
 printed_text : (ts : List Tablet) → flat_map entry_text (printed ts) ≡ flat_map records_text ts
 printed_text [] = refl
 printed_text (t ∷ ts) =
-    texts_append (entries t.header.id t.records) (printed ts)
+    flat_map-append entry_text (entries t.header.id t.records) (printed ts)
     ∙ ap (λ front. front ++ flat_map entry_text (printed ts)) (entries_text t.header.id t.records)
     ∙ ap (λ more. records_text t ++ more) (printed_text ts)
 
@@ -75,44 +54,29 @@ given_other : (id : ℕ) (rs : List Record) (n : ℕ) → (n == id) ≡ false �
 given_other id [] n h = refl
 given_other id (r ∷ rs) n h = rw h (given_other id rs n h)
 
-same : (a b : ℕ) → a ≡ b → (a == b) ≡ true
-same a b h = grind (arith, nat_tests)
-
-above : (a b : ℕ) → b < a → (a == b) ≡ false
-above a b h = grind (arith, nat_tests)
-
-below : (a b : ℕ) → a < b → (a == b) ≡ false
-below a b h = grind (arith, nat_tests)
-
-lt_test : (a b : ℕ) → a < b → nat_lt a b ≡ true
-lt_test a b h = grind (arith, nat_tests)
-
 -- the records of a tablet, and what the others are given
 given_parts : (id : ℕ) (t : Tablet) (ts : List Tablet) (own rest : List Record) → given id (entries t.header.id t.records) ≡ own → given id (printed ts) ≡ rest → given id (printed (t ∷ ts)) ≡ own ++ rest
 given_parts id t ts own rest a b =
     given_append id (entries t.header.id t.records) (printed ts) ∙ ap (λ rs. rs ++ given id (printed ts)) a ∙ ap (λ rs. own ++ rs) b
 
-given_before : (n id : ℕ) (ts : List Tablet) → numbered n (headers_of ts) ≡ true → id < n → given id (printed ts) ≡ []
+given_before : (n id : ℕ) (ts : List Tablet) → Numbered n (headers_of ts) → id < n → given id (printed ts) ≡ []
 given_before n id [] ids l = refl
 given_before n id (t ∷ ts) ids l =
-    let p = and_parts (t.header.id == n) (numbered (n + 1) (headers_of ts)) ids in
-    let is : t.header.id ≡ n = eq_of t.header.id n p.0 in
-    given_parts id t ts [] [] (given_other id t.records t.header.id (above t.header.id id (omega arith))) (given_before (n + 1) id ts p.1 (omega arith))
+    let is : t.header.id ≡ n = ids.0 in
+    given_parts id t ts [] [] (given_other id t.records t.header.id (ne_eqb t.header.id id (λ same. omega arith))) (given_before (n + 1) id ts ids.1 (omega arith))
 
-given_printed : (n j : ℕ) (ts : List Tablet) (t : Tablet) → numbered n (headers_of ts) ≡ true → slice_get ts j ≡ Some t → given (n + j) (printed ts) ≡ t.records
+given_printed : (n j : ℕ) (ts : List Tablet) (t : Tablet) → Numbered n (headers_of ts) → slice_get ts j ≡ Some t → given (n + j) (printed ts) ≡ t.records
 given_printed n j [] t ids e = cc
 given_printed n zero (x ∷ ts) t ids e =
-    let p = and_parts (x.header.id == n) (numbered (n + 1) (headers_of ts)) ids in
-    let is : x.header.id ≡ n = eq_of x.header.id n p.0 in
+    let is : x.header.id ≡ n = ids.0 in
     let here : x ≡ t = cc in
-    given_parts (n + 0) x ts x.records [] (given_own (n + 0) x.records x.header.id (same x.header.id (n + 0) (omega arith))) (given_before (n + 1) (n + 0) ts p.1 (omega arith))
+    given_parts (n + 0) x ts x.records [] (given_own (n + 0) x.records x.header.id (eq-eqb x.header.id (n + 0) (omega arith))) (given_before (n + 1) (n + 0) ts ids.1 (omega arith))
     ∙ append-nil x.records ∙ ap (λ u. u.records) here
 given_printed n (suc j) (x ∷ ts) t ids e =
-    let p = and_parts (x.header.id == n) (numbered (n + 1) (headers_of ts)) ids in
-    let is : x.header.id ≡ n = eq_of x.header.id n p.0 in
+    let is : x.header.id ≡ n = ids.0 in
     let at : n + suc j ≡ n + 1 + j = omega arith in
-    given_parts (n + suc j) x ts [] t.records (given_other (n + suc j) x.records x.header.id (below x.header.id (n + suc j) (omega arith)))
-    (ap (λ id. given id (printed ts)) at ∙ given_printed (n + 1) j ts t p.1 e)
+    given_parts (n + suc j) x ts [] t.records (given_other (n + suc j) x.records x.header.id (ne_eqb x.header.id (n + suc j) (λ same. omega arith)))
+    (ap (λ id. given id (printed ts)) at ∙ given_printed (n + 1) j ts t ids.1 e)
 
 -- ---- their numbers
 
@@ -121,15 +85,14 @@ all_below count es = list_all (λ e. nat_lt e.id count) es
 
 own_known : (count id : ℕ) (rs : List Record) → id < count → all_below count (entries id rs) ≡ true
 own_known count id [] l = refl
-own_known count id (r ∷ rs) l = rw (lt_test id count l) (own_known count id rs l)
+own_known count id (r ∷ rs) l = rw (lt-ltb id count l) (own_known count id rs l)
 
-printed_known : (count n : ℕ) (ts : List Tablet) → numbered n (headers_of ts) ≡ true → n + length ts ≤ count → all_below count (printed ts) ≡ true
+printed_known : (count n : ℕ) (ts : List Tablet) → Numbered n (headers_of ts) → n + length ts ≤ count → all_below count (printed ts) ≡ true
 printed_known count n [] ids l = refl
 printed_known count n (t ∷ ts) ids l =
-    let p = and_parts (t.header.id == n) (numbered (n + 1) (headers_of ts)) ids in
-    let is : t.header.id ≡ n = eq_of t.header.id n p.0 in
+    let is : t.header.id ≡ n = ids.0 in
     list_all-append (λ e. nat_lt e.id count) (entries t.header.id t.records) (printed ts)
-    ∙ rw (own_known count t.header.id t.records (omega arith)) (printed_known count (n + 1) ts p.1 (omega arith))
+    ∙ rw (own_known count t.header.id t.records (omega arith)) (printed_known count (n + 1) ts ids.1 (omega arith))
 
 -- ---- the whole
 
@@ -138,7 +101,7 @@ unfolding text_of is_valid headers_fit
 printed_is_spelled logs v =
     let ts = logs.tablets in
     let p = and_parts (fit_from [] (RootAt 0) (headers_of ts)) _ v in
-    let ids : numbered 0 (headers_of ts) ≡ true = fit_numbered [] (RootAt 0) (headers_of ts) 0 refl p.0 in
+    let ids : Numbered 0 (headers_of ts) = (headers_fit-all (headers_of ts) p.0).1.numbered in
     record {
       valid = v;
       entries = printed ts;

@@ -1,13 +1,14 @@
 -- What is printed is cut into the same words.
-use Rattle.std.proofs.Common.{◌≡◌, ℕ, ◌+◌, ◌-◌, ◌^◌, ◌<◌, ◌≤◌, ◌==◌, Bool, true, false, ◌&&◌, ◌||◌, not, min, nat_le, nat_lt, nat_eq, List, [], ◌∷◌, ◌++◌, length, take, drop, map, Option, Some, None, refl, sym, ap, ◌∙◌, append_assoc, decimal, arith}
-use Rattle.std.proofs.lemmas.Bool.{and_parts}
+use Rattle.std.proofs.Common.{◌≡◌, ℕ, ◌+◌, ◌^◌, ◌<◌, ◌≤◌, ◌==◌, Bool, true, false, ◌&&◌, ◌||◌, not, nat_le, nat_lt, nat_eq, List, [], ◌∷◌, ◌++◌, length, take, drop, map, Option, Some, None, refl, sym, ap, ◌∙◌, append_assoc, decimal, arith}
+use Rattle.std.proofs.lemmas.Bool.{and_parts, eq-eqb}
 use Rattle.std.proofs.lemmas.Bool.Decides.{nat_tests}
-use Rattle.std.proofs.lemmas.List.{take_at, drop_at, length_push}
+use Rattle.std.proofs.lemmas.List.{take_at, drop_at, length_push, append-nil}
 use Rattle.std.proofs.lemmas.List.Folds.{list_all-append}
 use Rattle.std.specs.Char.{is_ascii_digit}
 use Rattle.std.specs.Str.{all_ascii_digits, bytes_eq}
 use Rattle.std.specs.List.{list_all, list_any, before_first, after_first, position_or_len}
 use Rattle.std.specs.Option.{option_map_or}
+use Rattle.std.proofs.Math.Nat.{min-eq_left}
 use Rattle.xc_base.specs.Names.{is_key, is_value, in_alphabet}
 use Rattle.xc_base.specs.Words.{split_on, number_of, is_number, no_leading_zero}
 use Rattle.xc_base.proofs.WordLaws.{number_of-decimal}
@@ -23,9 +24,6 @@ lacks c bytes = list_all (λ b. not (b == c)) bytes
 abbrev pub plain : List ℕ → Bool
 plain bytes = list_all (λ b. nat_lt 32 b) bytes
 
-same : (c : ℕ) → (c == c) ≡ true
-same c = grind (arith, nat_tests)
-
 differs : (b c : ℕ) → not (b == c) ≡ true → (b == c) ≡ false
 differs b c h = grind (arith, nat_tests)
 
@@ -37,16 +35,12 @@ plain_lacks c [] l h = refl
 plain_lacks c (b ∷ w) l h = let p = and_parts (nat_lt 32 b) (plain w) h in rw (above b c l p.0) (plain_lacks c w l p.1)
 
 split_at : (c : ℕ) (w rest : List ℕ) → lacks c w ≡ true → split_on c (w ++ c ∷ rest) ≡ w ∷ split_on c rest
-split_at c [] rest h = rw (same c) refl
+split_at c [] rest h = rw (eq-eqb c c refl) refl
 split_at c (b ∷ w) rest h = let p = and_parts (not (b == c)) (lacks c w) h in rw (differs b c p.0, split_at c w rest p.1) refl
 
 split_none : (c : ℕ) (w : List ℕ) → lacks c w ≡ true → split_on c w ≡ w ∷ []
 split_none c [] h = refl
 split_none c (b ∷ w) h = let p = and_parts (not (b == c)) (lacks c w) h in rw (differs b c p.0, split_none c w p.1) refl
-
-pub append-nil : (xs : List ℕ) → xs ++ [] ≡ xs
-append-nil [] = refl
-append-nil (x ∷ xs) = ap (λ ys. x ∷ ys) (append-nil xs)
 
 pub split_words : (first : List ℕ) (words : List (List ℕ)) → plain first ≡ true → list_all plain words ≡ true → split_on 32 (first ++ spaced words) ≡ first ∷ words
 split_words first [] h k = rw (append-nil first) (split_none 32 first (plain_lacks 32 first (omega arith) h))
@@ -90,12 +84,9 @@ digits_plain (b ∷ w) h = let p = and_parts (is_ascii_digit b) (all_ascii_digit
 pub decimal_plain : (n : ℕ) → n < 2 ^ 64 → plain (decimal n) ≡ true
 decimal_plain n h = digits_plain (decimal n) (decimal_digits n h)
 
-min_left : (n m : ℕ) → n ≤ m → min n m ≡ n
-min_left n m h = omega arith
-
 pub number_is : (n : ℕ) → n < 2 ^ 64 → number (decimal n) ≡ Some n
 unfolding number
-number_is n h = rw (number_of-decimal n h) (ap Some (min_left n (2 ^ 64 - 1) (omega arith)))
+number_is n h = rw (number_of-decimal n h) (ap Some (min-eq_left (omega arith)))
 
 digit_differs : (d c : ℕ) → is_ascii_digit d ≡ true → is_ascii_digit c ≡ false → nat_eq d c ≡ false
 digit_differs d c h k = grind (arith, nat_tests)

@@ -1,7 +1,8 @@
 -- A text that is read as logs spells them: its lines, from the last to the first.
-use Rattle.std.proofs.Common.{◌≡◌, ℕ, zero, suc, ◌+◌, ◌<◌, true, false, not, nat_le, nat_lt, List, [], ◌∷◌, ◌++◌, length, map, flat_map, Option, Some, None, Result, Ok, Err, slice_get, refl, sym, ap, subst, ◌∙◌, append_assoc, codes, arith}
-use Rattle.std.proofs.lemmas.Bool.Decides.{nat_tests}
+use Rattle.std.proofs.Common.{◌≡◌, ℕ, zero, suc, ◌+◌, ◌<◌, false, not, nat_lt, List, [], ◌∷◌, ◌++◌, length, map, flat_map, Option, Some, None, Result, Ok, Err, slice_get, refl, sym, ap, subst, ◌∙◌, append_assoc, codes, arith}
 use Rattle.std.specs.List.{list_all, join_with_byte}
+use Rattle.std.proofs.lemmas.Bool.{lt-ltb, leb-false, or_parts, not-false}
+use Rattle.std.proofs.lemmas.List.{append-nil}
 use Rattle.xc_base.specs.Words.{split_on}
 use Rattle.xc_base.proofs.WordLaws.{join-split_on}
 use Rattle.xc_record.specs.Grown.{with_record}
@@ -22,8 +23,8 @@ use Rattle.xc_text.specs.Lines.{line_of, numbers_fit}
 use Rattle.xc_text.specs.LogText.{begun, misplaced, records_began, kinds, moved, step, step_by, ending, rest_of_text, go_on, lines_from, logs_of}
 use Rattle.xc_text.specs.Printed.{header_text}
 use Rattle.xc_text.specs.Spelled.{Entry, entry_text, given, Spells, ReadIsSpelled}
-use Rattle.xc_text.proofs.ValidLaws.{bare, AllFalse, all_false, or_false, not_false, unless_cases, read_is_valid}
-use Rattle.xc_text.proofs.PrintedLaws.{append-nil, headers_bare}
+use Rattle.xc_text.proofs.ValidLaws.{bare, AllFalse, all_false, unless_cases, read_is_valid}
+use Rattle.xc_text.proofs.PrintedLaws.{headers_bare}
 use Rattle.xc_text.proofs.PrintedEnds.{headers_text}
 use Rattle.xc_text.proofs.Filled.{filled, filled_none, filled_entry, headers_filled, length_filled, length_with, all_known}
 use Rattle.xc_text.proofs.ReadWords.{line_bytes, line_back}
@@ -90,19 +91,13 @@ inner_left Headers ts bytes logs m es = no_headers ts bytes logs es
 inner_left Records ts bytes logs m es = es
 inner_left Ended ts bytes logs m es = cc
 
-lt_test : (a b : ℕ) → a < b → nat_lt a b ≡ true
-lt_test a b h = grind (arith, nat_tests)
-
-not_le : (a b : ℕ) → nat_le a b ≡ false → b < a
-not_le a b h = grind (arith, nat_tests)
-
 entry_more : (ts : List Tablet) (e : Entry) (bytes rest : List ℕ) (logs : Logs) → e.id < length ts → bytes ≡ entry_text e ++ rest → Entries (with_record e.id e.item ts) rest logs → Entries ts bytes logs
 entry_more ts e bytes rest logs l is es =
     let known : all_known (length ts) es.entries = ap (λ n. list_all (λ x. nat_lt x.id n) es.entries) (sym (length_with e.id e.item ts)) ∙ es.known in
     record {
       entries = e ∷ es.entries;
       text = is ∙ ap (λ more. entry_text e ++ more) es.text ∙ sym (append_assoc (entry_text e) (flat_map entry_text es.entries) (codes "end\n"));
-      known = rw (lt_test e.id (length ts) l) known;
+      known = rw (lt-ltb e.id (length ts) l) known;
       whole = sym (filled_entry e es.entries ts l) ∙ es.whole;
     }
 
@@ -121,10 +116,10 @@ end_entries ts bytes rest logs e none all =
 line_left : (s : Reading) (l : LogLine) (bytes rest : List ℕ) (logs : Logs) → AllFalse (kinds s l) → bytes ≡ line_bytes l ++ rest → Left (moved s l).stage (moved s l).tablets rest logs → Left s.stage s.tablets bytes logs
 line_left s line.First bytes rest logs f e left = first_left s.stage s.tablets bytes rest logs f.0 e left
 line_left s (line.Tablet h) bytes rest logs f e left =
-    let b = or_false (records_began s.stage) (not (fits (headers_of s.tablets) s.next h)) f.1.1.1.0 in
+    let b = or_parts (records_began s.stage) (not (fits (headers_of s.tablets) s.next h)) f.1.1.1.0 in
     header_left s.stage s.tablets h bytes rest logs f.0 b.0 e left
 line_left s (line.Entry id r) bytes rest logs f e left =
-    let l = not_le (length s.tablets) id f.1.1.1.1.0 in
+    let l = leb-false (length s.tablets) id f.1.1.1.1.0 in
     inner_left s.stage s.tablets bytes logs (in_place s.stage id r f.0) (entry_more s.tablets (record { id = id; item = r }) bytes rest logs l e left)
 line_left s line.End bytes rest logs f e left = inner_left s.stage s.tablets bytes logs f.0 (end_entries s.tablets bytes rest logs e left.0 left.1)
 
@@ -134,7 +129,7 @@ step_cases s after piece rest logs (Some l) is h left =
     let p = unless_cases (first_kind (kinds s l)) (moved s l) after h in
     let f = all_false (kinds s l) p.0 in
     let P : Reading → Type 0 = λ t. Left t.stage t.tablets rest logs in
-    line_left s l (piece ++ 10 ∷ rest) rest logs f (line_back piece rest l is (not_false (numbers_fit l) f.1.0)) (subst P (sym p.1) left)
+    line_left s l (piece ++ 10 ∷ rest) rest logs f (line_back piece rest l is (not-false (numbers_fit l) f.1.0)) (subst P (sym p.1) left)
 
 step_left : (s after : Reading) (piece rest : List ℕ) (logs : Logs) → step s piece ≡ Ok after → Left after.stage after.tablets rest logs → Left s.stage s.tablets (piece ++ 10 ∷ rest) logs
 unfolding step

@@ -7,6 +7,8 @@ use Rattle.std.proofs.lemmas.List.Sums.{split_at_first, passes_at_first}
 use Rattle.std.specs.List.{list_any, before_first, after_first, position_or_len, join_with_byte}
 use Rattle.std.specs.Option.{option_map_or}
 use Rattle.std.specs.Str.{bytes_eq}
+use Rattle.std.proofs.lemmas.List.{append-nil}
+use Rattle.std.proofs.lemmas.Slice.Eq.{bytes_eq-Decides}
 use Rattle.xc_base.specs.Words.{split_on, number_of}
 use Rattle.xc_base.proofs.WordLaws.{decimal-number_of, join-split_on}
 use Rattle.xc_record.specs.Valid.{is_time, is_txn}
@@ -19,18 +21,9 @@ use Rattle.xc_text.specs.declared.line.LogLine.TheVariants as line
 use Rattle.xc_text.specs.Lines.{◌>>=◌, number, first_number, at_end, set_of, op_of, all_ops, ops_of, intent_of, apply_of, abort_of, safe_of, split_of, kind_by, kind_of, kind_numbers_fit, entry_of, parent_of, header_of, version_of, line_by, line_of, header_numbers_fit, numbers_fit}
 use Rattle.xc_text.specs.Printed.{spaced, line_text, op_word, kind_words, record_text, parent_words, header_text}
 use Rattle.xc_text.proofs.PrintedLines.{header_words}
-use Rattle.xc_text.proofs.PrintedWords.{append-nil, line_body}
+use Rattle.xc_text.proofs.PrintedWords.{line_body}
 
 -- ---- words and numbers
-
-bytes_same : (v w : List ℕ) → bytes_eq v w ≡ true → v ≡ w
-bytes_same [] [] e = refl
-bytes_same [] (y ∷ w) e = cc
-bytes_same (x ∷ v) [] e = cc
-bytes_same (x ∷ v) (y ∷ w) e =
-    let p = and_parts (x == y) (bytes_eq v w) e in
-    let a : x ≡ y = eqb-true x y p.0 in
-    let b : v ≡ w = bytes_same v w p.1 in cc
 
 words_same : (v w : List ℕ) (vs ws : List (List ℕ)) → v ≡ w → vs ≡ ws → v ∷ vs ≡ w ∷ ws
 words_same v w vs ws a b = cc
@@ -170,7 +163,7 @@ split_words words k h =
 
 -- the first word stands for the verb
 with_verb : (verb word : List ℕ) (words : List (List ℕ)) (k : Kind) → bytes_eq verb word ≡ true → AreWords (word ∷ words) k → AreWords (verb ∷ words) k
-with_verb verb word words k is are fit = ap (λ w. w ∷ words) (bytes_same verb word is) ∙ are fit
+with_verb verb word words k is are fit = ap (λ w. w ∷ words) ((bytes_eq-Decides verb word).0 is) ∙ are fit
 
 verb_words : (verb : List ℕ) (words : List (List ℕ)) (k : Kind) → kind_by verb words ≡ Some k → AreWords (verb ∷ words) k
 verb_words verb words k h =
@@ -210,7 +203,7 @@ version_words (w ∷ ws) l h = by (bytes_eq w (codes "1")) refl h
     by false is g = absurd (none-some l g)
     by true is g =
         let z = ended ws line.First l g in
-        subst (AreLine (codes "xclog" ∷ w ∷ ws)) z.1 (λ fit. ap (λ us. codes "xclog" ∷ us) (words_same w (codes "1") ws [] (bytes_same w (codes "1") is) z.0))
+        subst (AreLine (codes "xclog" ∷ w ∷ ws)) z.1 (λ fit. ap (λ us. codes "xclog" ∷ us) (words_same w (codes "1") ws [] ((bytes_eq-Decides w (codes "1")).0 is) z.0))
 
 end_words : (words : List (List ℕ)) (l : LogLine) → at_end words line.End ≡ Some l → AreLine (codes "end" ∷ words) l
 end_words words l h =
@@ -234,8 +227,8 @@ parent_are [] parent h = absurd (none-some parent h)
 parent_are (w ∷ ws) parent h = by (bytes_eq w (codes "root")) (bytes_eq w (codes "child")) refl refl h
   where
     by : (a b : Bool) → bytes_eq w (codes "root") ≡ a → bytes_eq w (codes "child") ≡ b → (if a then at_end ws None else (if b then (first_number ws >>= (λ p. at_end p.1 (Some p.0))) else None)) ≡ Some parent → AreParent (w ∷ ws) parent
-    by true b p q g fit = ap (λ v. v ∷ ws) (bytes_same w (codes "root") p) ∙ root_words ws parent g fit
-    by false true p q g fit = ap (λ v. v ∷ ws) (bytes_same w (codes "child") q) ∙ child_words ws parent g fit
+    by true b p q g fit = ap (λ v. v ∷ ws) ((bytes_eq-Decides w (codes "root")).0 p) ∙ root_words ws parent g fit
+    by false true p q g fit = ap (λ v. v ∷ ws) ((bytes_eq-Decides w (codes "child")).0 q) ∙ child_words ws parent g fit
     by false false p q g fit = cc
 
 abbrev AreHeader : List (List ℕ) → Header → Type 0
@@ -273,7 +266,7 @@ entry_words word words l g =
     (first_word words time a (time_low time.0 q.0) ∙ ap (λ us. decimal time.0 ∷ us) (kind_are time.1 kind b q.1))))))
 
 with_word : (word first : List ℕ) (words : List (List ℕ)) (l : LogLine) → bytes_eq word first ≡ true → AreLine (first ∷ words) l → AreLine (word ∷ words) l
-with_word word first words l is are fit = ap (λ w. w ∷ words) (bytes_same word first is) ∙ are fit
+with_word word first words l is are fit = ap (λ w. w ∷ words) ((bytes_eq-Decides word first).0 is) ∙ are fit
 
 word_are : (word : List ℕ) (words : List (List ℕ)) (l : LogLine) → line_by word words ≡ Some l → AreLine (word ∷ words) l
 word_are word words l h = by (bytes_eq word (codes "xclog")) (bytes_eq word (codes "tablet")) (bytes_eq word (codes "end")) refl refl refl h

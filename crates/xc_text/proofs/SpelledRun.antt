@@ -1,9 +1,9 @@
 -- A text that spells logs is read as those logs: its lines, one after another.
-use Rattle.std.proofs.Common.{◌≡◌, ℕ, zero, suc, ◌+◌, ◌-◌, ◌^◌, ◌<◌, ◌≤◌, Bool, true, false, nat_le, nat_lt, List, [], ◌∷◌, ◌++◌, length, flat_map, Some, Result, Ok, is_some, slice_get, refl, sym, ap, subst, ◌∙◌, append_assoc, codes, arith, sum_by}
-use Rattle.std.proofs.lemmas.Bool.{and_parts}
-use Rattle.std.proofs.lemmas.Bool.Decides.{nat_tests}
+use Rattle.std.proofs.Common.{◌≡◌, ℕ, ◌+◌, ◌-◌, ◌^◌, ◌<◌, ◌≤◌, Bool, true, false, nat_le, nat_lt, List, [], ◌∷◌, ◌++◌, length, flat_map, Some, Result, Ok, is_some, slice_get, refl, sym, ap, subst, ◌∙◌, append_assoc, codes, arith, sum_by}
+use Rattle.std.proofs.lemmas.Bool.{and_parts, lt-ltb, ltb-true, leb-true, lt-leb, le-ltb}
 use Rattle.std.proofs.lemmas.List.Sums.{sum_by-cons}
 use Rattle.std.specs.List.{list_all}
+use Rattle.std.proofs.lemmas.List.{length-map}
 use Rattle.xc_base.specs.Words.{split_on}
 use Rattle.xc_record.specs.Grown.{with_record}
 use Rattle.xc_record.specs.Headers.{fit_from, may_end, headers_fit, children}
@@ -21,12 +21,13 @@ use Rattle.xc_text.specs.LogText.{BadLine, begun, is_inner, in_range, is_split_o
 use Rattle.xc_text.specs.Printed.{header_text, record_text}
 use Rattle.xc_text.specs.Spelled.{Entry, entry_text, given, SpelledIsRead, SpellsOne}
 use Rattle.xc_text.proofs.ValidParts.{split_off_is, place}
-use Rattle.xc_text.proofs.ValidLaws.{records_of, operations_of}
+use Rattle.xc_text.proofs.ValidLaws.{records_of, operations_of, bare}
 use Rattle.xc_text.proofs.PrintedHeaders.{all_small}
 use Rattle.xc_text.proofs.PrintedLines.{EntryFits, entry_bytes, entry_line, entry_is}
-use Rattle.xc_text.proofs.PrintedLaws.{Gives, back, step_is, at, at_headers, headers_run, kind_good, not_le, not_lt, not_zero, no_split_yet, part}
-use Rattle.xc_text.proofs.PrintedEnds.{bares, entry_kinds, end_gives, none_orphaned, headers_text, first_line, bares_are, le_of, length_headers, rest_of}
-use Rattle.xc_text.proofs.Filled.{filled, filled_none, filled_entry, got_filled, headers_filled, length_filled, filled_is, all_known, known_with, ops_given, records_filled, operations_filled, given_same, lt_of}
+use Rattle.xc_text.proofs.PrintedLaws.{Gives, back, step_is, at, at_headers, headers_run, kind_good, not_zero, no_split_yet, part}
+use Rattle.xc_text.proofs.PrintedEnds.{bares, entry_kinds, end_gives, none_orphaned, headers_text, first_line, bares_are, rest_of}
+use Rattle.xc_text.proofs.Filled.{filled, filled_none, filled_entry, got_filled, headers_filled, length_filled, filled_is, all_known, known_with, ops_given, records_filled, operations_filled, given_same}
+use Rattle.xc_record.proofs.ListLaws.{all-at}
 
 -- what holds of the tablets of valid logs
 pub record Whole (ts : List Tablet) : Type 0 where
@@ -34,17 +35,9 @@ pub record Whole (ts : List Tablet) : Type 0 where
   pub fit : list_all (tablet_fits (headers_of ts)) ts ≡ true
   pub count : length ts ≤ 64
 
-got_all : (p : Tablet → Bool) (ts : List Tablet) (i : ℕ) (t : Tablet) → list_all p ts ≡ true → slice_get ts i ≡ Some t → p t ≡ true
-got_all p [] i t a e = cc
-got_all p (x ∷ ts) zero t a e = let q = and_parts (p x) (list_all p ts) a in let same : x ≡ t = cc in ap p (sym same) ∙ q.0
-got_all p (x ∷ ts) (suc n) t a e = got_all p ts n t (and_parts (p x) (list_all p ts) a).1 e
-
 all_at : (p : Record → Bool) (done : List Record) (r : Record) (left : List Record) → list_all p (done ++ r ∷ left) ≡ true → p r ≡ true
 all_at p [] r left a = (and_parts (p r) (list_all p left) a).0
 all_at p (x ∷ done) r left a = all_at p done r left (and_parts (p x) (list_all p (done ++ r ∷ left)) a).1
-
-lt_test : (a b : ℕ) → a < b → nat_lt a b ≡ true
-lt_test a b h = grind (arith, nat_tests)
 
 -- what the next entry finds
 record Stands (us : List Tablet) (e : Entry) (t : Tablet) : Type 0 where
@@ -60,7 +53,7 @@ stands ts us e left t w whole l got =
     let zero_more : 0 + e.id ≡ e.id = omega arith in
     let there : slice_get ts e.id ≡ Some (part t.header all) =
     sym (ap (λ vs. slice_get vs e.id) whole) ∙ got_filled 0 e.id (e ∷ left) us t got ∙ ap (λ m. Some (part t.header (t.records ++ given m (e ∷ left)))) zero_more in
-    let fit = got_all (tablet_fits hs) ts e.id (part t.header all) w.fit there in
+    let fit = all-at (tablet_fits hs) ts e.id (part t.header all) w.fit there in
     let g = and_parts (list_all (record_fits t.header (children hs t.header.id)) all) (ends_fit (is_some (children hs t.header.id)) all) fit in
     let next : all ≡ t.records ++ e.item ∷ given e.id left = ap (λ rs. t.records ++ rs) (given_same e.id e left refl) in
     let A : List Record → Type 0 = λ rs. list_all (record_fits t.header (children hs t.header.id)) rs ≡ true in
@@ -72,7 +65,7 @@ stands ts us e left t w whole l got =
     let lengths : length us ≡ length ts = sym (length_filled 0 (e ∷ left) us) ∙ ap length whole in
     let low : e.id < 64 = let c = w.count in omega arith in
     record {
-      fits = record { tablet = lt_test e.id 64 low; time = q.0; numbers = k.numbers; names = k.names; some = k.some };
+      fits = record { tablet = lt-ltb e.id 64 low; time = q.0; numbers = k.numbers; names = k.names; some = k.some };
       range = ap (λ xs. in_range xs t.header e.item.kind) same ∙ k.range;
       last = split_off_is t ∙ no_split_yet (is_some (children hs t.header.id)) t.records e.item (given e.id left) (subst E next g.1);
       few = k.few;
@@ -82,7 +75,7 @@ entry_step : (stage : Stage) (us : List Tablet) (next : Next) (records operation
     → step (at stage us next records operations) (entry_bytes e.id e.item) ≡ Ok (at Records (with_record e.id e.item us) next (records - 1) (operations - ops_in e.item.kind))
 entry_step stage us next records operations e t i m l got s room space =
     step_is (at stage us next records operations) (entry_bytes e.id e.item) (line.Entry e.id e.item) (entry_is e.id e.item s.fits)
-    (entry_kinds stage us next records operations e.id e.item t i s.fits m (not_le (length us) e.id l) got s.range s.last s.few (not_zero records room) (not_lt operations (ops_in e.item.kind) space))
+    (entry_kinds stage us next records operations e.id e.item t i s.fits m (lt-leb (length us) e.id l) got s.range s.last s.few (not_zero records room) (le-ltb operations (ops_in e.item.kind) space))
 
 entries_run : (ts us : List Tablet) (left : List Entry) (stage : Stage) (next : Next) (records operations x y : ℕ) (rest : List ℕ) (logs : Logs)
     → Whole ts → filled 0 left us ≡ ts → all_known (length us) left → is_inner stage ≡ true → may_end next ≡ true
@@ -97,7 +90,7 @@ entries_run ts us [] stage next records operations x y rest logs w whole k i m r
     rw (a, c) (subst P done (more stage i))
 entries_run ts us (e ∷ left) stage next records operations x y rest logs w whole k i m r o more =
     let p = and_parts (nat_lt e.id (length us)) (list_all (λ x. nat_lt x.id (length us)) left) k in
-    let l = lt_of e.id (length us) p.0 in
+    let l = ltb-true e.id (length us) p.0 in
     let here = place e.id us l in
     let s = stands ts us e left here.here w whole l here.got in
     let all = sum_by-cons (λ x. ops_in x.item.kind) e left in
@@ -119,8 +112,7 @@ no_operations [] = refl
 no_operations (t ∷ ts) = let e = sum_by-cons (λ u. sum_by (λ q. ops_in q.kind) u.records) (part t.header []) (bares ts) in let more = no_operations ts in omega arith
 
 length_bares : (ts : List Tablet) → length (bares ts) ≡ length ts
-length_bares [] = refl
-length_bares (t ∷ ts) = let e = length_bares ts in omega arith
+length_bares ts = length-map ts (λ t. bare t.header)
 
 abbrev spelled_text : Logs → List Entry → List ℕ
 spelled_text logs es = codes "xclog 1\n" ++ (flat_map (λ t. header_text t.header) logs.tablets ++ (flat_map entry_text es ++ codes "end\n"))
@@ -134,8 +126,8 @@ entries_are_read logs es v k given_is =
     let q = and_parts (list_all (tablet_fits hs) ts) _ p.1 in
     let c = and_parts (nat_le (length ts) 64) _ q.1 in
     let d = and_parts (nat_le (records_of ts) (2 ^ 20)) (nat_le (operations_of ts) (2 ^ 22)) c.1 in
-    let most : length ts ≤ 64 = le_of (length ts) 64 c.0 in
-    let count : 0 + length hs ≤ 64 = let l = length_headers ts in omega arith in
+    let most : length ts ≤ 64 = leb-true (length ts) 64 c.0 in
+    let count : 0 + length hs ≤ 64 = let l = length-map ts (λ t. t.header) in omega arith in
     let small : list_all header_numbers_fit hs ≡ true = all_small [] (RootAt 0) hs refl tt count p.0 in
     let w : Whole ts = record { small = small; fit = q.0; count = most } in
     let whole : filled 0 es (bares ts) ≡ ts = filled_is 0 es ts (λ i t got. ap (λ m. given m es) (from_zero i) ∙ given_is i t got) in
@@ -144,8 +136,8 @@ entries_are_read logs es v k given_is =
     let nothing = no_operations ts in
     let records : records_of ts ≡ length es = sym (ap records_of whole) ∙ records_filled es (bares ts) known ∙ omega arith in
     let operations : operations_of ts ≡ ops_given es = sym (ap operations_of whole) ∙ operations_filled es (bares ts) known ∙ omega arith in
-    let room : length es ≤ 2 ^ 20 = let r = le_of (records_of ts) (2 ^ 20) d.0 in omega arith in
-    let space : ops_given es ≤ 2 ^ 22 = let o = le_of (operations_of ts) (2 ^ 22) d.1 in omega arith in
+    let room : length es ≤ 2 ^ 20 = let r = leb-true (records_of ts) (2 ^ 20) d.0 in omega arith in
+    let space : ops_given es ≤ 2 ^ 22 = let o = leb-true (operations_of ts) (2 ^ 22) d.1 in omega arith in
     let tail = flat_map entry_text es ++ codes "end\n" in
     let gives : Gives (at_headers [] (RootAt 0)) (flat_map header_text hs ++ tail) logs =
     headers_run [] hs (RootAt 0) tail logs small p.0

@@ -1,10 +1,10 @@
 -- What is read is valid.
-use Rattle.std.proofs.Common.{◌≡◌, ℕ, ◌+◌, ◌-◌, ◌^◌, ◌<◌, ◌≤◌, ◌==◌, Bool, true, false, ◌||◌, not, nat_le, nat_lt, List, [], ◌∷◌, ◌++◌, length, Option, Some, None, Result, Ok, Err, if◌then◌else◌, refl, sym, ap, subst, ◌∙◌, append_assoc, arith, sum_by}
-use Rattle.std.proofs.lemmas.Bool.{and_parts}
+use Rattle.std.proofs.Common.{◌≡◌, ℕ, ◌+◌, ◌-◌, ◌^◌, ◌<◌, ◌≤◌, ◌==◌, Bool, true, false, not, nat_le, nat_lt, List, [], ◌∷◌, ◌++◌, length, Option, Some, None, Result, Ok, Err, refl, sym, ap, subst, ◌∙◌, append_assoc, arith, sum_by}
+use Rattle.std.proofs.lemmas.Bool.{and_parts, ltb-true, le-leb, leb-false, ltb-false, eqb-true, or_parts, not-false}
 use Rattle.std.proofs.lemmas.Bool.Decides.{nat_tests}
 use Rattle.std.proofs.lemmas.List.Folds.{list_all-append}
 use Rattle.std.proofs.lemmas.List.Sums.{sum_by-append, sum_by-cons, sum_by_push}
-use Rattle.std.proofs.lemmas.List.{length_push}
+use Rattle.std.proofs.lemmas.List.{length_push, append-nil, length-map, map-append}
 use Rattle.std.specs.List.{list_all, list_any}
 use Rattle.xc_base.specs.Words.{split_on}
 use Rattle.xc_record.specs.Grown.{grown, with_record}
@@ -29,6 +29,7 @@ use Rattle.xc_text.specs.Lines.{line_of, header_numbers_fit, kind_numbers_fit, k
 use Rattle.xc_text.specs.LogText.{begun, in_range, is_split_off, is_orphaned, misplaced, records_began, kinds, moved, step, step_by, unless_bad, ending, rest_of_text, go_on, lines_from, logs_of, Reads}
 use Rattle.xc_text.proofs.ValidParts.{has_ops, kind_ok, open_fit, split_off_is, open_push, grows, all_tablets_ok, is_bare, all_bare_grow, place}
 use Rattle.xc_text.proofs.OpsHeld.{holds_of, line_has_ops, line_some}
+use Rattle.xc_record.proofs.ListLaws.{none-cases}
 
 -- what a stage says of the tablets
 abbrev pub AtStage : Stage → Next → List Tablet → Type 0
@@ -55,21 +56,6 @@ pub record Good (s : Reading) : Type 0 where
 good_begun : Good begun
 good_begun = record { headers = λ tail. refl; count = omega arith; records = refl; operations = refl; grow = refl; stage = refl }
 
-le_test : (a b : ℕ) → a ≤ b → nat_le a b ≡ true
-le_test a b h = grind (arith, nat_tests)
-
-not_le : (a b : ℕ) → nat_le a b ≡ false → b < a
-not_le a b h = grind (arith, nat_tests)
-
-not_lt : (a b : ℕ) → nat_lt a b ≡ false → b ≤ a
-not_lt a b h = grind (arith, nat_tests)
-
-lt_of : (a b : ℕ) → nat_lt a b ≡ true → a < b
-lt_of a b h = grind (arith, nat_tests)
-
-eq_of : (a b : ℕ) → (a == b) ≡ true → a ≡ b
-eq_of a b h = grind (arith, nat_tests)
-
 not_zero : (a : ℕ) → (a == 0) ≡ false → 1 ≤ a
 not_zero a h = grind (arith, nat_tests)
 
@@ -80,21 +66,9 @@ abbrev pub AllFalse : List (Bool × LogKind) → Type 0
 AllFalse [] = Unit {0}
 AllFalse (row ∷ rows) = (row.0 ≡ false) × AllFalse rows
 
-none_cases : (b : Bool) (k : LogKind) (rest : Option LogKind) → (if b then Some k else rest) ≡ None → (b ≡ false) × (rest ≡ None)
-none_cases true k rest h = cc
-none_cases false k rest h = (refl, h)
-
 pub all_false : (rows : List (Bool × LogKind)) → first_kind rows ≡ None → AllFalse rows
 all_false [] h = tt
-all_false (row ∷ rows) h = let p = none_cases row.0 row.1 (first_kind rows) h in (p.0, all_false rows p.1)
-
-pub or_false : (a b : Bool) → (a || b) ≡ false → (a ≡ false) × (b ≡ false)
-or_false true b h = cc
-or_false false b h = (refl, h)
-
-pub not_false : (b : Bool) → not b ≡ false → b ≡ true
-not_false true h = refl
-not_false false h = cc
+all_false (row ∷ rows) h = let p = none-cases row.0 row.1 (first_kind rows) h in (p.0, all_false rows p.1)
 
 -- ---- the first line and the headers
 
@@ -114,12 +88,7 @@ bare_at_header Records next ts h m b a = cc
 bare_at_header Ended next ts h m b a = cc
 
 headers_append : (xs ys : List Tablet) → headers_of (xs ++ ys) ≡ headers_of xs ++ headers_of ys
-headers_append [] ys = refl
-headers_append (x ∷ xs) ys = ap (λ hs. x.header ∷ hs) (headers_append xs ys)
-
-length_headers : (ts : List Tablet) → length (headers_of ts) ≡ length ts
-length_headers [] = refl
-length_headers (t ∷ ts) = let e = length_headers ts in omega arith
+headers_append xs ys = map-append (λ t. t.header) xs ys
 
 abbrev pub bare : Header → Tablet
 bare h = record { header = h; records = [] }
@@ -132,18 +101,18 @@ one_more hs next h fit all tail = ap (fit_from [] (RootAt 0)) (append_assoc hs (
 
 good_header : (s : Reading) (h : Header) → Good s → AllFalse (kinds s (line.Tablet h)) → Good (moved s (line.Tablet h))
 good_header s h g f =
-    let numbers : header_numbers_fit h ≡ true = not_false _ f.1.0 in
-    let b = or_false (records_began s.stage) (not (fits (headers_of s.tablets) s.next h)) f.1.1.1.0 in
-    let fit : fits (headers_of s.tablets) s.next h ≡ true = not_false _ b.1 in
+    let numbers : header_numbers_fit h ≡ true = not-false _ f.1.0 in
+    let b = or_parts (records_began s.stage) (not (fits (headers_of s.tablets) s.next h)) f.1.1.1.0 in
+    let fit : fits (headers_of s.tablets) s.next h ≡ true = not-false _ b.1 in
     let at = bare_at_header s.stage s.next s.tablets h f.0 b.0 g.stage in
     let bares : list_all (λ t. is_bare t.records) (s.tablets ++ bare h ∷ []) ≡ true = list_all-append (λ t. is_bare t.records) s.tablets (bare h ∷ []) ∙ rw at.1 refl in
     record {
       headers = λ tail. rw (headers_push s.tablets h) (one_more (headers_of s.tablets) s.next h fit g.headers tail);
       count =
-          let id : h.id < 64 = lt_of h.id 64 (and_parts (nat_lt h.id 64) _ numbers).0 in
-          let is : h.id ≡ length (headers_of s.tablets) = eq_of h.id (length (headers_of s.tablets)) (and_parts (h.id == length (headers_of s.tablets)) _ fit).0 in
+          let id : h.id < 64 = ltb-true h.id 64 (and_parts (nat_lt h.id 64) _ numbers).0 in
+          let is : h.id ≡ length (headers_of s.tablets) = eqb-true h.id (length (headers_of s.tablets)) (and_parts (h.id == length (headers_of s.tablets)) _ fit).0 in
           let more : length (s.tablets ++ bare h ∷ []) ≡ length s.tablets + 1 = length_push s.tablets (bare h) in
-          let same = length_headers s.tablets in omega arith;
+          let same = length-map s.tablets (λ t. t.header) in omega arith;
       records = rw (sum_by_push (λ t. length t.records) s.tablets (bare h)) (let e = g.records in omega arith);
       operations = rw (sum_by_push (λ t. sum_by (λ r. ops_in r.kind) t.records) s.tablets (bare h)) (let e = g.operations in omega arith);
       grow = all_bare_grow (headers_of (s.tablets ++ bare h ∷ [])) (s.tablets ++ bare h ∷ []) bares;
@@ -178,8 +147,8 @@ good_with : (s : Reading) (r : Record) (before : List Tablet) (t : Tablet) (afte
     → Good (with_entry s r (before ++ grown t r ∷ after))
 good_with s r before t after whole g fit last room space =
     let same : headers_of (before ++ grown t r ∷ after) ≡ headers_of s.tablets = headers_append before (grown t r ∷ after) ∙ sym (headers_append before (t ∷ after)) ∙ sym (ap headers_of whole) in
-    let counted = length_headers s.tablets in
-    let counts = length_headers (before ++ grown t r ∷ after) in
+    let counted = length-map s.tablets (λ t. t.header) in
+    let counts = length-map (before ++ grown t r ∷ after) (λ t. t.header) in
     let lengths : length (headers_of (before ++ grown t r ∷ after)) ≡ length (headers_of s.tablets) = ap length same in
     let one : length (grown t r).records ≡ length t.records + 1 = length_push t.records r in
     let ops : sum_by (λ q. ops_in q.kind) (grown t r).records ≡ sum_by (λ q. ops_in q.kind) t.records + ops_in r.kind = sum_by_push (λ q. ops_in q.kind) t.records r in
@@ -197,18 +166,18 @@ good_with s r before t after whole g fit last room space =
 
 good_entry : (s : Reading) (id : ℕ) (r : Record) → Good s → AllFalse (kinds s (line.Entry id r)) → has_ops r.kind ≡ true → Good (moved s (line.Entry id r))
 good_entry s id r g f some =
-    let p = place id s.tablets (not_le (length s.tablets) id f.1.1.1.1.0) in
+    let p = place id s.tablets (leb-false (length s.tablets) id f.1.1.1.1.0) in
     let e : with_record id r s.tablets ≡ p.before ++ grown p.here r ∷ p.after = rw p.got (p.put (grown p.here r)) in
-    let numbers = and_parts (nat_lt id 64) _ (not_false _ f.1.0) in
+    let numbers = and_parts (nat_lt id 64) _ (not-false _ f.1.0) in
     let inner = and_parts (is_time r.time) (kind_numbers_fit r.kind) numbers.1 in
-    let names : kind_names_fit r.kind ≡ true = not_false _ f.1.1.0 in
-    let range : in_range (headers_of s.tablets) p.here.header r.kind ≡ true = not_false _ (rw p.got at f.1.1.1.1.1.0) in
+    let names : kind_names_fit r.kind ≡ true = not-false _ f.1.1.0 in
+    let range : in_range (headers_of s.tablets) p.here.header r.kind ≡ true = not-false _ (rw p.got at f.1.1.1.1.1.0) in
     let last : is_split_off p.here ≡ false = rw p.got at f.1.1.1.1.1.1.0 in
-    let limits = or_false (nat_lt 64 (ops_in r.kind)) _ f.1.1.1.1.1.1.1.0 in
-    let room = or_false (s.records_left == 0) (nat_lt s.operations_left (ops_in r.kind)) limits.1 in
+    let limits = or_parts (nat_lt 64 (ops_in r.kind)) _ f.1.1.1.1.1.1.1.0 in
+    let room = or_parts (s.records_left == 0) (nat_lt s.operations_left (ops_in r.kind)) limits.1 in
     let fit : record_fits p.here.header (children (headers_of s.tablets) p.here.header.id) r ≡ true = rw inner.0 (kind_ok (headers_of s.tablets) p.here.header r.kind some limits.0 inner.1 names range) in
     let P : List Tablet → Type 0 = λ ts. Good (with_entry s r ts) in
-    subst P (sym e) (good_with s r p.before p.here p.after p.whole g fit last (not_zero s.records_left room.0) (not_lt s.operations_left (ops_in r.kind) room.1))
+    subst P (sym e) (good_with s r p.before p.here p.after p.whole g fit last (not_zero s.records_left room.0) (ltb-false s.operations_left (ops_in r.kind) room.1))
 
 -- ---- the end
 
@@ -219,12 +188,8 @@ good_end s g f = record {
   records = g.records;
   operations = g.operations;
   grow = g.grow;
-  stage = (not_false _ f.1.1.1.0, f.1.1.1.1.1.1.1.1.0);
+  stage = (not-false _ f.1.1.1.0, f.1.1.1.1.1.1.1.1.0);
 }
-
-append-nil : (hs : List Header) → hs ++ [] ≡ hs
-append-nil [] = refl
-append-nil (h ∷ hs) = ap (λ rest. h ∷ rest) (append-nil hs)
 
 pub valid_at_end : (s : Reading) → Good s → s.stage ≡ Ended → is_valid (record { tablets = s.tablets }) ≡ true
 unfolding is_valid headers_fit
@@ -233,11 +198,11 @@ valid_at_end s g ended =
     let at = subst P ended g.stage in
     let headers : fit_from [] (RootAt 0) (headers_of s.tablets) ≡ true = ap (fit_from [] (RootAt 0)) (sym (append-nil (headers_of s.tablets))) ∙ g.headers [] ∙ at.0 in
     let tablets = all_tablets_ok (headers_of s.tablets) s.tablets g.grow at.1 in
-    let count : nat_le (length s.tablets) 64 ≡ true = le_test _ _ g.count in
+    let count : nat_le (length s.tablets) 64 ≡ true = le-leb _ _ g.count in
     let records_le : records_of s.tablets ≤ 2 ^ 20 = let e = g.records in omega arith in
     let operations_le : operations_of s.tablets ≤ 2 ^ 22 = let e = g.operations in omega arith in
-    let records : nat_le (records_of s.tablets) (2 ^ 20) ≡ true = le_test _ _ records_le in
-    let operations : nat_le (operations_of s.tablets) (2 ^ 22) ≡ true = le_test _ _ operations_le in
+    let records : nat_le (records_of s.tablets) (2 ^ 20) ≡ true = le-leb _ _ records_le in
+    let operations : nat_le (operations_of s.tablets) (2 ^ 22) ≡ true = le-leb _ _ operations_le in
     rw (headers, tablets, count, records, operations) refl
 
 -- ---- from line to line

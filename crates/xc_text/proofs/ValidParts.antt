@@ -1,6 +1,6 @@
 -- The parts of valid logs, as a text gives them record by record.
-use Rattle.std.proofs.Common.{◌≡◌, ℕ, zero, suc, ◌-◌, ◌<◌, ◌==◌, Bool, true, false, ◌&&◌, ◌||◌, not, nat_le, nat_lt, List, [], ◌∷◌, ◌++◌, length, Option, Some, None, is_some, slice_get, slice_set, if◌then◌else◌, refl, sym, ap, ◌∙◌, arith}
-use Rattle.std.proofs.lemmas.Bool.{and_parts}
+use Rattle.std.proofs.Common.{◌≡◌, ℕ, zero, suc, ◌-◌, ◌<◌, ◌==◌, Bool, true, false, ◌&&◌, not, nat_le, nat_lt, List, [], ◌∷◌, ◌++◌, length, Option, Some, None, is_some, slice_get, slice_set, if◌then◌else◌, refl, sym, ap, ◌∙◌, arith}
+use Rattle.std.proofs.lemmas.Bool.{and_parts, or_parts, not-false}
 use Rattle.std.proofs.lemmas.Bool.Decides.{nat_tests}
 use Rattle.std.specs.List.{list_all, list_any}
 use Rattle.std.specs.Option.{option_map_or}
@@ -107,11 +107,7 @@ split_last (r ∷ (x ∷ xs)) h last = by (λ e. split_last (x ∷ xs) e last) (
 
 ends_ok : (h : Header) (pair : Option (Header × Header)) (rs : List Record) → list_all (record_fits h pair) rs ≡ true → open_fit rs ≡ true → (is_some pair && not (ends_split rs)) ≡ false → ends_fit (is_some pair) rs ≡ true
 ends_ok h None rs all open_ no_orphan = no_splits h rs all
-ends_ok h (Some p) rs all open_ no_orphan = split_last rs open_ (by (ends_split rs) no_orphan)
-  where
-    by : (b : Bool) → not b ≡ false → b ≡ true
-    by true e = refl
-    by false e = cc
+ends_ok h (Some p) rs all open_ no_orphan = split_last rs open_ (not-false (ends_split rs) no_orphan)
 
 -- what holds of a tablet while its records come
 abbrev pub grows : List Header → Tablet → Bool
@@ -122,10 +118,6 @@ tablet_ok hs t g o =
     let p = and_parts (list_all (record_fits t.header (children hs t.header.id)) t.records) (open_fit t.records) g in
     let n : (is_some (children hs t.header.id) && not (ends_split t.records)) ≡ false = ap (λ b. is_some (children hs t.header.id) && not b) (sym (split_off_is t)) ∙ o in
     rw p.0 (ends_ok t.header (children hs t.header.id) t.records p.0 p.1 n)
-
-or_parts : (a b : Bool) → (a || b) ≡ false → (a ≡ false) × (b ≡ false)
-or_parts true b h = cc
-or_parts false b h = (refl, h)
 
 pub all_tablets_ok : (hs : List Header) (ts : List Tablet) → list_all (grows hs) ts ≡ true → list_any (is_orphaned hs) ts ≡ false → list_all (tablet_fits hs) ts ≡ true
 all_tablets_ok hs [] g o = refl

@@ -1,9 +1,6 @@
 -- A text whose lines of two tablets are mixed, and the logs that it spells.
-use Rattle.std.proofs.Common.{◌≡◌, ℕ, zero, suc, true, List, [], ◌∷◌, Some, Ok, slice_get, refl, codes}
+use Rattle.std.proofs.Common.{◌≡◌, ℕ, zero, suc, List, [], ◌∷◌, Some, Ok, slice_get, refl, codes}
 use Rattle.std.specs.Fmt.{digits}
-use Rattle.xc_record.specs.Hash.{hash_of}
-use Rattle.xc_record.specs.Headers.{headers_fit}
-use Rattle.xc_record.specs.Valid.{is_valid}
 use Rattle.xc_record.specs.declared.record.Kind.TheVariants.{Intent, Apply, Safe}
 use Rattle.xc_record.specs.declared.record.Tablet.{Tablet}
 use Rattle.xc_record.proofs.WorkedLogs.{at, sets, a, z, two_tablets}
@@ -12,6 +9,7 @@ use Rattle.xc_text.specs.Printed.{header_text, record_text}
 use Rattle.xc_text.specs.Spelled.{Entry, Spells, given}
 use Rattle.xc_text.proofs.SpelledRun.{spelled_is_read}
 use Rattle.xc_text.proofs.WorkedTexts.{two}
+use Rattle.xc_record.proofs.WorkedRows.{valid-two}
 
 abbrev pub mixed_text : List ℕ
 mixed_text = two (
@@ -29,10 +27,6 @@ mixed =
     ∷ record { id = 1; item = at 30 (Safe 28) }
     ∷ []
 
-valid : is_valid (two_tablets 14 15) ≡ true
-unfolding is_valid headers_fit hash_of
-valid = refl
-
 each : (id : ℕ) (t : Tablet) → slice_get (two_tablets 14 15).tablets id ≡ Some t → given id mixed ≡ t.records
 each zero t e = cc
 each (suc zero) t e = cc
@@ -40,7 +34,7 @@ each (suc (suc n)) t e = cc
 
 mixed_spells : Spells mixed_text (two_tablets 14 15)
 unfolding header_text record_text digits
-mixed_spells = record { valid = valid; entries = mixed; lines = refl; known = refl; records = each }
+mixed_spells = record { valid = valid-two; entries = mixed; lines = refl; known = refl; records = each }
 
 mixed_is_read : logs_of mixed_text ≡ Ok (two_tablets 14 15)
 mixed_is_read = spelled_is_read mixed_text (two_tablets 14 15) mixed_spells

@@ -1,6 +1,6 @@
 -- Logs of one root tablet without transactions: their commits, their rows, their safe time, and the steps of their session.
-use Rattle.std.proofs.Common.{◌≡◌, ℕ, zero, suc, ◌≤◌, ◌<◌, ◌^◌, Bool, true, false, List, [], ◌∷◌, ◌++◌, length, take, drop, refl, sym, ap, ◌∙◌, arith, lit<}
-use Rattle.std.specs.Prelude.{Option, Some, None, fold, filter, flat_map, nat_le, if◌then◌else◌, ◌&&◌, ◌==◌}
+use Rattle.std.proofs.Common.{◌≡◌, ℕ, zero, suc, ◌≤◌, ◌<◌, ◌^◌, true, false, List, [], ◌∷◌, ◌++◌, length, take, drop, refl, sym, ap, ◌∙◌, arith, lit<}
+use Rattle.std.specs.Prelude.{Option, Some, None, fold, filter, flat_map, nat_le, if◌then◌else◌, ◌==◌}
 use Rattle.std.specs.List.{list_any, list_all, filter_map}
 use Rattle.std.specs.Option.{option_map_or}
 use Rattle.std.specs.Ordering.{is_gt}
@@ -9,6 +9,7 @@ use Rattle.std.specs.Cmp.{nat_cmp_is}
 use Rattle.std.proofs.lemmas.List.{append-nil, take_at, length-take-le}
 use Rattle.std.proofs.lemmas.Bool.{and_parts}
 use Rattle.std.proofs.lemmas.Bool.Decides.{nat_tests}
+use Rattle.std.proofs.Math.Bool.{and-false}
 use Rattle.xc_record.specs.declared.record.Kind.{Kind}
 use Rattle.xc_record.specs.declared.record.Kind.TheVariants.{Write, Intent, Apply, Abort, Safe, Split}
 use Rattle.xc_record.specs.declared.record.Op.{Op}
@@ -144,10 +145,6 @@ small h c p (suc n) (r ∷ rs) e low =
 pulled_take : (rs : List Record) (place : ℕ) (order : Progress) → IsPulled rs place order → take place (accepted_from root_start rs) ≡ take place rs
 pulled_take rs place order p = rw (accepted_rest rs place order p) (take_at (take place rs) (accepted_from order (drop place rs)) place (length-take-le place rs p.within))
 
-open_still : (b : Bool) → b && false ≡ false
-open_still true = refl
-open_still false = refl
-
 pub safe_time-one : (lo hi place : ℕ) (rs : List Record) (order : Progress) → IsPulled rs place order → list_all (record_fits (header_of lo hi) None) rs ≡ true → ends_fit false rs ≡ true
     → safe_time (one lo hi rs) (place ∷ []) ≡ order.floor
 unfolding safe_time accepted_tablets
@@ -155,4 +152,4 @@ safe_time-one lo hi place rs order p fits ends =
     let bound : order.floor < 2 ^ 62 = rw p.stands (small (header_of lo hi) None root_start place rs fits (lit< tt)) in
     let floor : floor_after 0 (take place (accepted_from root_start rs)) ≡ order.floor = rw (pulled_take rs place order p, floor_of root_start (take place rs)) (ap (λ q. q.floor) (sym p.stands)) in
     let whole : (fold after root_start (accepted_from root_start rs)).split ≡ false = no_split root_start rs ends refl in
-    rw (whole, open_still (place == length (accepted_from root_start rs))) (omega arith)
+    rw (whole, and-false (place == length (accepted_from root_start rs))) (omega arith)

@@ -4,8 +4,7 @@ use Rattle.std.specs.Prelude.{Option, Some, None, fold, if◌then◌else◌, ◌
 use Rattle.std.specs.List.{list_any, list_all}
 use Rattle.std.specs.Option.{option_map_or}
 use Rattle.std.proofs.lemmas.List.{take-append-drop, length-take-le}
-use Rattle.std.proofs.lemmas.Bool.{eqb-true, and_parts, ne_eqb}
-use Rattle.std.proofs.lemmas.Bool.Decides.{nat_tests}
+use Rattle.std.proofs.lemmas.Bool.{eqb-true, and_parts, ne_eqb, eq-eqb}
 use Rattle.xc_record.specs.declared.record.Record.{Record}
 use Rattle.xc_record.specs.declared.record.Header.{Header}
 use Rattle.xc_record.specs.declared.record.Tablet.{Tablet}
@@ -21,12 +20,13 @@ use Rattle.xc_record.specs.Accepted.{accepted_tablets, root_start, halt_from, ha
 use Rattle.xc_record.specs.Headers.{headers_fit, parent_fits, children, fits}
 use Rattle.xc_record.specs.Order.{Progress, after, accepted_from, break_of}
 use Rattle.xc_record.specs.Step.{step, open_step, poll_step, poll_answer}
-use Rattle.xc_record.specs.Valid.{is_valid, record_fits, ends_fit, headers_of, tablet_fits}
+use Rattle.xc_record.specs.Valid.{record_fits, ends_fit, tablet_fits}
 use Rattle.xc_tool.specs.declared.script.Request.TheVariants.{Poll, Read}
 use Rattle.xc_tool.specs.Later.{is_of_transaction, is_later, has_transaction, IsTaken}
 use Rattle.xc_tool.specs.OneTablet.{session_at, IsPulled, HasRecords, Answers, visible_ops, value_after}
 use Rattle.xc_tool.proofs.OneTablet.{accepted_rest, accepted_none, accepted_one, next_record, halts_later, visible_pulled}
 use Rattle.xc_tool.proofs.OneLogs.{one, IsOne, row-one, safe_time-one}
+use Rattle.xc_logs.proofs.ValidFacts.{valid_parts}
 
 -- ---- logs that are taken have one root tablet
 
@@ -45,13 +45,6 @@ one_header h e =
     let range = and_parts _ (parent_fits [] (RootAt 0) h h.parent) id.1 in
     (eqb-true h.id 0 id.0, parent_none h h.parent range.1)
 
-pub valid_parts : (logs : Logs) → is_valid logs ≡ true → (headers_fit (headers_of logs.tablets) ≡ true) × (list_all (tablet_fits (headers_of logs.tablets)) logs.tablets ≡ true)
-unfolding is_valid
-valid_parts logs e =
-    let outer = and_parts (headers_fit (headers_of logs.tablets)) _ e in
-    let inner = and_parts (list_all (tablet_fits (headers_of logs.tablets)) logs.tablets) _ outer.1 in
-    (outer.0, inner.0)
-
 abbrev logs_of_one : Tablet → Logs
 logs_of_one t = record { tablets = t ∷ [] }
 
@@ -61,8 +54,8 @@ plain_one t e = elim (has_transaction t) as (λ b. (b || false) ≡ false → b 
 one_tablet : (t : Tablet) → IsTaken (logs_of_one t) → IsOne (logs_of_one t) t.records
 one_tablet t taken =
     let parts = valid_parts (logs_of_one t) taken.valid in
-    let head = one_header t.header parts.0 in
-    let tablet = and_parts (tablet_fits (t.header ∷ []) t) _ parts.1 in
+    let head = one_header t.header parts.headers in
+    let tablet = and_parts (tablet_fits (t.header ∷ []) t) _ parts.tablets in
     let fit = and_parts (list_all (record_fits t.header (children (t.header ∷ []) t.header.id)) t.records) _ tablet.0 in
     let none : children (t.header ∷ []) t.header.id ≡ None = children_none t.header t.header.id head.1 in
     let header : t.header ≡ record { id = 0; lo = t.header.lo; hi = t.header.hi; parent = None } = header_is t.header head.0 head.1 in
@@ -135,22 +128,19 @@ none_either : (b : Bool) (o : Option (ℕ × Break)) → o ≡ None → (if b th
 none_either true o e = e
 none_either false o e = refl
 
-same_eqb : (a b : ℕ) → a ≡ b → (a == b) ≡ true
-same_eqb a b e = grind (arith, nat_tests)
-
 at_end-one : (lo hi place n : ℕ) (rs : List Record) (order : Progress) → IsPulled rs place order → place ≡ length rs
     → poll_answer (one lo hi rs) (session_at place) 0 n ≡ poll.AtEnd
 at_end-one lo hi place n rs order p e =
     let rest : drop place rs ≡ [] = drop_of_length-le rs (omega arith) in
     let none : halt_from root_start 1 rs ≡ None = halt_rest rs place order p ∙ ap (halt_from order (1 + place)) rest in
-    poll_answer-one lo hi place n rs ∙ rw (none_either (place == length (accepted_from root_start rs)) (halt_from root_start 1 rs) none, same_eqb place (length rs) e) refl
+    poll_answer-one lo hi place n rs ∙ rw (none_either (place == length (accepted_from root_start rs)) (halt_from root_start 1 rs) none, eq-eqb place (length rs) e) refl
 
 halted-one : (lo hi place n : ℕ) (rs : List Record) (order : Progress) (r : Record) (kind : Break) → IsPulled rs place order → place < length rs → r ≡ get_or rs place r → break_of order r ≡ Some kind
     → poll_answer (one lo hi rs) (session_at place) 0 n ≡ poll.Halted (1 + place) kind
 halted-one lo hi place n rs order r kind p within is broken =
     let none : length (accepted_from order (drop place rs)) ≡ 0 = ap length (accepted_none rs place order r kind within is broken) in
     let count = accepted_count rs place order p in
-    let here : (place == length (accepted_from root_start rs)) ≡ true = same_eqb _ _ (omega arith) in
+    let here : (place == length (accepted_from root_start rs)) ≡ true = eq-eqb _ _ (omega arith) in
     let found : halt_from root_start 1 rs ≡ Some (1 + place, kind) = halt_rest rs place order p ∙ ap (halt_from order (1 + place)) (next_record rs place r within is) ∙ rw broken refl in
     poll_answer-one lo hi place n rs ∙ rw (here, found) refl
 

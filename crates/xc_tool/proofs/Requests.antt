@@ -5,6 +5,7 @@ use Rattle.std.specs.List.{list_any}
 use Rattle.std.specs.Io.KnownBytes.{Appends}
 use Rattle.std.proofs.KnownBytes.{Appends-trans}
 use Rattle.std.proofs.lemmas.Bool.Decides.{nat_tests}
+use Rattle.std.proofs.Math.Bool.{or_assoc, or-false}
 use Rattle.xc_base.specs.Told.{IsPrefix}
 use Rattle.xc_base.specs.Ran.{IsCutShort, Wrote}
 use Rattle.xc_base.specs.Streams.{Stream, RoseIn}
@@ -23,7 +24,8 @@ use Rattle.xc_tool.specs.OneTablet.{session_at, HasRecords, Answers}
 use Rattle.xc_tool.specs.Outcome.{lines_output}
 use Rattle.xc_tool.specs.Script.{asked}
 use Rattle.xc_tool.proofs.OneLogs.{IsOne}
-use Rattle.xc_tool.proofs.OneSteps.{one_of, valid_parts}
+use Rattle.xc_tool.proofs.OneSteps.{one_of}
+use Rattle.xc_logs.proofs.ValidFacts.{valid_parts}
 
 -- ---- the one tablet
 
@@ -41,14 +43,14 @@ pub has_first : (logs : Logs) → IsTaken logs → 0 < length logs.tablets
 has_first logs taken = go logs.tablets taken
   where
     go : (ts : List Tablet) → IsTaken (record { tablets = ts }) → 0 < length ts
-    go [] k = absurd (no_header (valid_parts (record { tablets = [] }) k.valid).0)
+    go [] k = absurd (no_header (valid_parts (record { tablets = [] }) k.valid).headers)
     go (t ∷ ts) k = omega arith
 
 pub has_records : (logs : Logs) (t : Tablet) (rs : List Record) → IsTaken logs → t ≡ get_or logs.tablets 0 t → rs ≡ t.records → HasRecords logs rs
 has_records logs t rs taken is e = go logs.tablets taken is
   where
     go : (ts : List Tablet) → IsTaken (record { tablets = ts }) → t ≡ get_or ts 0 t → map (λ t. t.records) ts ≡ rs ∷ []
-    go [] k i = absurd (no_header (valid_parts (record { tablets = [] }) k.valid).0)
+    go [] k i = absurd (no_header (valid_parts (record { tablets = [] }) k.valid).headers)
     go (u ∷ []) k i = let same : t ≡ u = i in ap (λ (t : Tablet). t.records ∷ []) (sym same) ∙ ap (λ r. r ∷ []) (sym e)
     go (u ∷ v ∷ ts) k i = absurd (two_later u v ts k.now)
 
@@ -56,14 +58,6 @@ starts_at : (logs : Logs) (rs : List Record) → IsOne logs rs → start logs �
 starts_at logs rs is = subst (λ l. start l ≡ session_at 0) (sym is.is) refl
 
 -- ---- the requests
-
-or_assoc : (a b c : Bool) → ((a || b) || c) ≡ (a || (b || c))
-or_assoc true b c = refl
-or_assoc false b c = refl
-
-or_none : (a : Bool) → (a || false) ≡ a
-or_none true = refl
-or_none false = refl
 
 -- all lines of the requests
 abbrev pub all_lines : Logs → List Request → List Line
@@ -144,7 +138,7 @@ pub ended_halted : (out : Stream) (logs : Logs) (all rest : List Request) (went 
     → Wrote (lines_output (all_lines logs all)) ⊥ status.Halted out
 ended_halted out logs all rest went halted place none goes e wrote =
     let at_end : GoesOn logs all went halted place [] = subst (GoesOn logs all went halted place) none goes in
-    let met : list_any is_halt (all_lines logs all) ≡ true = sym at_end.halts ∙ or_none halted ∙ e in
+    let met : list_any is_halt (all_lines logs all) ≡ true = sym at_end.halts ∙ or-false halted ∙ e in
     record {
       shown = (sym (ap (λ b. if b then status.Halted else status.Ok) met), subst (Appends out.before out.after) (all_text logs all went halted place at_end) wrote);
       read_fault = λ e. cc;
@@ -155,7 +149,7 @@ pub ended_ok : (out : Stream) (logs : Logs) (all rest : List Request) (went : Li
     → Wrote (lines_output (all_lines logs all)) ⊥ status.Ok out
 ended_ok out logs all rest went halted place none goes e wrote =
     let at_end : GoesOn logs all went halted place [] = subst (GoesOn logs all went halted place) none goes in
-    let met : list_any is_halt (all_lines logs all) ≡ false = sym at_end.halts ∙ or_none halted ∙ e in
+    let met : list_any is_halt (all_lines logs all) ≡ false = sym at_end.halts ∙ or-false halted ∙ e in
     record {
       shown = (sym (ap (λ b. if b then status.Halted else status.Ok) met), subst (Appends out.before out.after) (all_text logs all went halted place at_end) wrote);
       read_fault = λ e. cc;

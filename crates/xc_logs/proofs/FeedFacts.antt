@@ -29,7 +29,7 @@ use Rattle.xc_record.proofs.HeaderLaws.{Numbered-at, headers_fit-all}
 
 -- ---- records that fit keep the header
 
-all_hold : (header : Header) (ops : List Op) → list_all (op_fits header) ops ≡ true → list_all (λ op. holds header (hash_of op.key)) ops ≡ true
+pub all_hold : (header : Header) (ops : List Op) → list_all (op_fits header) ops ≡ true → list_all (λ op. holds header (hash_of op.key)) ops ≡ true
 all_hold header [] e = refl
 all_hold header (op ∷ ops) e =
     let parts = and_parts (op_fits header op) (list_all (op_fits header) ops) e in

@@ -27,7 +27,7 @@ use Rattle.xc_model.proofs.ListLaw.{reads-show-lists, restored-show}
 use Rattle.xc_model.proofs.ReadLaw.{reads-show-rows, keys-suffice}
 use Rattle.xc_model.proofs.SessionLaws.{sessions-start, steps-keep, steps-rise}
 use Rattle.xc_model.proofs.TimeLaws.{named-times-rise, closed-stays, failover-closes}
-use Rattle.xc_model.proofs.WorkedTablets.{valid, by-key, removed, version, new-stands-for, early, early-stands, parent-taken, half, left_apply-taken, left_apply, parent_records, right_records, drained, drained-stands, lower, lower-stands}
+use Rattle.xc_model.proofs.WorkedTablets.{valid, by-key, removed, version, new-stands-for, early, early-stands, parent-taken, half, left_apply-taken, left_apply, parent_records, right_records, drained, drained-stands, lower, lower-stands, half-stands}
 
 agree : disagreement with_both_children ≡ None
 unfolding computed
@@ -135,7 +135,7 @@ pruned-a : given_at with_both_children 16 (4 ∷ 2 ∷ 2 ∷ []) a ≡ record { 
 unfolding computed
 pruned-a = sym (pruned-stands.keys a refl)
 
--- from the cutoff on it shows the rows; before it, it may not
+-- from the cutoff on it shows the rows; before the cutoff it need not
 pruned-read : read 16 (kept_at pruned a) ≡ row with_both_children 16 a
 unfolding computed
 pruned-read = reads-show-rows with_both_children pruned 16 16 a pruned-stands agree (omega arith) (covered 16 (omega arith)) refl
@@ -154,7 +154,7 @@ restored-read : read 15 (kept_at (restore 15 drained) z) ≡ Some (codes "2")
 unfolding computed
 restored-read = restores-keep with_both_children (restore 15 drained) drained 0 15 15 z back (omega arith)
 
--- at a time after the restore it doesn't show the row, which was removed at 16
+-- after the time of the restore it need not show the row, which is removed at 16
 read-after-restore : read 16 (kept_at (restore 15 drained) z) ≡ Some (codes "2")
 unfolding computed
 read-after-restore = refl
@@ -163,9 +163,18 @@ restored-row : read 12 (kept_at (restore 15 drained) a) ≡ row with_both_childr
 unfolding computed
 restored-row = (restored-show with_both_children (restore 15 drained) drained 0 15 12 back agree (omega arith) (omega arith)).0 a refl
 
-restored-list : where_key (slice_cmp nat_cmp) (in_range drained) (rows with_both_children 15) ≡ (a, codes "1") ∷ (z, codes "2") ∷ []
+-- A tablet that took in the apply of one child alone, restored to its safe time: nothing of the transaction is left, at either key.
+half-back : RestoredTo with_both_children 0 12 half (restore 12 half)
 unfolding computed
-restored-list = sym (restored-show with_both_children (restore 15 drained) drained 0 15 15 back agree (omega arith) (omega arith)).1
+half-back = record { stood = half-stands; after_cutoff = omega arith; covered = omega arith; is = refl }
+
+restored-list : where_key (slice_cmp nat_cmp) (in_range half) (rows with_both_children 12) ≡ (a, codes "1") ∷ (z, codes "2") ∷ []
+unfolding computed
+restored-list = sym (restored-show with_both_children (restore 12 half) half 0 12 12 half-back agree (omega arith) (omega arith)).1
+
+restored-keeps : kept_at (restore 12 half) a ≡ record { versions = record { commit = 10; txn = 0; value = Some (codes "1") } ∷ []; held = [] }
+unfolding computed
+restored-keeps = refl
 
 -- ---- safe times
 

@@ -106,6 +106,7 @@ key-hash h k e (op ∷ ops) f = go (bytes_eq k op.key) refl (key-hash h k e ops)
     go : (b : Bool) → bytes_eq k op.key ≡ b → (at_key k ops ≡ true → writes_at h ops ≡ true) → (b || at_key k ops) ≡ true → (hash_of op.key == h || writes_at h ops) ≡ true
     go true same ih f = rw (eq-eqb (hash_of op.key) h (sym (ap hash_of (bytes-equal k op.key same)) ∙ e)) refl
     go false same ih f = or_right (hash_of op.key == h) _ (ih f)
+
 key-any : (k : List ℕ) → Wider (at_key k) any_op
 key-any k ops e = refl
 

@@ -129,6 +129,7 @@ left-next lefts lasts left commits bs b rest a k tree own l n h = l n h ∙ go (
         let line : line_above (bs ++ b ∷ []) h ≡ line_above bs h ++ b.records = line-snoc bs b h ∙ rw f refl in
         rw (start, f, line) (ap (λ w. waits_by n (writes_at h) w b.records) (and-true (waits_by n (writes_at h) false (line_above bs h))) ∙ sym (waits-append n (writes_at h) false (line_above bs h) b.records))
     go (Some c) e false f = rw f (ap (λ w. waits_by n (writes_at h) w b.records) (and-false (is_held (held_from lefts b.header.parent) n h)) ∙ nothing-waits n h b.header b.records f own)
+
 -- what the tablets left, with the next one
 lefts-more : (lefts after : List (Vec Held Global)) (lasts : List ℕ) (left : Vec Held Global) (commits : List Commit) (bs : List AcceptedTablet) (b : AcceptedTablet) → AreLeft lefts lasts commits bs → InSlots commits left.items
     → ((k : ℕ) → slice_get lasts (length bs) ≡ Some k → length bs < k → (n h : ℕ) → is_held left.items n h ≡ (is_some (time_of commits n) && (holds b.header h && waits_by n (writes_at h) false (line_above (bs ++ b ∷ []) h))))

@@ -33,9 +33,10 @@ mod tests {
         Apply(u32, u64),
         Abort(u32),
         Safe(u64),
+        Split,
     }
 
-    use Step::{Abort, Apply, Intent, Safe, Write};
+    use Step::{Abort, Apply, Intent, Safe, Split, Write};
 
     fn ops(alloc: Global, key: &[u8]) -> Result<Option<Ops>, AllocError> {
         let Ok(key) = Key::new(key) else {
@@ -64,6 +65,11 @@ mod tests {
                 Some(value) => Some(Kind::Safe { value }),
                 None => None,
             },
+            Split => Some(Kind::Split {
+                at: 32_768,
+                left: 1,
+                right: 2,
+            }),
         })
     }
 
@@ -88,31 +94,53 @@ mod tests {
         Ok(Records::from_vec(items))
     }
 
-    // The audit of two roots, whose operations are at the keys aaa and zzz: the count of commits, or the case.
-    fn judged(alloc: Global, steps: &[(u32, u64, Step)]) -> Result<Option<u64>, AgreeFail> {
+    fn header(id: u32, lo: u16, hi: u16, parent: Option<u32>) -> Header {
+        Header { id, lo, hi, parent }
+    }
+
+    // The audit of logs with these tablets, each with the key of its operations: the count of commits, or the case.
+    fn judged_of(
+        alloc: Global,
+        tablets: &[(Header, &[u8])],
+        steps: &[(u32, u64, Step)],
+    ) -> Result<Option<u64>, AgreeFail> {
         let no_memory = |_: AllocError| AgreeFail::NoMemory;
-        let mut tablets = Vec::new(alloc);
-        for (id, lo, hi, key) in [(0, 0, 32_767, b"aaa"), (1, 32_768, 65_535, b"zzz")] {
+        let mut items = Vec::new(alloc);
+        for (header, key) in tablets {
             let tablet = Tablet {
-                header: Header {
-                    id,
-                    lo,
-                    hi,
-                    parent: None,
-                },
-                records: records(alloc, id, key, steps).map_err(no_memory)?,
+                header: *header,
+                records: records(alloc, header.id, key, steps).map_err(no_memory)?,
             };
-            if tablets.push(tablet).is_err() {
+            if items.push(tablet).is_err() {
                 return Err(AgreeFail::NoMemory);
             }
         }
         let logs = Logs {
-            tablets: Tablets::from_vec(tablets),
+            tablets: Tablets::from_vec(items),
         };
         if !valid(&logs) {
             return Ok(None);
         }
         Ok(Some(agree(alloc, &LogSet::new(logs))?.commits))
+    }
+
+    // The same of two roots, whose operations are at the keys aaa and zzz.
+    fn judged(alloc: Global, steps: &[(u32, u64, Step)]) -> Result<Option<u64>, AgreeFail> {
+        let tablets = [
+            (header(0, 0, 32_767, None), b"aaa".as_slice()),
+            (header(1, 32_768, 65_535, None), b"zzz".as_slice()),
+        ];
+        judged_of(alloc, &tablets, steps)
+    }
+
+    // The same of a root that splits, whose operations are at a key of the right child's range.
+    fn judged_split(alloc: Global, steps: &[(u32, u64, Step)]) -> Result<Option<u64>, AgreeFail> {
+        let tablets = [
+            (header(0, 0, 65_535, None), b"zzz".as_slice()),
+            (header(1, 0, 32_767, Some(0)), b"aaa".as_slice()),
+            (header(2, 32_768, 65_535, Some(0)), b"zzz".as_slice()),
+        ];
+        judged_of(alloc, &tablets, steps)
     }
 
     fn case(txn: u32, tablet: u32, kind: AgreeKind) -> Result<Option<u64>, AgreeFail> {
@@ -190,6 +218,40 @@ mod tests {
                 &[(0, 20, Apply(7, 15)), (1, 16, Abort(7)), (1, 17, Intent(7))]
             ),
             case(7, 1, AgreeKind::LateIntent)
+        );
+        Ok(())
+    }
+
+    #[test]
+    fn what_waits_at_a_split_waits_in_the_child_that_holds_it(rt: HostRuntime) -> Result<(), Fail> {
+        let alloc = rt.alloc();
+        assert_eq!(rt;
+            judged_split(
+                alloc,
+                &[
+                    (0, 10, Intent(7)),
+                    (0, 20, Split),
+                    (1, 25, Safe(25)),
+                    (2, 25, Safe(15)),
+                    (2, 30, Apply(7, 16))
+                ]
+            ),
+            Ok(Some(1))
+        );
+        assert_eq!(rt;
+            judged_split(
+                alloc,
+                &[
+                    (0, 10, Intent(7)),
+                    (0, 11, Intent(8)),
+                    (0, 20, Split),
+                    (1, 25, Apply(8, 15)),
+                    (1, 26, Safe(26)),
+                    (2, 25, Safe(15)),
+                    (2, 30, Apply(7, 16))
+                ]
+            ),
+            case(8, 2, AgreeKind::Straggler)
         );
         Ok(())
     }

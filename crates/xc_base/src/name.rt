@@ -51,10 +51,21 @@ pub enum BadName {
     Byte(usize),
 }
 
+// Each byte of the alphabet stands at its own place, and a comma at every other place.
+static ALPHABET: [u8; 256] = *b"\
+    ,,,,,,,,,,,,,,,,,,,,,,,,,,,,,,,,\
+    ,,,,,,,,,,,,,-./0123456789:,,,,,\
+    ,ABCDEFGHIJKLMNOPQRSTUVWXYZ,,,,_\
+    ,abcdefghijklmnopqrstuvwxyz,,,,,\
+    ,,,,,,,,,,,,,,,,,,,,,,,,,,,,,,,,\
+    ,,,,,,,,,,,,,,,,,,,,,,,,,,,,,,,,\
+    ,,,,,,,,,,,,,,,,,,,,,,,,,,,,,,,,\
+    ,,,,,,,,,,,,,,,,,,,,,,,,,,,,,,,,";
+
 fn in_alphabet(byte: u8) -> bool
     ensures { result ≡ in_alphabet byte }
 {
-    byte.is_ascii_alphanumeric() || matches!(byte, b'_' | b'.' | b'-' | b'/' | b':')
+    ALPHABET[byte as usize] != b','
 }
 
 // The place of the first byte outside the alphabet, or the length.

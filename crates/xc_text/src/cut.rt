@@ -8,6 +8,7 @@ ghost use Rattle.xc_text.specs.declared.kind.LogKind.TheVariants.{Form};
 ghost use Rattle.xc_text.specs.declared.kind.Fail.TheVariants.{Bad};
 
 use crate::kind::{Fail, LogKind};
+use memchr::memchr;
 use std::marker::Model;
 use xc_base::{NumberFail, read_number};
 
@@ -15,12 +16,10 @@ use xc_base::{NumberFail, read_number};
 fn first_place(bytes: &[u8], separator: u8) -> usize
     ensures { result ≡ position_or_len (λ b. b == separator) bytes.now }
 {
-    for (i, byte) in bytes.iter().enumerate() {
-        if *byte == separator {
-            return i;
-        }
+    match memchr(separator, bytes) {
+        Some(place) => place,
+        None => bytes.len(),
     }
-    bytes.len()
 }
 
 // What stands before the first separator, and what stands after it where there is one.

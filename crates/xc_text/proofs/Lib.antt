@@ -1,5 +1,4 @@
 pub mod CutLaws
-pub mod NameLaws
 pub mod OpsLaws
 pub mod LineLaws
 pub mod StepLaws

@@ -12,29 +12,43 @@ use memchr::memchr;
 use std::marker::Model;
 use xc_base::{NumberFail, read_number};
 
-// The place of the first byte that is the separator, or the length.
+// The place of the first byte that is the separator, or the length. Words are short, so it goes byte by byte.
+#[inline(always)]
 fn first_place(bytes: &[u8], separator: u8) -> usize
     ensures { result ≡ position_or_len (λ b. b == separator) bytes.now }
 {
-    match memchr(separator, bytes) {
-        Some(place) => place,
-        None => bytes.len(),
+    for (i, byte) in bytes.iter().enumerate() {
+        if *byte == separator {
+            return i;
+        }
     }
+    bytes.len()
 }
 
 // What stands before the first separator, and what stands after it where there is one.
+#[inline(always)]
 pub(crate) fn cut(bytes: &[u8], separator: u8) -> (&[u8], Option<&[u8]>)
     ensures pieces { split_on separator bytes.now ≡ result.0.now ∷ option_map_or (λ rest. split_on separator rest.now) result.1 [] }
     ensures found { is_some result.1 ≡ list_any (λ b. b == separator) bytes.now }
     ensures before { result.0.now ≡ before_first (λ b. b == separator) bytes.now }
     ensures after { IfSome result.1 (λ rest. rest.now ≡ after_first (λ b. b == separator) bytes.now) }
-    ensures shorter { IfSome result.1 (λ rest. length rest.now < length bytes.now) }
 {
     let place = first_place(bytes, separator);
     if place < bytes.len() {
         (&bytes[..place], Some(&bytes[place + 1..]))
     } else {
         (bytes, None)
+    }
+}
+
+// The first line of a text without the byte that ends it, and what stands after that byte where there is one.
+pub(crate) fn cut_line(text: &[u8]) -> (&[u8], Option<&[u8]>)
+    ensures pieces { split_on 10 text.now ≡ result.0.now ∷ option_map_or (λ rest. split_on 10 rest.now) result.1 [] }
+    ensures shorter { IfSome result.1 (λ rest. length rest.now < length text.now) }
+{
+    match memchr(b'\n', text) {
+        Some(end) => (&text[..end], Some(&text[end + 1..])),
+        None => (text, None),
     }
 }
 

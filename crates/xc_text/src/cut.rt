@@ -1,5 +1,5 @@
 // Bytes that are cut at a separator.
-ghost use Rattle.std.specs.Prelude.{◌≡◌, ◌<◌, ◌==◌, [], ◌∷◌, length, is_some, IfSome, MatchOption, MatchResult, Some, None, true, false};
+ghost use Rattle.std.specs.Prelude.{◌≡◌, ◌<◌, ◌==◌, [], ◌∷◌, length, is_some, IfSome, MatchOption, MatchResult, count_by, ◌+◌, Some, None, true, false};
 ghost use Rattle.std.specs.List.{position_or_len, before_first, after_first, list_any};
 ghost use Rattle.std.specs.Option.{option_map_or};
 ghost use Rattle.xc_base.specs.Words.{split_on};
@@ -95,6 +95,17 @@ impl<'a> Words<'a> {
         }
     }
 
+    // How many words are left.
+    #[inline(always)]
+    pub(crate) fn count(&self) -> usize
+        ensures { result ≡ length self.now }
+    {
+        match self.rest {
+            None => 0,
+            Some(rest) => pieces(rest),
+        }
+    }
+
     // Whether no word is left.
     pub(crate) fn end(&self) -> Result<(), Fail>
         ensures { MatchResult result (λ _. is_over self.now ≡ true) (λ e. (e ≡ Bad Form) × (is_over self.now ≡ false)) }
@@ -104,6 +115,13 @@ impl<'a> Words<'a> {
             Some(_) => Err(Fail::Bad(LogKind::Form)),
         }
     }
+}
+
+// How many pieces stand between the spaces.
+fn pieces(bytes: &[u8]) -> usize
+    ensures { result ≡ count_by (λ b. b == 32) bytes.now + 1 }
+{
+    bytes.iter().filter(|byte| **byte == b' ').count() + 1
 }
 
 // The number that a word spells. One past 64 bits gives the greatest of 64 bits, which is out of the range of every place.

@@ -27,7 +27,6 @@ fn read_lines(alloc: Global, text: &[u8]) -> Result<Logs, LogsFail>
     ensures { Reads result (logs_of text.now) }
 {
     let mut reading = Reading::begun(alloc);
-    let mut ops = Vec::new(alloc);
     let mut rest = text;
     let mut number = 1u64;
     'lines: loop {
@@ -35,7 +34,7 @@ fn read_lines(alloc: Global, text: &[u8]) -> Result<Logs, LogsFail>
         let Some(after) = after else {
             return ending(reading, line, number);
         };
-        if let Err(fail) = reading.take_line(alloc, line, &mut ops) {
+        if let Err(fail) = reading.take_line(alloc, line) {
             return Err(at_line(number, fail));
         }
         rest = after;

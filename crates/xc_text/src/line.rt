@@ -103,6 +103,7 @@ fn read_entry(alloc: Global, id: u64, mut words: Words<'_>) -> Result<LogLine, F
 
 // The line that the bytes spell, without the byte that ends it.
 #[tactic(auto, unfolding(crate::specs::Lines::line_in, crate::specs::Lines::line_of))]
+#[inline(always)]
 pub(crate) fn read_line(alloc: Global, line: &[u8]) -> Result<LogLine, Fail>
     ensures { Answers (λ line. line) result (line_in (split_on 32 line.now)) }
 {

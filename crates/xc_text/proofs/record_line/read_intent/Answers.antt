@@ -1,5 +1,4 @@
 use Rattle.std.proofs.lemmas.Result.{err_from_is_err_and}
-use Rattle.std.proofs.Common.{sym, ◌∙◌, ap, Ok}
 use Rattle.xc_text.proofs.LineLaws.{intent_refused, intent_number, intent_read}
 use Rattle.xc_text.proofs.record_line.read_intent.Goals as goal
 

@@ -56,6 +56,17 @@ key-no_fault bytes h = let name = name-no_fault 1 32 bytes h in rw name.inside (
 pub value-no_fault : (bytes : List ℕ) → value_fault bytes ≡ None → is_value bytes ≡ true
 value-no_fault bytes h = let name = name-no_fault 0 64 bytes h in rw name.inside (grind (arith, nat_tests))
 
+pub value-length : (bytes : List ℕ) → is_value bytes ≡ true → length bytes ≤ 64
+value-length bytes h =
+    let parts = and_parts (nat_le (length bytes) 64) (list_all in_alphabet bytes) h in
+    grind (arith, nat_tests)
+
+pub key-length : (bytes : List ℕ) → is_key bytes ≡ true → length bytes ≤ 32
+key-length bytes h =
+    let outer = and_parts (nat_le 1 (length bytes)) (nat_le (length bytes) 32 && list_all in_alphabet bytes) h in
+    let inner = and_parts (nat_le (length bytes) 32) (list_all in_alphabet bytes) outer.1 in
+    grind (arith, nat_tests)
+
 -- and what is a name has no fault
 inside_all : (xs : List ℕ) → list_all in_alphabet xs ≡ true → position_or_len (λ x. not (in_alphabet x)) xs ≡ length xs
 inside_all [] h = refl
@@ -85,14 +96,14 @@ value-has_no_fault bytes h =
     name-has_no_fault 0 64 bytes (omega arith) (grind (arith, nat_tests)) parts.1
 
 -- the buffer of a new key, and of a new value
-pub key_in : (xs ys : List ℕ) → ys ≡ xs → key_fault xs ≡ None → IsKeyIn (length xs) (ys ++ drop (length xs) (zeros 32))
+pub key_in : (xs ys : List ℕ) → ys ≡ xs → is_key xs ≡ true → IsKeyIn (length xs) (ys ++ drop (length xs) (zeros 32))
 key_in xs ys e h = rw e (record {
-  padded = padded-by 32 xs (name-no_fault 1 32 xs h).high;
-  key = rw (take_at xs (drop (length xs) (zeros 32)) (length xs) refl) (key-no_fault xs h);
+  padded = padded-by 32 xs (key-length xs h);
+  key = rw (take_at xs (drop (length xs) (zeros 32)) (length xs) refl) h;
 })
 
-pub value_in : (xs ys : List ℕ) → ys ≡ xs → value_fault xs ≡ None → IsValueIn (length xs) (ys ++ drop (length xs) (zeros 64))
+pub value_in : (xs ys : List ℕ) → ys ≡ xs → is_value xs ≡ true → IsValueIn (length xs) (ys ++ drop (length xs) (zeros 64))
 value_in xs ys e h = rw e (record {
-  padded = padded-by 64 xs (name-no_fault 0 64 xs h).high;
-  value = rw (take_at xs (drop (length xs) (zeros 64)) (length xs) refl) (value-no_fault xs h);
+  padded = padded-by 64 xs (value-length xs h);
+  value = rw (take_at xs (drop (length xs) (zeros 64)) (length xs) refl) h;
 })

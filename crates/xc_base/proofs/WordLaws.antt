@@ -10,6 +10,7 @@ use Rattle.std.proofs.lemmas.Str.Parse.{IsNumeralModel, numerals_by_value, tells
 use Rattle.std.proofs.lemmas.List.Splits.{slice_split_none, slice_split_at, join_with_byte-slice_split}
 use Rattle.std.proofs.lemmas.List.Elements.{All-tail}
 use Rattle.std.proofs.Math.Seq.{drop-cons}
+use Rattle.std.proofs.Math.Nat.{pow-succ', pow-le-pow_right}
 use Rattle.xc_base.specs.Words.{split_on, number_of, is_number, no_leading_zero}
 
 -- ---- digit by digit
@@ -39,6 +40,28 @@ takes_digit n ds i h a =
     let cut : drop i ds ≡ get_or ds i 0 ∷ drop (i + 1) ds = rw add-one (drop-cons ds i 0 h) in
     let parts = and_parts (is_ascii_digit (get_or ds i 0)) (all_ascii_digits (drop (i + 1) ds)) (rw cut at a) in
     record { value = rw cut (takes_first n (get_or ds i 0) (drop (i + 1) ds) parts.0); rest = parts.1 }
+
+-- the first byte taken off, where it is a digit
+pub record TakesByte (n : ℕ) (ds : List ℕ) (i : ℕ) : Type 0 where
+  pub value : digits_value_after 10 n (drop i ds) ≡ digits_value_after 10 (10 * n + (get_or ds i 0 - 48)) (drop (i + 1) ds)
+  pub rest : all_ascii_digits (drop i ds) ≡ all_ascii_digits (drop (i + 1) ds)
+
+pub takes_byte : (n : ℕ) (ds : List ℕ) (i : ℕ) → i < length ds → is_ascii_digit (get_or ds i 0) ≡ true → TakesByte n ds i
+takes_byte n ds i h a =
+    let cut : drop i ds ≡ get_or ds i 0 ∷ drop (i + 1) ds = rw add-one (drop-cons ds i 0 h) in
+    record { value = rw cut (takes_first n (get_or ds i 0) (drop (i + 1) ds) a); rest = rw (cut, a) refl }
+
+pub digit_at_most : (c : ℕ) → is_ascii_digit c ≡ true → c - 48 ≤ 9
+digit_at_most c h = grind (arith, nat_tests)
+
+-- with one more digit behind it a number stays below the next power of ten, and up to 19 digits below 64 bits
+pub one_more_digit : (n d i : ℕ) → n < 10 ^ i → d ≤ 9 → 10 * n + d < 10 ^ (i + 1)
+one_more_digit n d i h g = rw (add-one, pow-succ') (omega arith)
+
+pub nineteen_digits : (n i : ℕ) → n < 10 ^ i → i ≤ 19 → n < 2 ^ 64
+nineteen_digits n i h g =
+    let p : 10 ^ i ≤ 10 ^ 19 = pow-le-pow_right (omega arith) g in
+    omega arith
 
 -- ---- `decimal`, which `format!` writes, and `number_of` undo each other
 

@@ -14,7 +14,7 @@ mod whole;
 
 pub use bytes::Bytes;
 pub use memory::{MemorySink, MemorySource};
-pub use name::{BadName, KEY_BYTES, Key, VALUE_BYTES, Value};
+pub use name::{BadName, KEY_BYTES, Key, VALUE_BYTES, Value, is_key, is_value};
 pub use number::{NumberFail, read_number};
 pub use quiet::{QuietSink, QuietSource};
 pub use status::{Status, Stop};

@@ -1,11 +1,11 @@
 // Keys and values. Their bytes lie inline, so that an operation takes no memory of its own.
-ghost use Rattle.std.specs.Prelude.{◌≡◌, IsTrue, IfOk, not, bytes_eq, Some, refl};
+ghost use Rattle.std.specs.Prelude.{◌≡◌, IsTrue, IfOk, true, not, bytes_eq, Some, refl};
 ghost use Rattle.std.specs.Cmp.{partial_equiv_from_equiv};
 ghost use Rattle.std.specs.Cmp.Lexicographic.{slice_cmp, nat_list_eq_equiv, nat_list_cmp_total, texts_ties, texts_po};
 ghost use Rattle.std.specs.Ordering.{nat_cmp};
 ghost use Rattle.std.specs.Result.{result_err};
-ghost use Rattle.xc_base.specs.Names.{is_key, is_value, in_alphabet, name_fault, key_fault, value_fault};
-ghost use Rattle.std.specs.List.{position_or_len};
+ghost use Rattle.xc_base.specs.Names.{is_key, is_value, is_name, in_alphabet, name_fault, key_fault, value_fault};
+ghost use Rattle.std.specs.List.{position_or_len, list_all};
 
 use std::cmp::Ordering;
 use std::marker::Model;
@@ -51,10 +51,21 @@ pub enum BadName {
     Byte(usize),
 }
 
+// Each byte of the alphabet stands at its own place, and a comma at every other place.
+static ALPHABET: [u8; 256] = *b"\
+    ,,,,,,,,,,,,,,,,,,,,,,,,,,,,,,,,\
+    ,,,,,,,,,,,,,-./0123456789:,,,,,\
+    ,ABCDEFGHIJKLMNOPQRSTUVWXYZ,,,,_\
+    ,abcdefghijklmnopqrstuvwxyz,,,,,\
+    ,,,,,,,,,,,,,,,,,,,,,,,,,,,,,,,,\
+    ,,,,,,,,,,,,,,,,,,,,,,,,,,,,,,,,\
+    ,,,,,,,,,,,,,,,,,,,,,,,,,,,,,,,,\
+    ,,,,,,,,,,,,,,,,,,,,,,,,,,,,,,,,";
+
 fn in_alphabet(byte: u8) -> bool
     ensures { result ≡ in_alphabet byte }
 {
-    byte.is_ascii_alphanumeric() || matches!(byte, b'_' | b'.' | b'-' | b'/' | b':')
+    ALPHABET[byte as usize] != b','
 }
 
 // The place of the first byte outside the alphabet, or the length.
@@ -67,6 +78,33 @@ fn first_bad(bytes: &[u8]) -> usize
         }
     }
     bytes.len()
+}
+
+fn all_in_alphabet(bytes: &[u8]) -> bool
+    ensures { result ≡ list_all in_alphabet bytes.now }
+{
+    bytes.iter().all(|byte| in_alphabet(*byte))
+}
+
+// Whether bytes are a name of at most so many.
+fn is_name(bytes: &[u8], most: usize) -> bool
+    ensures { result ≡ is_name most bytes.now }
+{
+    bytes.len() <= most && all_in_alphabet(bytes)
+}
+
+/// Whether bytes are a key.
+pub fn is_key(bytes: &[u8]) -> bool
+    ensures { result ≡ is_key bytes.now }
+{
+    !bytes.is_empty() && is_name(bytes, KEY_BYTES)
+}
+
+/// Whether bytes are a value.
+pub fn is_value(bytes: &[u8]) -> bool
+    ensures { result ≡ is_value bytes.now }
+{
+    is_name(bytes, VALUE_BYTES)
 }
 
 // Whether bytes are a name of a length within the limits, and else what is wrong with them.
@@ -91,12 +129,20 @@ impl Key {
         ensures fault { result_err result ≡ key_fault bytes.now }
     {
         check_name(bytes, 1, KEY_BYTES)?;
+        Ok(Key::of(bytes))
+    }
+
+    /// The key of these bytes, where [`is_key`] says that they are one.
+    pub fn of(bytes: &[u8]) -> Key
+        requires { is_key bytes.now ≡ true }
+        ensures { result ≡ bytes.now }
+    {
         let mut buffer = [0u8; KEY_BYTES];
         buffer[..bytes.len()].copy_from_slice(bytes);
-        Ok(Key {
+        Key {
             len: bytes.len() as u8,
             bytes: buffer,
-        })
+        }
     }
 
     /// The bytes that it was made of.
@@ -180,12 +226,20 @@ impl Value {
         ensures fault { result_err result ≡ value_fault bytes.now }
     {
         check_name(bytes, 0, VALUE_BYTES)?;
+        Ok(Value::of(bytes))
+    }
+
+    /// The value of these bytes, where [`is_value`] says that they are one.
+    pub fn of(bytes: &[u8]) -> Value
+        requires { is_value bytes.now ≡ true }
+        ensures { result ≡ bytes.now }
+    {
         let mut buffer = [0u8; VALUE_BYTES];
         buffer[..bytes.len()].copy_from_slice(bytes);
-        Ok(Value {
+        Value {
             len: bytes.len() as u8,
             bytes: buffer,
-        })
+        }
     }
 
     /// The bytes that it was made of.

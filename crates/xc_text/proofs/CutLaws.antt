@@ -1,8 +1,10 @@
 -- A list of bytes that is cut at the first separator.
-use Rattle.std.proofs.Common.{◌≡◌, ℕ, ◌+◌, ◌-◌, ◌<◌, ◌≤◌, ◌==◌, Bool, true, false, List, [], ◌∷◌, length, take, drop, refl, cond, arith}
+use Rattle.std.proofs.Common.{◌≡◌, ℕ, ◌+◌, ◌-◌, ◌<◌, ◌≤◌, ◌==◌, Bool, true, false, List, [], ◌∷◌, length, take, drop, refl, sym, cond, Some, None, arith}
 use Rattle.std.proofs.lemmas.List.{take_rest}
 use Rattle.std.proofs.lemmas.List.Splits.{slice_split_first, slice_split_none}
-use Rattle.std.proofs.lemmas.List.Sums.{fails_before_first}
+use Rattle.std.proofs.lemmas.List.Sums.{fails_before_first, position_or_len_is}
+use Rattle.std.proofs.lemmas.Bool.Decides.{nat_tests}
+use Rattle.memchr.specs.Find.{IsFirstByte, is_byte}
 use Rattle.std.specs.List.{list_any, position_or_len, onto_first}
 use Rattle.xc_base.specs.Words.{split_on}
 use Rattle.xc_text.specs.Lines.{is_over}
@@ -21,6 +23,21 @@ any_found p (x ∷ xs) h = grind (arith, any_found p xs)
 pub none_found : (p : ℕ → Bool) (xs : List ℕ) → length xs ≤ position_or_len p xs → list_any p xs ≡ false
 none_found p [] h = refl
 none_found p (x ∷ xs) h = grind (arith, none_found p xs)
+
+-- ---- what `memchr` finds
+
+unequal : (a b : ℕ) → ¬ (a == b ≡ true) → a == b ≡ false
+unequal a b h = grind (arith, nat_tests)
+
+pub found_first : (c : ℕ) (bytes : List ℕ) (n : ℕ) → IsFirstByte (is_byte c) bytes (Some n) → n ≡ position_or_len (λ b. b == c) bytes
+found_first c bytes n h =
+    sym (position_or_len_is (λ b. b == c) bytes n 0 (omega (arith, h.0.high)) (λ k l. unequal _ c (h.0.before k (omega arith) l)) (λ l. h.1))
+
+pub found_none : (c : ℕ) (bytes : List ℕ) → IsFirstByte (is_byte c) bytes None → length bytes ≡ position_or_len (λ b. b == c) bytes
+found_none c bytes h =
+    sym (position_or_len_is (λ b. b == c) bytes (length bytes) 0 (omega arith) (λ k l. unequal _ c (h k (omega arith) l)) (λ l. absurd (omega arith)))
+
+-- ---- pieces
 
 -- there is at least one piece
 pub record IsCut (pieces : List (List ℕ)) : Type 0 where

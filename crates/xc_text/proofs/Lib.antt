@@ -1,5 +1,5 @@
 pub mod CutLaws
-pub mod NameLaws
+pub mod NumberLaws
 pub mod OpsLaws
 pub mod LineLaws
 pub mod StepLaws

@@ -1,5 +1,5 @@
 -- The operations of a line, read one by one.
-use Rattle.std.proofs.Common.{◌≡◌, ℕ, Bool, true, false, List, [], ◌∷◌, ◌++◌, length, Option, Some, None, Result, Ok, Err, is_some, refl, sym, ap, ◌∙◌, append_assoc, option_and_then, arith}
+use Rattle.std.proofs.Common.{◌≡◌, ℕ, Bool, true, false, List, [], ◌∷◌, ◌++◌, length, Option, Some, None, Result, Ok, Err, is_some, if◌then◌else◌, refl, sym, ap, ◌∙◌, append_assoc, option_and_then, arith}
 use Rattle.std.specs.List.{list_all}
 use Rattle.std.specs.Option.{option_map}
 use Rattle.std.proofs.lemmas.List.{append-nil}
@@ -76,23 +76,16 @@ is_key_kind all seen op ops e bad =
     let some : ops_of all ≡ Some (seen ++ op ∷ ops) = ops_of_some all parts.0 parts.1 (e ∙ ap Some parts.2) ∙ ap Some (sym parts.2) in
     rw (some, bad) refl
 
-pub seen_bad : (seen : List Op) (w : List ℕ) (ws all : List (List ℕ)) (op : Op) → Seen seen (w ∷ ws) all → op_of w ≡ Some op → op_is_named op ≡ false → (o : Option (List Op)) → all_ops ws ≡ o → ops_in all ≡ (elim o [ None ↦ Err Form | Some ops ↦ Err Key ])
+seen_bad : (seen : List Op) (w : List ℕ) (ws all : List (List ℕ)) (op : Op) → Seen seen (w ∷ ws) all → op_of w ≡ Some op → op_is_named op ≡ false → (o : Option (List Op)) → all_ops ws ≡ o → ops_in all ≡ (elim o [ None ↦ Err Form | Some ops ↦ Err Key ])
 seen_bad seen w ws all op h is bad None left = is_form all (h.whole ∙ rw (is, left) refl)
 seen_bad seen w ws all op h is bad (Some ops) left = is_key_kind all seen op ops (h.whole ∙ rw (is, left) refl) (bad_named seen op ops h.named bad)
 
-pub seen_bad_form : (seen : List Op) (w : List ℕ) (ws all : List (List ℕ)) (op : Op) → Seen seen (w ∷ ws) all → op_of w ≡ Some op → op_is_named op ≡ false → is_some (all_ops ws) ≡ false → ops_in all ≡ Err Form
-seen_bad_form seen w ws all op h is bad none = by (all_ops ws) refl
+pub seen_misnamed : (seen : List Op) (w : List ℕ) (ws all : List (List ℕ)) (op : Op) → Seen seen (w ∷ ws) all → op_of w ≡ Some op → op_is_named op ≡ false → ops_in all ≡ Err (if is_some (all_ops ws) then Key else Form)
+seen_misnamed seen w ws all op h is bad = by (all_ops ws) refl
   where
-    by : (o : Option (List Op)) → all_ops ws ≡ o → ops_in all ≡ Err Form
-    by None left = seen_bad seen w ws all op h is bad None left
-    by (Some ops) left = let f : is_some (all_ops ws) ≡ true = rw left refl in cc
-
-pub seen_bad_key : (seen : List Op) (w : List ℕ) (ws all : List (List ℕ)) (op : Op) → Seen seen (w ∷ ws) all → op_of w ≡ Some op → op_is_named op ≡ false → is_some (all_ops ws) ≡ true → ops_in all ≡ Err Key
-seen_bad_key seen w ws all op h is bad some = by (all_ops ws) refl
-  where
-    by : (o : Option (List Op)) → all_ops ws ≡ o → ops_in all ≡ Err Key
-    by None left = let f : is_some (all_ops ws) ≡ false = rw left refl in cc
-    by (Some ops) left = seen_bad seen w ws all op h is bad (Some ops) left
+    by : (o : Option (List Op)) → all_ops ws ≡ o → ops_in all ≡ Err (if is_some (all_ops ws) then Key else Form)
+    by None left = rw left (seen_bad seen w ws all op h is bad None left)
+    by (Some ops) left = rw left (seen_bad seen w ws all op h is bad (Some ops) left)
 
 -- ---- the end of the words
 

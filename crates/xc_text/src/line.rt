@@ -12,7 +12,7 @@ use crate::cut::{Words, number};
 use crate::kind::{Fail, LogKind, after_numbers};
 use crate::record_line::{hash_in, is_tablet, is_time, read_kind, tablet_in, time_in};
 use std::alloc::Global;
-use xc_record::{Header, Op, Record};
+use xc_record::{Header, Record};
 
 // A line by itself.
 #[derive(Drop, Debug)]
@@ -85,16 +85,11 @@ fn numbers_fit(id: u64, time: u64) -> bool
     is_tablet(id) && is_time(time)
 }
 
-fn read_entry(
-    alloc: Global,
-    id: u64,
-    mut words: Words<'_>,
-    ops: &mut Vec<Op>,
-) -> Result<LogLine, Fail>
+fn read_entry(alloc: Global, id: u64, mut words: Words<'_>) -> Result<LogLine, Fail>
     ensures { Answers (λ line. line) result (judge numbers_fit names_fit (entry_of id words.entry)) }
 {
     let time = words.number()?;
-    match read_kind(alloc, words, ops) {
+    match read_kind(alloc, words) {
         Err(fail) => Err(after_numbers(fail, numbers_fit(id, time))),
         Ok(kind) => Ok(LogLine::Entry(
             tablet_in(id)?,
@@ -106,9 +101,10 @@ fn read_entry(
     }
 }
 
-// The line that the bytes spell, without the byte that ends it. The list of operations is there to be used again.
+// The line that the bytes spell, without the byte that ends it.
 #[tactic(auto, unfolding(crate::specs::Lines::line_in, crate::specs::Lines::line_of))]
-pub(crate) fn read_line(alloc: Global, line: &[u8], ops: &mut Vec<Op>) -> Result<LogLine, Fail>
+#[inline(always)]
+pub(crate) fn read_line(alloc: Global, line: &[u8]) -> Result<LogLine, Fail>
     ensures { Answers (λ line. line) result (line_in (split_on 32 line.now)) }
 {
     let mut words = Words::of(line);
@@ -125,5 +121,5 @@ pub(crate) fn read_line(alloc: Global, line: &[u8], ops: &mut Vec<Op>) -> Result
         words.end()?;
         return Ok(LogLine::End);
     }
-    read_entry(alloc, number(word)?, words, ops)
+    read_entry(alloc, number(word)?, words)
 }

@@ -1,14 +1,15 @@
 // The operations of a record's line.
-ghost use Rattle.std.specs.Prelude.{◌≡◌, true, false, is_some, MatchOption, Some, None};
+ghost use Rattle.std.specs.Prelude.{◌≡◌, true, false, is_some, MatchOption, Some, None, if◌then◌else◌};
 ghost use Rattle.std.specs.Option.{option_copied};
-ghost use Rattle.xc_base.specs.Names.{is_key, is_value};
 ghost use Rattle.xc_text.specs.Kinds.{Answers};
 ghost use Rattle.xc_text.specs.Lines.{set_of, op_of, all_ops, op_is_named, ops_in};
+ghost use Rattle.xc_text.specs.declared.kind.Fail.TheVariants.{Bad};
 
 use crate::cut::{Words, cut};
 use crate::kind::{Fail, LogKind};
-use xc_base::{Key, Value};
-use xc_record::Op;
+use std::alloc::Global;
+use xc_base::{Key, Value, is_key, is_value};
+use xc_record::{Op, Ops};
 
 // The key and the value of `key=value`.
 fn set_parts(rest: &[u8]) -> Option<(&[u8], Option<&[u8]>)>
@@ -32,37 +33,28 @@ fn parts(word: &[u8]) -> Option<(&[u8], Option<&[u8]>)>
     }
 }
 
-fn key(bytes: &[u8]) -> Option<Key>
-    ensures { MatchOption result (is_key bytes.now ≡ false) (λ key. (key ≡ bytes.now) × (is_key bytes.now ≡ true)) }
+// Whether both the key and the value are well formed.
+fn is_named(key: &[u8], value: Option<&[u8]>) -> bool
+    ensures { result ≡ op_is_named (record { key = key.now; value = option_copied value.entry }) }
 {
-    match Key::new(bytes) {
-        Ok(key) => Some(key),
-        Err(_) => None,
-    }
+    is_key(key)
+        && match value {
+            None => true,
+            Some(value) => is_value(value),
+        }
 }
 
-fn value(bytes: &[u8]) -> Option<Value>
-    ensures { MatchOption result (is_value bytes.now ≡ false) (λ value. (value ≡ bytes.now) × (is_value bytes.now ≡ true)) }
+// The operation of a key and a value.
+fn named(key: &[u8], value: Option<&[u8]>) -> Op
+    requires { op_is_named (record { key = key.now; value = option_copied value }) ≡ true }
+    ensures { result ≡ record { key = key.now; value = option_copied value.entry } }
 {
-    match Value::new(bytes) {
-        Ok(value) => Some(value),
-        Err(_) => None,
-    }
-}
-
-// The operation of a key and a value, where both are well formed.
-fn named(key_bytes: &[u8], value_bytes: Option<&[u8]>) -> Option<Op>
-    ensures { MatchOption result
-        (op_is_named (record { key = key_bytes.now; value = option_copied value_bytes.entry }) ≡ false)
-        (λ op. (op ≡ record { key = key_bytes.now; value = option_copied value_bytes.entry }) × (op_is_named op ≡ true)) }
-{
-    let key = key(key_bytes)?;
-    match value_bytes {
-        None => Some(Op { key, value: None }),
-        Some(bytes) => Some(Op {
-            key,
-            value: Some(value(bytes)?),
-        }),
+    Op {
+        key: Key::of(key),
+        value: match value {
+            None => None,
+            Some(value) => Some(Value::of(value)),
+        },
     }
 }
 
@@ -78,28 +70,36 @@ fn all_have_form(mut words: Words<'_>) -> bool
     true
 }
 
-// Reads the operations into the list, which is emptied first. After an error the list has some of them.
-pub(crate) fn read_ops(mut words: Words<'_>, ops: &mut Vec<Op>) -> Result<(), Fail>
-    ensures { Answers (λ _. ops.new.items) result (ops_in words.entry) }
+// Why operations are refused of which one isn't well named, and these words are left.
+fn misnamed(words: Words<'_>) -> Fail
+    ensures { result ≡ Bad (if is_some (all_ops words.entry) then LogKind.Key else LogKind.Form) }
 {
-    ops.clear();
+    if all_have_form(words) {
+        Fail::Bad(LogKind::Key)
+    } else {
+        Fail::Bad(LogKind::Form)
+    }
+}
+
+// The operations, with room for no more where they are few enough for a record.
+pub(crate) fn read_ops(alloc: Global, mut words: Words<'_>) -> Result<Ops, Fail>
+    ensures { Answers (λ ops. ops) result (ops_in words.entry) }
+{
+    let mut ops = Vec::new(alloc);
     'words: while let Some(word) = words.next() {
         let Some((key, value)) = parts(word) else {
             return Err(Fail::Bad(LogKind::Form));
         };
-        match named(key, value) {
-            Some(op) => ops.extend_from_slice(&[op])?,
-            None => {
-                return if all_have_form(words) {
-                    Err(Fail::Bad(LogKind::Key))
-                } else {
-                    Err(Fail::Bad(LogKind::Form))
-                };
-            }
+        if !is_named(key, value) {
+            return Err(misnamed(words));
         }
+        if ops.is_empty() {
+            ops.reserve_exact(1 + words.count().min(63))?;
+        }
+        ops.extend_from_slice(&[named(key, value)])?;
     }
     if ops.is_empty() {
         return Err(Fail::Bad(LogKind::Form));
     }
-    Ok(())
+    Ok(Ops::from_vec(ops))
 }

@@ -3,7 +3,7 @@ ghost use Rattle.std.specs.Prelude.{◌≡◌, IfOk, true};
 ghost use Rattle.xc_record.specs.Valid.{is_valid};
 ghost use Rattle.xc_text.specs.LogText.{at_line, logs_of, rest_of_text, Reads};
 
-use crate::cut::cut;
+use crate::cut::cut_line;
 use crate::kind::{Fail, LogKind, LogsFail};
 use crate::reading::{Reading, Stage};
 use std::alloc::Global;
@@ -27,15 +27,14 @@ fn read_lines(alloc: Global, text: &[u8]) -> Result<Logs, LogsFail>
     ensures { Reads result (logs_of text.now) }
 {
     let mut reading = Reading::begun(alloc);
-    let mut ops = Vec::new(alloc);
     let mut rest = text;
     let mut number = 1u64;
     'lines: loop {
-        let (line, after) = cut(rest, b'\n');
+        let (line, after) = cut_line(rest);
         let Some(after) = after else {
-            return ending(reading, rest, number);
+            return ending(reading, line, number);
         };
-        if let Err(fail) = reading.take_line(alloc, line, &mut ops) {
+        if let Err(fail) = reading.take_line(alloc, line) {
             return Err(at_line(number, fail));
         }
         rest = after;

@@ -149,28 +149,23 @@ impl Reading {
         Ok(())
     }
 
-    // Takes the next line, given without the byte that ends it. The list of operations is there to be used again.
-    pub(crate) fn take_line(
-        &mut self,
-        alloc: Global,
-        line: &[u8],
-        ops: &mut Vec<Op>,
-    ) -> Result<(), Fail>
+    // Takes the next line, given without the byte that ends it.
+    pub(crate) fn take_line(&mut self, alloc: Global, line: &[u8]) -> Result<(), Fail>
         ensures { Answers (λ _. self.new) result (step self.old line.now) }
     {
         match self.stage {
-            Stage::Start => self.take_first(alloc, line, ops),
-            Stage::Headers | Stage::Records => self.take_inner(alloc, line, ops),
+            Stage::Start => self.take_first(alloc, line),
+            Stage::Headers | Stage::Records => self.take_inner(alloc, line),
             Stage::Ended => Err(Fail::Bad(LogKind::Form)),
         }
     }
 
     // Takes the first line.
-    fn take_first(&mut self, alloc: Global, line: &[u8], ops: &mut Vec<Op>) -> Result<(), Fail>
+    fn take_first(&mut self, alloc: Global, line: &[u8]) -> Result<(), Fail>
         requires { self.old.stage ≡ Stage.Start }
         ensures { Answers (λ _. self.new) result (step self.old line.now) }
     {
-        match read_line(alloc, line, ops) {
+        match read_line(alloc, line) {
             Ok(line) => self.start(line),
             Err(Fail::NoMemory) => Err(Fail::NoMemory),
             Err(Fail::Bad(_)) => Err(Fail::Bad(LogKind::Form)),
@@ -190,11 +185,11 @@ impl Reading {
     }
 
     // Takes a line between the first and the last, or the last.
-    fn take_inner(&mut self, alloc: Global, line: &[u8], ops: &mut Vec<Op>) -> Result<(), Fail>
+    fn take_inner(&mut self, alloc: Global, line: &[u8]) -> Result<(), Fail>
         requires { is_inner self.old.stage ≡ true }
         ensures { Answers (λ _. self.new) result (step self.old line.now) }
     {
-        let line = read_line(alloc, line, ops)?;
+        let line = read_line(alloc, line)?;
         self.take(alloc, line)
     }
 

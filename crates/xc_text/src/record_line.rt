@@ -11,7 +11,7 @@ use crate::cut::Words;
 use crate::kind::{Fail, LogKind, after_numbers};
 use crate::operations::read_ops;
 use std::alloc::Global;
-use xc_record::{Kind, Op, Ops};
+use xc_record::Kind;
 use xc_time::HybridTime;
 
 pub(crate) fn time_in(value: u64) -> Result<HybridTime, Fail>
@@ -68,32 +68,25 @@ pub(crate) fn hash_in(value: u64) -> Result<u16, Fail>
     Ok(value as u16)
 }
 
-fn copied(alloc: Global, ops: &[Op]) -> Result<Ops, Fail>
-    ensures { MatchResult result (λ copy. copy ≡ ops.now) (λ e. e ≡ Fail.NoMemory) }
-{
-    Ok(Ops::from_vec(Vec::from_slice(alloc, ops)?))
-}
-
-fn read_write(alloc: Global, words: Words<'_>, ops: &mut Vec<Op>) -> Result<Kind, Fail>
+fn read_write(alloc: Global, words: Words<'_>) -> Result<Kind, Fail>
     ensures { Answers (λ kind. kind) result (judge kind_numbers_fit kind_names_fit (option_map Write (ops_of words.entry))) }
 {
-    read_ops(words, ops)?;
     Ok(Kind::Write {
-        ops: copied(alloc, ops.as_slice())?,
+        ops: read_ops(alloc, words)?,
     })
 }
 
-fn read_intent(alloc: Global, mut words: Words<'_>, ops: &mut Vec<Op>) -> Result<Kind, Fail>
+fn read_intent(alloc: Global, mut words: Words<'_>) -> Result<Kind, Fail>
     ensures { Answers (λ kind. kind) result (judge kind_numbers_fit kind_names_fit (intent_of words.entry)) }
 {
     let txn = words.number()?;
-    if let Err(fail) = read_ops(words, ops) {
-        return Err(after_numbers(fail, is_transaction(txn)));
+    match read_ops(alloc, words) {
+        Err(fail) => Err(after_numbers(fail, is_transaction(txn))),
+        Ok(ops) => Ok(Kind::Intent {
+            txn: transaction_in(txn)?,
+            ops,
+        }),
     }
-    Ok(Kind::Intent {
-        txn: transaction_in(txn)?,
-        ops: copied(alloc, ops.as_slice())?,
-    })
 }
 
 fn read_apply(mut words: Words<'_>) -> Result<Kind, Fail>
@@ -142,22 +135,18 @@ fn read_split(mut words: Words<'_>) -> Result<Kind, Fail>
     })
 }
 
-// What the words say, from the verb on. The list of operations is there to be used again.
+// What the words say, from the verb on.
 #[tactic(auto, unfolding(crate::specs::Lines::kind_in, crate::specs::Lines::kind_of))]
-pub(crate) fn read_kind(
-    alloc: Global,
-    mut words: Words<'_>,
-    ops: &mut Vec<Op>,
-) -> Result<Kind, Fail>
+pub(crate) fn read_kind(alloc: Global, mut words: Words<'_>) -> Result<Kind, Fail>
     ensures { Answers (λ kind. kind) result (kind_in words.entry) }
 {
     let Some(verb) = words.next() else {
         return Err(Fail::Bad(LogKind::Form));
     };
     if verb == b"write".as_slice() {
-        read_write(alloc, words, ops)
+        read_write(alloc, words)
     } else if verb == b"intent".as_slice() {
-        read_intent(alloc, words, ops)
+        read_intent(alloc, words)
     } else if verb == b"apply".as_slice() {
         read_apply(words)
     } else if verb == b"abort".as_slice() {

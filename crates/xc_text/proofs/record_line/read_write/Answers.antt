@@ -1,5 +1,4 @@
 use Rattle.std.proofs.lemmas.Result.{err_from_is_err_and}
-use Rattle.std.proofs.Common.{sym, ◌∙◌, ap, Ok}
 use Rattle.xc_text.proofs.LineLaws.{write_refused, write_read}
 use Rattle.xc_text.proofs.record_line.read_write.Goals as goal
 
@@ -7,4 +6,4 @@ pub returns-in_err-read_ops : goal.returns-in_err-read_ops
 returns-in_err-read_ops c = let p = err_from_is_err_and c.from_residual.result c.from_residual.ensures.1 in rw (p.1, p.2) (write_refused c.args.words _ c.in_err-read_ops.ensures)
 
 pub returns : goal.returns
-returns c = write_read c.args.words _ (c.in_ok-read_ops.ensures ∙ ap Ok (sym (c.in_ok-copied.ensures ∙ c.as_slice.ensures.value)))
+returns c = write_read c.args.words _ c.in_ok-read_ops.ensures

@@ -1,6 +1,6 @@
 use Rattle.std.proofs.Common.{sym}
-use Rattle.xc_base.proofs.NameLemmas.{key_in}
+use Rattle.xc_base.proofs.NameLemmas.{key-no_fault}
 use Rattle.xc_base.proofs.name.Key.new.Goals as goal
 
-pub invariant_of-result : goal.invariant_of-result
-invariant_of-result c = key_in c.args.bytes.now c.copy_from_slice.new.self c.copy_from_slice.ensures.after (sym c.in_ok-check_name.ensures)
+pub of-requires : goal.of-requires
+of-requires c = key-no_fault c.args.bytes.now (sym c.in_ok-check_name.ensures)

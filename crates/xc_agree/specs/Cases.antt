@@ -1,6 +1,11 @@
 -- The first case of disagreement, tablet by tablet.
 --     IsFirst first cases      first has the least transaction with a case, and that case
+--     left_of lefts i      what the records of the tablet at i left waiting
 --     held_from lefts parent      what the parent's records left waiting; nothing for a root
+--     AreLast lasts ts      lasts has the last child of each tablet
+--     AreLeft lefts lasts commits bs      lefts has what each of the tablets bs with a child to come left waiting
+--     Drops lefts after lasts parent id      after is lefts without what the parent left, where the tablet `id` is its last child
+--     cases_of logs commits bs n      the first case of the transaction n at the tablets bs
 use Rattle.std.specs.Prelude.{◌≡◌, ℕ, ◌+◌, ◌<◌, ◌≤◌, ◌==◌, false, if◌then◌else◌, nat_le, Bool, List, [], Option, Some, None, ◌&&◌, MatchOption, slice_get, length, option_map, option_and_then, is_some, take, flat_map, filter}
 use Rattle.std.specs.Option.{option_map_or}
 use Rattle.std.specs.declared.vec.Vec.{Vec}

@@ -3,6 +3,9 @@
 --     writes_at h ops      one of the operations is at a key of the hash
 --     intends n h rs      one of the records is an intent of n with an operation there
 --     intends_since n h since rs      the same from the place on
+--     InSlots commits held      what is held is of transactions that commit, each with its slot
+--     IsLeft more commits header held rs      more is held at the end of a tablet with the records rs, whose parent held `held`
+--     StaysHeld still commits look header held      still is what of `held` waits on in the range, since before the first record
 --     waits_by n p w rs      whether n waits after the records rs, by an operation that the test p passes, where w says whether it did before
 use Rattle.std.specs.Prelude.{◌≡◌, ℕ, ◌-◌, Bool, true, false, List, [], ◌∷◌, Option, if◌then◌else◌, is_some, fold, ◌&&◌, ◌==◌, drop, nat_le}
 use Rattle.std.specs.List.{list_any, list_all}

@@ -4,6 +4,10 @@
 --     see n commit s r      the same after the record r, for the transaction n, which commits at `commit`
 --     kind_seen s      the first kind of the cases that stand
 --     IsLeast found kinds      found has the least transaction with a kind, and that kind
+--     since_at look slot, since_in commits look n      the place since which the slot, or the transaction, waits by the look
+--     is_in_slot commits txn slot      the transaction commits, and is in the slot
+--     IsIdle look commits      nothing waits by the look, which has a slot for each commit
+--     IsLook look commits seen      the look has of each transaction what is seen of it
 use Rattle.std.specs.Prelude.{◌≡◌, ℕ, ◌+◌, ◌<◌, Bool, true, false, List, [], ◌∷◌, Option, Some, None, ◌&&◌, ◌||◌, ◌==◌, not, nat_le, nat_lt, if◌then◌else◌, MatchOption, option_and_then, is_some, slice_get, length}
 use Rattle.std.specs.List.{list_any, list_all}
 use Rattle.std.specs.Option.{option_map_or}

@@ -61,7 +61,7 @@ pub fn accepted_part<'a>(t: &'a Tablet, run: &Run) -> &'a [Record]
 }
 
 /// Judges the tablet after those before it, which left this waiting, by a look that is idle before and after. What it
-/// leaves itself is wanted of a tablet with children alone.
+/// leaves itself is looked for at a tablet with children alone.
 pub fn judge_tablet(
     alloc: Global,
     look: &mut Look,

@@ -17,7 +17,7 @@ pub struct Judged {
     pub left: Vec<Held>,
 }
 
-/// Judges a tablet's accepted records by a look that is idle before and after. What waits at the end is wanted of a
+/// Judges a tablet's accepted records by a look that is idle before and after. What waits at the end is looked for at a
 /// tablet with children alone.
 pub fn judge(
     alloc: Global,

@@ -22,6 +22,15 @@ def ops(count):
     return " ".join(["+aaa=1"] * count)
 
 
+def many(record, count):
+    """A text of one tablet with so many of this record, at rising times."""
+    return f"xclog 1\n{ONE}\n" + "".join(f"0 {i + 1} {record}\n" for i in range(count)) + "end\n"
+
+
+RECORDS = 2**20
+FULL = "write" + 64 * " -a"
+FULL_RECORDS = 2**22 // 64
+
 TABLE = [
     ("", (1, "no-end")),
     ("xclog 1", (1, "form")),
@@ -84,6 +93,10 @@ TABLE = [
     (f"xclog 1\n{SPLIT}\n0 9 split 32768 2 1\nend\n", (5, "range")),
     (f"xclog 1\n{SPLIT}\n0 9 split 32768 1 2\n0 10 abort 9\nend\n", (6, "after-split")),
     (f"xclog 1\n{SPLIT}\n0 9 split 32768 1 2\nend\n", GOOD),
+    (many("abort 3", RECORDS), GOOD),
+    (many("abort 3", RECORDS + 1), (3 + RECORDS, "limit")),
+    (many(FULL, FULL_RECORDS), GOOD),
+    (many(FULL, FULL_RECORDS + 1), (3 + FULL_RECORDS, "limit")),
 ]
 
 

@@ -1,6 +1,6 @@
 -- Laws of the audit.
 use Rattle.std.proofs.Common.{◌≡◌, ℕ, zero, suc, ◌+◌, ◌<◌, Bool, true, false, ◌||◌, List, [], ◌∷◌, ◌++◌, length, map, refl, ap, sym, ◌∙◌, subst, arith, length-append}
-use Rattle.std.proofs.lemmas.Bool.{eqb-true, eq-eqb}
+use Rattle.std.proofs.lemmas.Bool.{eqb-true, eq-eqb, true≢false}
 use Rattle.std.specs.Prelude.{Option, Some, None, ◌==◌, slice_get, flat_map, if◌then◌else◌, is_some, option_map}
 use Rattle.std.specs.List.{filter_map, cons_option}
 use Rattle.std.specs.Option.{option_map_or}
@@ -120,10 +120,7 @@ each-one f g (n ∷ ns) k = go (f n) refl (k n (rw (eq-eqb n n refl) refl)) (eac
   where
     go : (o : Option ℕ) → f n ≡ o → is_some (f n) ≡ true → length (flat_map (λ n. option_map_or (λ c. g n c ∷ []) (f n) []) ns) ≡ length ns
         → length (option_map_or (λ c. g n c ∷ []) o [] ++ flat_map (λ n. option_map_or (λ c. g n c ∷ []) (f n) []) ns) ≡ length (n ∷ ns)
-    go None e h ih = absurd (no (sym h ∙ ap (λ o. is_some o) e))
-      where
-        no : true ≡ false → ⊥
-        no e = cc
+    go None e h ih = absurd (true≢false (sym h ∙ ap (λ o. is_some o) e))
     go (Some c) e h ih = omega arith
 
 txns-here : (ts : List Tablet) → length (txn_commits (of_tablets ts)) ≡ length (distinct (applied_in (all_records (accepted_tablets_after [] ts))))

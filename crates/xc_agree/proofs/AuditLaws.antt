@@ -11,7 +11,7 @@ use Rattle.xc_record.specs.declared.record.Op.{Op}
 use Rattle.xc_record.specs.declared.record.Record.{Record}
 use Rattle.xc_record.specs.declared.record.Tablet.{Tablet}
 use Rattle.xc_record.specs.declared.record.Logs.{Logs}
-use Rattle.xc_record.specs.Accepted.{AcceptedTablet, accepted_tablets, accepted_tablets_after, accepted_tablet, halt}
+use Rattle.xc_record.specs.Accepted.{AcceptedTablet, accepted_tablets_after, accepted_tablet, halt}
 use Rattle.xc_record.specs.Commits.{Commit, commit_cmp, applies, applied_txn, distinct, write_ops, writes_in, write_commits, txn_ops, txn_commits, commits, commit_of, applied}
 use Rattle.xc_record.specs.Agreement.{Disagreement, disagreement, disagreement_on, kind_at}
 use Rattle.xc_record.specs.Lists.{first_some, or_else, sort_by, insert_by}
@@ -28,6 +28,7 @@ use Rattle.xc_agree.specs.declared.audit.Audit.{Audit}
 use Rattle.xc_agree.specs.Audit.{end_of, state_of, IsAudit}
 use Rattle.xc_agree.specs.Cases.{IsFirst, case_of, cases_of, of_tablets, all_records}
 use Rattle.xc_record.proofs.NumberLaws.{has, has-distinct, Rising, distinct-rising}
+use Rattle.xc_agree.proofs.RunLaws.{accepted-of}
 use Rattle.xc_agree.proofs.TallyLaws.{has-applied, first-append, filter_map-append, writes-append}
 use Rattle.std.proofs.lemmas.Bool.{or_right}
 
@@ -52,10 +53,6 @@ ends-from logs [] [] (u ∷ ts) s i h k = absurd h
 ends-from logs [] (c ∷ bs) ts s i h k = absurd h
 ends-from logs (x ∷ runs) [] ts s i h k = absurd h
 ends-from logs (x ∷ runs) (c ∷ bs) [] s i h k = absurd h
-
-accepted-of : (ts : List Tablet) → accepted_tablets (of_tablets ts) ≡ accepted_tablets_after [] ts
-unfolding accepted_tablets
-accepted-of ts = refl
 
 pub ends-here : (ts : List Tablet) (runs : List Run) → IsRuns runs (accepted_tablets_after [] ts) ts → (s : ℕ) → slice_get (map end_from runs) s ≡ option_map (end_of (of_tablets ts) s) (accepted_tablet (of_tablets ts) s)
 ends-here ts runs h s =

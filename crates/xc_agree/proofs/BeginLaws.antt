@@ -1,9 +1,10 @@
 -- Laws of a tablet's begin, where what its parent held begins to wait, and of the clearing at its end.
 use Rattle.std.proofs.Common.{◌≡◌, ℕ, ◌+◌, ◌<◌, Bool, true, false, ◌||◌, List, [], ◌∷◌, ◌++◌, length, take, get_or, zero, suc, refl, ap, sym, ◌∙◌, arith}
-use Rattle.std.proofs.lemmas.Bool.{eqb-true, eq-eqb, true≢false, false≢true}
+use Rattle.std.proofs.lemmas.Bool.{eqb-true, eq-eqb, true≢false, false≢true, or_left, or_right}
 use Rattle.std.proofs.lemmas.Bool.Decides.{nat_tests}
 use Rattle.std.proofs.lemmas.List.Folds.{list_any_more, list_any-append}
 use Rattle.std.proofs.lemmas.Option.{none-some}
+use Rattle.std.proofs.Math.Bool.{or-false, or-true}
 use Rattle.std.specs.Prelude.{Option, Some, None, if◌then◌else◌, ◌==◌, ◌&&◌, option_and_then, is_some, slice_set}
 use Rattle.std.specs.List.{list_all}
 use Rattle.xc_record.specs.declared.record.Header.{Header}
@@ -80,14 +81,10 @@ begin-more old new commits header held i d slots below h inside since kept found
     or-zero true = refl
     or-zero false = refl
 
-    or-none : (w : Bool) → (if w then start else None) ≡ (if w || false then start else None)
-    or-none true = refl
-    or-none false = refl
-
     go : (n : ℕ) (a b : Bool) → n == (get_or held i d).txn ≡ a → (get_or held i d).txn == n ≡ b
         → (if a then or_else (since_in commits old n) (Some 0) else since_in commits old n) ≡ (if waits_from header (take i held) n || (b && holds header (get_or held i d).hash) then Some 0 else None)
     go n true true e f = rw (h.since n, inside) (or-zero (waits_from header (take i held) n))
-    go n false false e f = rw (h.since n) (or-none (waits_from header (take i held) n))
+    go n false false e f = rw (h.since n) (ap (λ b. if b then start else None) (sym (or-false (waits_from header (take i held) n))))
     go n true false e f = absurd (true≢false (sym (eq-eqb (get_or held i d).txn n (sym (eqb-true n (get_or held i d).txn e))) ∙ f))
     go n false true e f = absurd (true≢false (sym (eq-eqb n (get_or held i d).txn (sym (eqb-true (get_or held i d).txn n f))) ∙ e))
 
@@ -136,12 +133,8 @@ pub began-more : (old new : Look) (txn slot place : ℕ) → slot < length old.w
 began-more old new txn slot place below waiting began h i w = ap (is_slot_of i) began ∙ list_any-append (λ w. w.slot == i) old.began.items (record { txn = txn; slot = slot } ∷ [])
     ∙ go (i == slot) refl (sym (ap (λ ws. is_some (waits_at ws i)) waiting ∙ ap is_some (waits-set old.waiting.items slot (Some place) below i)) ∙ w)
   where
-    or-true : (a b : Bool) → b ≡ true → (a || (b || false)) ≡ true
-    or-true true b e = refl
-    or-true false b e = rw e refl
-
     go : (b : Bool) → i == slot ≡ b → is_some (if b then Some place else since_at old i) ≡ true → (is_slot_of i old.began.items || (slot == i || false)) ≡ true
-    go true e w = or-true (is_slot_of i old.began.items) (slot == i) (eq-eqb slot i (sym (eqb-true i slot e)))
+    go true e w = or_right (is_slot_of i old.began.items) _ (or_left (slot == i) false (eq-eqb slot i (sym (eqb-true i slot e))))
     go false e w = rw (h i w) refl
 
 -- ---- the end
@@ -150,17 +143,9 @@ pub stop-more : (before old new : List (Option ℕ)) (ws : List Waiter) (i : ℕ
     → ((k : ℕ) → waits_at new k ≡ (if k == (get_or ws i d).slot then None else waits_at old k)) → (k : ℕ) → waits_at new k ≡ (if is_slot_of k (take (i + 1) ws) then None else waits_at before k)
 stop-more before old new ws i d below was step k = step k ∙ go (k == (get_or ws i d).slot) ((get_or ws i d).slot == k) refl refl ∙ ap (λ b. if b then None else waits_at before k) (sym (list_any_more (λ w. w.slot == k) ws i d below))
   where
-    both : (b : Bool) → None ≡ (if b || true then None else waits_at before k)
-    both true = refl
-    both false = refl
-
-    same : (b : Bool) → (if b then None else waits_at before k) ≡ (if b || false then None else waits_at before k)
-    same true = refl
-    same false = refl
-
     go : (a b : Bool) → k == (get_or ws i d).slot ≡ a → (get_or ws i d).slot == k ≡ b → (if a then None else waits_at old k) ≡ (if is_slot_of k (take i ws) || b then None else waits_at before k)
-    go true true e f = both (is_slot_of k (take i ws))
-    go false false e f = was k ∙ same (is_slot_of k (take i ws))
+    go true true e f = ap (λ b. if b then None else waits_at before k) (sym (or-true (is_slot_of k (take i ws))))
+    go false false e f = was k ∙ ap (λ b. if b then None else waits_at before k) (sym (or-false (is_slot_of k (take i ws))))
     go true false e f = absurd (true≢false (sym (eq-eqb (get_or ws i d).slot k (sym (eqb-true k (get_or ws i d).slot e))) ∙ f))
     go false true e f = absurd (true≢false (sym (eq-eqb k (get_or ws i d).slot (sym (eqb-true (get_or ws i d).slot k f))) ∙ e))
 

@@ -52,9 +52,6 @@ waits-by-fate n m Dropped v = grind (arith, nat_tests)
 fate-equal : (n m : ℕ) (es : List Event) → (m == n && is_waits (fate m es)) ≡ (m == n && is_waits (fate n es))
 fate-equal n m es = grind (arith, nat_tests)
 
-or-idem : (a b c : Bool) → ((a && b) || ((a && (c && b)) || false)) ≡ (a && b)
-or-idem a b c = grind arith
-
 waiting-holds : (n m time : ℕ) (vs : List Written) (es : List Event) → waits_in n (waiting (map (λ v. Hold m time v) vs ++ es)) ≡ ((some_put vs && (m == n && is_waits (fate n es))) || waits_in n (waiting es))
 unfolding some_put
 waiting-holds n m time [] es = refl

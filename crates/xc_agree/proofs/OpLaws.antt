@@ -43,9 +43,6 @@ any-intents : (n tablet : ℕ) (q : Op → Bool) (rs : List Record) → list_any
 any-intents n tablet q [] = refl
 any-intents n tablet q (r ∷ rs) = go (any-intents n tablet q rs) (intent_ops n r.kind)
   where
-    or-false : (a b : Bool) → ((a || false) || b) ≡ (a || b)
-    or-false a b = grind arith
-
     go : list_any (λ i. list_any q i.ops) (intents_in n tablet rs) ≡ list_any (any_intent n q) rs → (o : Option (List Op))
         → list_any (λ i. list_any q i.ops) (option_map_or (λ ops. record { time = r.time; tablet = tablet; ops = ops } ∷ []) o [] ++ intents_in n tablet rs) ≡ (option_map_or (λ ops. list_any q ops) o false || list_any (any_intent n q) rs)
     go ih None = ih

@@ -1,5 +1,5 @@
 -- Laws of the tablets around one of them.
-use Rattle.std.proofs.Common.{◌≡◌, ℕ, zero, suc, ◌+◌, ◌<◌, ◌≤◌, Bool, true, List, [], ◌∷◌, ◌++◌, length, take, drop, get_or, sum_by, refl, ap, sym, ◌∙◌, subst, arith, append_assoc, length-append}
+use Rattle.std.proofs.Common.{◌≡◌, ℕ, zero, suc, ◌+◌, ◌<◌, ◌≤◌, Bool, true, List, [], ◌∷◌, ◌++◌, length, take, drop, get_or, sum_by, refl, ap, sym, ◌∙◌, subst, arith, append_assoc, length-append, take-append-drop, drop-cons, length-take}
 use Rattle.std.proofs.lemmas.Bool.Decides.{nat_tests}
 use Rattle.std.proofs.lemmas.Bool.{and_parts}
 use Rattle.std.proofs.lemmas.List.{append-nil, length-take-le}
@@ -23,6 +23,7 @@ use Rattle.xc_logs.proofs.ValidFacts.{IsWellFormed}
 use Rattle.xc_agree.specs.declared.run.Run.{Run}
 use Rattle.xc_agree.specs.Runs.{IsRun, IsRuns}
 use Rattle.xc_agree.specs.Cases.{of_tablets}
+use Rattle.xc_agree.proofs.RunLaws.{after-append}
 use Rattle.xc_agree.proofs.StragglerLaws.{OwnIn}
 use Rattle.xc_record.proofs.OpsLaws.{ops-hold}
 
@@ -35,14 +36,8 @@ pub after-more : (before : List AcceptedTablet) (ts : List Tablet) → accepted_
 after-more before [] = sym (append-nil before)
 after-more before (t ∷ ts) = after-more (before ++ accepted_tablet_after before t ∷ []) ts ∙ append_assoc before (accepted_tablet_after before t ∷ []) (more (before ++ accepted_tablet_after before t ∷ []) ts)
 
-after-append : (before : List AcceptedTablet) (ts us : List Tablet) → accepted_tablets_after before (ts ++ us) ≡ accepted_tablets_after (accepted_tablets_after before ts) us
-after-append before [] us = refl
-after-append before (t ∷ ts) us = after-append (before ++ accepted_tablet_after before t ∷ []) ts us
-
-pub split_at : {X : Type 0} (xs : List X) (i : ℕ) (x : X) → i < length xs → x ≡ get_or xs i x → xs ≡ take i xs ++ x ∷ drop (suc i) xs
-split_at [] i x h e = absurd (omega arith)
-split_at (y ∷ ys) zero x h e = ap (λ z. z ∷ ys) (sym e)
-split_at (y ∷ ys) (suc i) x h e = ap (λ zs. y ∷ zs) (split_at ys i x (omega arith) e)
+split_at : {X : Type 0} (xs : List X) (i : ℕ) (x : X) → i < length xs → x ≡ get_or xs i x → xs ≡ take i xs ++ x ∷ drop (suc i) xs
+split_at xs i x h e = sym (take-append-drop i xs) ∙ ap (λ ys. take i xs ++ ys) (drop-cons xs i x h ∙ ap (λ y. y ∷ drop (suc i) xs) (sym e))
 
 -- the tablet at i, with those before and after it
 pub around : (ts : List Tablet) (i : ℕ) (t : Tablet) → i < length ts → t ≡ get_or ts i t
@@ -89,13 +84,8 @@ run-here runs ts i run t h below is at =
     run-is runs (accepted_tablets_after [] ts) ts i run b t h (slice_get_read runs (length runs) i run refl (let k = runs-count runs (accepted_tablets_after [] ts) ts h in omega arith) at)
     (ap (λ xs. slice_get xs i) all ∙ get-middle bs b (more (bs ++ b ∷ []) (drop (suc i) ts)) i n) (slice_get_read ts (length ts) i t refl below is)
 
-take-within : {X : Type 0} (k : ℕ) (xs : List X) → length (take k xs) ≡ k → k ≤ length xs
-take-within zero xs e = omega arith
-take-within (suc k) [] e = absurd (omega arith)
-take-within (suc k) (x ∷ xs) e = let h : k ≤ length xs = take-within k xs (omega arith) in omega arith
-
 pub run-within : (run : Run) (b : AcceptedTablet) (t : Tablet) → IsRun run b t → run.walk.accepted ≤ length t.records
-run-within run b t h = take-within run.walk.accepted t.records (sym (ap length h.records) ∙ sym h.accepted)
+run-within run b t h = omega (arith, h.accepted, ap length h.records, length-take run.walk.accepted t.records)
 
 -- ---- the limits and the rules on records
 

@@ -1,6 +1,8 @@
 -- Laws of the tablets one by one: the commits so far, what was left waiting, and the first case so far.
-use Rattle.std.proofs.Common.{◌≡◌, ℕ, suc, ◌+◌, ◌<◌, ◌≤◌, Bool, true, false, List, [], ◌∷◌, ◌++◌, length, take, drop, get_or, refl, ap, sym, ◌∙◌, subst, arith, append_assoc, length-append}
+use Rattle.std.proofs.Common.{◌≡◌, ℕ, suc, ◌+◌, ◌<◌, ◌≤◌, Bool, true, false, List, [], ◌∷◌, ◌++◌, length, take, drop, get_or, refl, ap, sym, ◌∙◌, subst, arith, length-append}
 use Rattle.std.proofs.lemmas.List.{append-nil, take_all, take-append-le, length-take-le}
+use Rattle.std.proofs.lemmas.List.Elements.{filter-append}
+use Rattle.std.proofs.lemmas.List.Concat.{flat_map-append}
 use Rattle.std.proofs.lemmas.Option.{slice_get-get_or, slice_get_within, slice_get_past, slice_get_read, same_Some, none-some}
 use Rattle.std.proofs.lemmas.Bool.Decides.{nat_tests}
 use Rattle.std.specs.List.{list_all}
@@ -29,7 +31,7 @@ use Rattle.xc_agree.specs.Slots.{time_of}
 use Rattle.xc_agree.specs.Seen.{unseen, see, waits_from, is_in_slot, kind_at_end, IsLeast, IsEnd}
 use Rattle.xc_agree.specs.Held.{is_held, writes_at, waits_by, IsLeft, InSlots, seen_at_end}
 use Rattle.xc_agree.specs.Cases.{IsFirst, with_cases, case_of, held_from, left_of, items_of, line_through, AreLast, AreLeft, is_done, Drops, cases_of, of_tablets}
-use Rattle.xc_agree.proofs.RunLaws.{tablets-more}
+use Rattle.xc_agree.proofs.RunLaws.{tablets-more, accepted-of}
 use Rattle.xc_agree.proofs.TallyLaws.{first-append}
 use Rattle.xc_agree.proofs.WaitLaws.{waits-append}
 use Rattle.xc_agree.proofs.EndLaws.{differs-all, late-all, aborted-all, straggles, any_op, stands, stands-all}
@@ -88,11 +90,9 @@ first-same None cases other e f = λ n. e n ∙ f n
 first-same (Some d) cases other e f = (e d.txn ∙ f.0, λ n below. e n ∙ f.1 n below)
 
 line-snoc : (bs : List AcceptedTablet) (b : AcceptedTablet) (h : ℕ) → line_above (bs ++ b ∷ []) h ≡ line_above bs h ++ (if holds b.header h then b.records else [])
-line-snoc [] b h = elim (holds b.header h) as (λ c. flat_map (λ b. b.records) (if c then (b ∷ []) else []) ≡ (if c then b.records else [])) [ true ↦ append-nil b.records | false ↦ refl ]
-line-snoc (x ∷ bs) b h = elim (holds x.header h) as (λ c. flat_map (λ b. b.records) (if c then (x ∷ at_hash h (bs ++ b ∷ [])) else at_hash h (bs ++ b ∷ [])) ≡ flat_map (λ b. b.records) (if c then (x ∷ at_hash h bs) else at_hash h bs) ++ (if holds b.header h then b.records else [])) [
-  | true ↦ ap (λ zs. x.records ++ zs) (line-snoc bs b h) ∙ sym (append_assoc x.records (line_above bs h) (if holds b.header h then b.records else []))
-  | false ↦ line-snoc bs b h
-]
+line-snoc bs b h =
+    ap (flat_map (λ (b : AcceptedTablet). b.records)) (filter-append (λ (b : AcceptedTablet). holds b.header h) bs (b ∷ [])) ∙ flat_map-append (λ (b : AcceptedTablet). b.records) (at_hash h bs) (at_hash h (b ∷ []))
+    ∙ ap (λ xs. line_above bs h ++ xs) (elim (holds b.header h) as (λ c. flat_map (λ b. b.records) (if c then (b ∷ []) else []) ≡ (if c then b.records else [])) [ true ↦ append-nil b.records | false ↦ refl ])
 
 -- what the next tablet left
 left-next : (lefts : List (Vec Held Global)) (lasts : List ℕ) (left : Vec Held Global) (commits : List Commit) (bs : List AcceptedTablet) (b : AcceptedTablet) (rest : List AcceptedTablet) → AreLeft lefts lasts commits bs
@@ -164,10 +164,6 @@ cases-next ts commits bs b rest lefts all tree lasts a k own order n = go (time_
         first-append (λ (b : AcceptedTablet). option_map (case_of n b.header.id) (kind_at (of_tablets ts) n c b)) bs (b ∷ [])
         ∙ ap (or_else (first_some (λ (b : AcceptedTablet). option_map (case_of n b.header.id) (kind_at (of_tablets ts) n c b)) bs)) (or-none (option_map (case_of n b.header.id) (kind_at (of_tablets ts) n c b)) ∙ ap (option_map (case_of n b.header.id)) (sym same))
 
-tree-of : (ts : List Tablet) → IsWellFormed (of_tablets ts) → accepted_tablets (of_tablets ts) ≡ accepted_tablets_after [] ts
-unfolding accepted_tablets
-tree-of ts s = refl
-
 -- one tablet more
 pub tablet-more : (ts : List Tablet) (i : ℕ) (t : Tablet) (run : Run) (lasts : List ℕ) (commits : List Commit) (lefts after : List (Vec Held Global)) (left : Vec Held Global) (found : Option Found) (first next : Option Case)
     → IsWellFormed (of_tablets ts) → i < length ts → t ≡ get_or ts i t → IsRun run (accepted_tablet_after (accepted_tablets_after [] (take i ts)) t) t → length lasts ≡ length ts → AreLast lasts ts → AreLeft lefts lasts commits (accepted_tablets_after [] (take i ts))
@@ -182,7 +178,7 @@ tablet-more ts i t run lasts commits lefts after left found first next s below i
     let rest : List AcceptedTablet = more (bs ++ b ∷ []) (drop (suc i) ts) in
     let split : accepted_tablets_after [] ts ≡ accepted_tablets_after [] (take i ts) ++ accepted_tablet_after (accepted_tablets_after [] (take i ts)) t ∷ more (bs ++ b ∷ []) (drop (suc i) ts) = around ts i t below is in
     let tree : IsTree (bs ++ b ∷ rest) = subst IsTree split (valid-tree ts s.headers) in
-    let all : accepted_tablets (of_tablets ts) ≡ bs ++ b ∷ rest = tree-of ts s ∙ split in
+    let all : accepted_tablets (of_tablets ts) ≡ bs ++ b ∷ rest = accepted-of ts ∙ split in
     let own : Each (OwnIn b.header) b.records = own-here ts i run b t s below is r in
     let order : accepted_from b.start b.records ≡ b.records = (accepted_tablet_after-grown bs t).in_order in
     let place : length bs ≡ i = (let n = count-after [] (take i ts) in let m = length-take-le i ts (omega arith) in omega arith) in

@@ -81,10 +81,6 @@ straggles-append p n c w (x ∷ xs) ys =
 
 -- ---- a key at which it waits
 
-bytes-same : (k : List ℕ) → bytes_eq k k ≡ true
-bytes-same [] = refl
-bytes-same (x ∷ k) = rw (eq-eqb x x refl) (bytes-same k)
-
 key-hash : (h : ℕ) (k : List ℕ) → hash_of k ≡ h → Wider (at_key k) (writes_at h)
 key-hash h k e [] f = cc
 key-hash h k e (op ∷ ops) f = go (bytes_eq k op.key) refl (key-hash h k e ops) f
@@ -107,7 +103,7 @@ find-key test [] e = cc
 find-key test (op ∷ ops) e = go (test op.key) refl (find-key test ops) e
   where
     go : (b : Bool) → test op.key ≡ b → (list_any (λ op. test op.key) ops ≡ true → Found test ops) → (b || list_any (λ op. test op.key) ops) ≡ true → Found test (op ∷ ops)
-    go true f ih e = record { key = op.key; passes = f; at = rw (bytes-same op.key) refl }
+    go true f ih e = record { key = op.key; passes = f; at = rw ((bytes_eq-Decides op.key op.key).1 refl) refl }
     go false f ih e = let x : Found test ops = ih e in record { key = x.key; passes = x.passes; at = or_right (bytes_eq x.key op.key) _ x.at }
 
 -- the key is one of an operation of the transaction

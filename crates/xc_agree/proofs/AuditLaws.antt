@@ -1,6 +1,6 @@
 -- Laws of the audit.
 use Rattle.std.proofs.Common.{◌≡◌, ℕ, zero, suc, ◌+◌, ◌<◌, Bool, true, false, ◌||◌, List, [], ◌∷◌, ◌++◌, length, map, refl, ap, sym, ◌∙◌, subst, arith, length-append}
-use Rattle.std.proofs.lemmas.Bool.{eqb-true, eq-eqb}
+use Rattle.std.proofs.lemmas.Bool.{eqb-true, eq-eqb, true≢false}
 use Rattle.std.specs.Prelude.{Option, Some, None, ◌==◌, slice_get, flat_map, if◌then◌else◌, is_some, option_map}
 use Rattle.std.specs.List.{filter_map, cons_option}
 use Rattle.std.specs.Option.{option_map_or}
@@ -11,7 +11,7 @@ use Rattle.xc_record.specs.declared.record.Op.{Op}
 use Rattle.xc_record.specs.declared.record.Record.{Record}
 use Rattle.xc_record.specs.declared.record.Tablet.{Tablet}
 use Rattle.xc_record.specs.declared.record.Logs.{Logs}
-use Rattle.xc_record.specs.Accepted.{AcceptedTablet, accepted_tablets, accepted_tablets_after, accepted_tablet, halt}
+use Rattle.xc_record.specs.Accepted.{AcceptedTablet, accepted_tablets_after, accepted_tablet, halt}
 use Rattle.xc_record.specs.Commits.{Commit, commit_cmp, applies, applied_txn, distinct, write_ops, writes_in, write_commits, txn_ops, txn_commits, commits, commit_of, applied}
 use Rattle.xc_record.specs.Agreement.{Disagreement, disagreement, disagreement_on, kind_at}
 use Rattle.xc_record.specs.Lists.{first_some, or_else, sort_by, insert_by}
@@ -28,6 +28,7 @@ use Rattle.xc_agree.specs.declared.audit.Audit.{Audit}
 use Rattle.xc_agree.specs.Audit.{end_of, state_of, IsAudit}
 use Rattle.xc_agree.specs.Cases.{IsFirst, case_of, cases_of, of_tablets, all_records}
 use Rattle.xc_record.proofs.NumberLaws.{has, has-distinct, Rising, distinct-rising}
+use Rattle.xc_agree.proofs.RunLaws.{accepted-of}
 use Rattle.xc_agree.proofs.TallyLaws.{has-applied, first-append, filter_map-append, writes-append}
 use Rattle.std.proofs.lemmas.Bool.{or_right}
 
@@ -52,10 +53,6 @@ ends-from logs [] [] (u ∷ ts) s i h k = absurd h
 ends-from logs [] (c ∷ bs) ts s i h k = absurd h
 ends-from logs (x ∷ runs) [] ts s i h k = absurd h
 ends-from logs (x ∷ runs) (c ∷ bs) [] s i h k = absurd h
-
-accepted-of : (ts : List Tablet) → accepted_tablets (of_tablets ts) ≡ accepted_tablets_after [] ts
-unfolding accepted_tablets
-accepted-of ts = refl
 
 pub ends-here : (ts : List Tablet) (runs : List Run) → IsRuns runs (accepted_tablets_after [] ts) ts → (s : ℕ) → slice_get (map end_from runs) s ≡ option_map (end_of (of_tablets ts) s) (accepted_tablet (of_tablets ts) s)
 ends-here ts runs h s =
@@ -120,10 +117,7 @@ each-one f g (n ∷ ns) k = go (f n) refl (k n (rw (eq-eqb n n refl) refl)) (eac
   where
     go : (o : Option ℕ) → f n ≡ o → is_some (f n) ≡ true → length (flat_map (λ n. option_map_or (λ c. g n c ∷ []) (f n) []) ns) ≡ length ns
         → length (option_map_or (λ c. g n c ∷ []) o [] ++ flat_map (λ n. option_map_or (λ c. g n c ∷ []) (f n) []) ns) ≡ length (n ∷ ns)
-    go None e h ih = absurd (no (sym h ∙ ap (λ o. is_some o) e))
-      where
-        no : true ≡ false → ⊥
-        no e = cc
+    go None e h ih = absurd (true≢false (sym h ∙ ap (λ o. is_some o) e))
     go (Some c) e h ih = omega arith
 
 txns-here : (ts : List Tablet) → length (txn_commits (of_tablets ts)) ≡ length (distinct (applied_in (all_records (accepted_tablets_after [] ts))))

@@ -1,8 +1,10 @@
 -- Laws of a tablet's begin, where what its parent held begins to wait, and of the clearing at its end.
 use Rattle.std.proofs.Common.{◌≡◌, ℕ, ◌+◌, ◌<◌, Bool, true, false, ◌||◌, List, [], ◌∷◌, ◌++◌, length, take, get_or, zero, suc, refl, ap, sym, ◌∙◌, arith}
-use Rattle.std.proofs.lemmas.Bool.{eqb-true, eq-eqb}
+use Rattle.std.proofs.lemmas.Bool.{eqb-true, eq-eqb, true≢false, false≢true, or_left, or_right}
 use Rattle.std.proofs.lemmas.Bool.Decides.{nat_tests}
 use Rattle.std.proofs.lemmas.List.Folds.{list_any_more, list_any-append}
+use Rattle.std.proofs.lemmas.Option.{none-some}
+use Rattle.std.proofs.Math.Bool.{or-false, or-true}
 use Rattle.std.specs.Prelude.{Option, Some, None, if◌then◌else◌, ◌==◌, ◌&&◌, option_and_then, is_some, slice_set}
 use Rattle.std.specs.List.{list_all}
 use Rattle.xc_record.specs.declared.record.Header.{Header}
@@ -40,13 +42,10 @@ begin-none look commits header h safe floor found = record {
   floor = floor;
   found = found;
   slots = h.slots;
-  began = λ i w. absurd (no (ap is_some (sym (h.idle i)) ∙ w));
+  began = λ i w. absurd (false≢true (ap is_some (sym (h.idle i)) ∙ w));
   waiters = rw h.began refl;
 }
   where
-    no : false ≡ true → ⊥
-    no e = cc
-
     go : (o : Option ℕ) → option_and_then (since_at look) o ≡ None
     go None = refl
     go (Some i) = h.idle i
@@ -82,19 +81,12 @@ begin-more old new commits header held i d slots below h inside since kept found
     or-zero true = refl
     or-zero false = refl
 
-    or-none : (w : Bool) → (if w then start else None) ≡ (if w || false then start else None)
-    or-none true = refl
-    or-none false = refl
-
-    apart : true ≡ false → ⊥
-    apart e = cc
-
     go : (n : ℕ) (a b : Bool) → n == (get_or held i d).txn ≡ a → (get_or held i d).txn == n ≡ b
         → (if a then or_else (since_in commits old n) (Some 0) else since_in commits old n) ≡ (if waits_from header (take i held) n || (b && holds header (get_or held i d).hash) then Some 0 else None)
     go n true true e f = rw (h.since n, inside) (or-zero (waits_from header (take i held) n))
-    go n false false e f = rw (h.since n) (or-none (waits_from header (take i held) n))
-    go n true false e f = absurd (apart (sym (eq-eqb (get_or held i d).txn n (sym (eqb-true n (get_or held i d).txn e))) ∙ f))
-    go n false true e f = absurd (apart (sym (eq-eqb n (get_or held i d).txn (sym (eqb-true (get_or held i d).txn n f))) ∙ e))
+    go n false false e f = rw (h.since n) (ap (λ b. if b then start else None) (sym (or-false (waits_from header (take i held) n))))
+    go n true false e f = absurd (true≢false (sym (eq-eqb (get_or held i d).txn n (sym (eqb-true n (get_or held i d).txn e))) ∙ f))
+    go n false true e f = absurd (true≢false (sym (eq-eqb n (get_or held i d).txn (sym (eqb-true (get_or held i d).txn n f))) ∙ e))
 
 pub begin-past : (look : Look) (commits : List Commit) (header : Header) (held : List Held) (i : ℕ) (d : Held) → i < length held → Beginning look commits header (take i held) → holds header (get_or held i d).hash ≡ false
     → Beginning look commits header (take (i + 1) held)
@@ -116,14 +108,11 @@ none-waits : (commits : List Commit) (header : Header) (held : List Held) (n : �
 none-waits commits header [] n h e = refl
 none-waits commits header (x ∷ held) n h e = go (λ k. none-waits commits header held n k e) (x.txn == n) (is_in_slot commits x.txn x.slot) refl refl h
   where
-    no : None ≡ Some x.slot → ⊥
-    no k = cc
-
     go : (InSlots commits held → waits_from header held n ≡ false) → (a b : Bool) → x.txn == n ≡ a → is_in_slot commits x.txn x.slot ≡ b → (b && list_all (λ x. is_in_slot commits x.txn x.slot) held) ≡ true
         → ((a && holds header x.hash) || waits_from header held n) ≡ false
     go ih a false same at f = cc
     go ih false true same at f = ih f
-    go ih true true same at f = absurd (no (sym e ∙ ap (slot_of commits) (sym (eqb-true x.txn n same)) ∙ slot-in commits x.txn x.slot at))
+    go ih true true same at f = absurd (none-some x.slot (sym e ∙ ap (slot_of commits) (sym (eqb-true x.txn n same)) ∙ slot-in commits x.txn x.slot at))
 
 -- the look before the first record
 pub begun : (look : Look) (commits : List Commit) (header : Header) (held : List Held) → look.place ≡ 0 → InSlots commits held → Beginning look commits header held → IsLook look commits (λ n c. unseen (waits_from header held n))
@@ -144,12 +133,8 @@ pub began-more : (old new : Look) (txn slot place : ℕ) → slot < length old.w
 began-more old new txn slot place below waiting began h i w = ap (is_slot_of i) began ∙ list_any-append (λ w. w.slot == i) old.began.items (record { txn = txn; slot = slot } ∷ [])
     ∙ go (i == slot) refl (sym (ap (λ ws. is_some (waits_at ws i)) waiting ∙ ap is_some (waits-set old.waiting.items slot (Some place) below i)) ∙ w)
   where
-    or-true : (a b : Bool) → b ≡ true → (a || (b || false)) ≡ true
-    or-true true b e = refl
-    or-true false b e = rw e refl
-
     go : (b : Bool) → i == slot ≡ b → is_some (if b then Some place else since_at old i) ≡ true → (is_slot_of i old.began.items || (slot == i || false)) ≡ true
-    go true e w = or-true (is_slot_of i old.began.items) (slot == i) (eq-eqb slot i (sym (eqb-true i slot e)))
+    go true e w = or_right (is_slot_of i old.began.items) _ (or_left (slot == i) false (eq-eqb slot i (sym (eqb-true i slot e))))
     go false e w = rw (h i w) refl
 
 -- ---- the end
@@ -158,22 +143,11 @@ pub stop-more : (before old new : List (Option ℕ)) (ws : List Waiter) (i : ℕ
     → ((k : ℕ) → waits_at new k ≡ (if k == (get_or ws i d).slot then None else waits_at old k)) → (k : ℕ) → waits_at new k ≡ (if is_slot_of k (take (i + 1) ws) then None else waits_at before k)
 stop-more before old new ws i d below was step k = step k ∙ go (k == (get_or ws i d).slot) ((get_or ws i d).slot == k) refl refl ∙ ap (λ b. if b then None else waits_at before k) (sym (list_any_more (λ w. w.slot == k) ws i d below))
   where
-    apart : true ≡ false → ⊥
-    apart e = cc
-
-    both : (b : Bool) → None ≡ (if b || true then None else waits_at before k)
-    both true = refl
-    both false = refl
-
-    same : (b : Bool) → (if b then None else waits_at before k) ≡ (if b || false then None else waits_at before k)
-    same true = refl
-    same false = refl
-
     go : (a b : Bool) → k == (get_or ws i d).slot ≡ a → (get_or ws i d).slot == k ≡ b → (if a then None else waits_at old k) ≡ (if is_slot_of k (take i ws) || b then None else waits_at before k)
-    go true true e f = both (is_slot_of k (take i ws))
-    go false false e f = was k ∙ same (is_slot_of k (take i ws))
-    go true false e f = absurd (apart (sym (eq-eqb (get_or ws i d).slot k (sym (eqb-true k (get_or ws i d).slot e))) ∙ f))
-    go false true e f = absurd (apart (sym (eq-eqb k (get_or ws i d).slot (sym (eqb-true (get_or ws i d).slot k f))) ∙ e))
+    go true true e f = ap (λ b. if b then None else waits_at before k) (sym (or-true (is_slot_of k (take i ws))))
+    go false false e f = was k ∙ ap (λ b. if b then None else waits_at before k) (sym (or-false (is_slot_of k (take i ws))))
+    go true false e f = absurd (true≢false (sym (eq-eqb (get_or ws i d).slot k (sym (eqb-true k (get_or ws i d).slot e))) ∙ f))
+    go false true e f = absurd (true≢false (sym (eq-eqb k (get_or ws i d).slot (sym (eqb-true (get_or ws i d).slot k f))) ∙ e))
 
 -- all that began to wait stopped
 pub cleared : (old new : Look) (commits : List Commit) (seen : ℕ → ℕ → Seen) → IsLook old commits seen → length new.waiting.items ≡ length old.waiting.items
@@ -187,7 +161,4 @@ cleared old new commits seen h len since began = record {
     go : (i : ℕ) (b : Bool) → is_slot_of i old.began.items ≡ b → (o : Option ℕ) → since_at old i ≡ o → (if b then None else o) ≡ None
     go i true e o f = refl
     go i false e None f = refl
-    go i false e (Some x) f = absurd (no (sym (h.began i (ap is_some f)) ∙ e))
-      where
-        no : true ≡ false → ⊥
-        no k = cc
+    go i false e (Some x) f = absurd (true≢false (sym (h.began i (ap is_some f)) ∙ e))

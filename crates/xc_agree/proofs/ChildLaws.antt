@@ -1,21 +1,17 @@
 -- Laws of the last children of tablets.
 use Rattle.std.proofs.Common.{◌≡◌, ℕ, ◌+◌, ◌<◌, ◌≤◌, Bool, true, false, List, [], ◌∷◌, ◌++◌, length, take, get_or, refl, ap, sym, ◌∙◌, arith}
-use Rattle.std.proofs.lemmas.Bool.{eq-eqb}
-use Rattle.std.proofs.lemmas.List.{take_more}
-use Rattle.std.proofs.lemmas.Option.{slice_get_within}
+use Rattle.std.proofs.lemmas.Bool.{eq-eqb, true≢false}
+use Rattle.std.proofs.lemmas.List.{take_more, length-take-le}
+use Rattle.std.proofs.lemmas.Option.{slice_get_within, same_Some, none-some}
 use Rattle.std.specs.Prelude.{Option, Some, None, ◌==◌, if◌then◌else◌, slice_get, option_map}
 use Rattle.std.specs.Option.{option_map_or}
 use Rattle.xc_record.specs.declared.record.Tablet.{Tablet}
 use Rattle.xc_agree.specs.Cases.{AreLast}
-use Rattle.xc_agree.proofs.SplitLaws.{get-middle, take-count}
+use Rattle.xc_agree.proofs.SplitLaws.{get-middle}
 use Rattle.xc_agree.proofs.Steps.{get-before, Where, Low, Same, High, place_of}
-use Rattle.xc_agree.proofs.Steps.{some-same}
 
 pub none-last : (lasts : List ℕ) → AreLast lasts []
-none-last lasts i p k t get parent last = absurd (none get)
-  where
-    none : None ≡ Some t → ⊥
-    none e = cc
+none-last lasts i p k t get parent last = absurd (none-some t get)
 
 -- one tablet more
 pub last-more : (old new : List ℕ) (ts : List Tablet) (i : ℕ) (t : Tablet) → i < length ts → t ≡ get_or ts i t → AreLast old (take i ts)
@@ -23,22 +19,19 @@ pub last-more : (old new : List ℕ) (ts : List Tablet) (i : ℕ) (t : Tablet) �
 last-more old new ts i t below is was step j p k u get parent last = go (option_map_or (λ q. q == p) t.header.parent false) refl (sym (step p) ∙ last)
   where
     within : j < i + 1
-    within = let n = slice_get_within (take (i + 1) ts) j u get in let m = take-count (i + 1) ts (omega arith) in omega arith
+    within = let n = slice_get_within (take (i + 1) ts) j u get in let m = length-take-le (i + 1) ts (omega arith) in omega arith
 
     all : take (i + 1) ts ≡ take i ts ++ t ∷ []
     all = take_more ts i t below ∙ ap (λ x. take i ts ++ x ∷ []) (sym is)
 
     by-place : Where j i → option_map_or (λ q. q == p) t.header.parent false ≡ false → slice_get old p ≡ Some k → j ≤ k
     by-place (Low low) apart was_last =
-        let n : length (take i ts) ≡ i = take-count i ts (omega arith) in
+        let n : length (take i ts) ≡ i = length-take-le i ts (omega arith) in
         was j p k u (sym (get-before (take i ts) (t ∷ []) j (omega (arith, n))) ∙ ap (λ xs. slice_get xs j) (sym all) ∙ get) parent was_last
     by-place (Same same) apart was_last =
-        let n : length (take i ts) ≡ i = take-count i ts (omega arith) in
-        let mine : t ≡ u = some-same (sym (get-middle (take i ts) t [] j (n ∙ sym same)) ∙ ap (λ xs. slice_get xs j) (sym all) ∙ get) in
-        absurd (no (sym (ap (λ o. option_map_or (λ q. q == p) o false) (ap (λ (x : Tablet). x.header.parent) mine ∙ parent) ∙ eq-eqb p p refl) ∙ apart))
-      where
-        no : true ≡ false → ⊥
-        no e = cc
+        let n : length (take i ts) ≡ i = length-take-le i ts (omega arith) in
+        let mine : t ≡ u = same_Some _ _ (sym (get-middle (take i ts) t [] j (n ∙ sym same)) ∙ ap (λ xs. slice_get xs j) (sym all) ∙ get) in
+        absurd (true≢false (sym (ap (λ o. option_map_or (λ q. q == p) o false) (ap (λ (x : Tablet). x.header.parent) mine ∙ parent) ∙ eq-eqb p p refl) ∙ apart))
     by-place (High high) apart was_last = absurd (omega (arith, within))
 
     go : (b : Bool) → option_map_or (λ q. q == p) t.header.parent false ≡ b → (if b then option_map (λ _. i) (slice_get old p) else slice_get old p) ≡ Some k → j ≤ k
@@ -47,4 +40,4 @@ last-more old new ts i t below is was step j p k u get parent last = go (option_
       where
         at : (o : Option ℕ) → option_map (λ _. i) o ≡ Some k → j ≤ k
         at None f = cc
-        at (Some x) f = let e : i ≡ k = some-same f in omega (arith, within)
+        at (Some x) f = let e : i ≡ k = same_Some _ _ f in omega (arith, within)

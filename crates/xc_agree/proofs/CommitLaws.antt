@@ -6,7 +6,7 @@ use Rattle.std.proofs.lemmas.List.{get_or-map, length-map}
 use Rattle.std.proofs.lemmas.List.Kept.{AllPairs-from_increasing}
 use Rattle.std.proofs.lemmas.List.Quantifiers.{position-Some}
 use Rattle.std.proofs.lemmas.List.Sums.{position_or_len_is}
-use Rattle.std.proofs.lemmas.Option.{get_or_from_slice_get, slice_get_within, slice_get_read, slice_get-get_or}
+use Rattle.std.proofs.lemmas.Option.{get_or_from_slice_get, slice_get_within, slice_get_read, slice_get-get_or, none-some}
 use Rattle.std.specs.Prelude.{Option, Some, None, Result, Ok, Err, IsTrue, ◌↔◌, if◌then◌else◌, ◌==◌, nat_lt, slice_get, option_map}
 use Rattle.std.specs.List.Sorted.{IsNonDecreasingBy, IsPartitionPoint, IsBinarySearchResult, IsSearchInRange}
 use Rattle.std.specs.Ordering.{nat_cmp, ordering_index}
@@ -30,10 +30,7 @@ slot-cons : (c : Commit) (cs : List Commit) (n : ℕ) → slot_of (c ∷ cs) n �
 slot-cons c cs n = grind (arith, nat_tests)
 
 shifted-some : (o : Option ℕ) (i : ℕ) → shifted o ≡ Some i → (j : ℕ) × (i ≡ suc j) × (o ≡ Some j)
-shifted-some None i e = absurd (no e)
-  where
-    no : None ≡ Some i → ⊥
-    no e = cc
+shifted-some None i e = absurd (none-some i e)
 shifted-some (Some j) i e = let same : j + 1 ≡ i = cc in (j, (omega arith), refl)
 
 shifted-none : (o : Option ℕ) → shifted o ≡ None → o ≡ None

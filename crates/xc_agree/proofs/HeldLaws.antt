@@ -1,8 +1,8 @@
 -- Laws of what is held.
-use Rattle.std.proofs.Common.{◌≡◌, ℕ, zero, suc, ◌+◌, ◌-◌, ◌<◌, ◌≤◌, Bool, true, false, ◌||◌, List, [], ◌∷◌, ◌++◌, length, take, drop, get_or, refl, ap, sym, ◌∙◌, arith, length-append}
+use Rattle.std.proofs.Common.{◌≡◌, ℕ, ◌+◌, ◌-◌, ◌<◌, ◌≤◌, Bool, true, false, ◌||◌, List, [], ◌∷◌, ◌++◌, length, take, drop, get_or, refl, ap, sym, ◌∙◌, arith, length-append}
 use Rattle.std.proofs.lemmas.Bool.Decides.{nat_tests}
 use Rattle.std.proofs.lemmas.Bool.{eqb-true}
-use Rattle.std.proofs.lemmas.List.{take_more}
+use Rattle.std.proofs.lemmas.List.{take_more, drop-append-le, drop_all, length-take-le}
 use Rattle.std.proofs.lemmas.List.Folds.{list_any-append, list_any_more, list_all-append}
 use Rattle.std.specs.Prelude.{Option, Some, None, ◌&&◌, ◌==◌, nat_le, option_and_then}
 use Rattle.std.specs.List.{list_all}
@@ -37,18 +37,6 @@ keep-more stays old new held i x d below is was step n h =
     same true false e f = grind arith
     same false q e f = grind arith
 
-drop-more : (k : ℕ) (rs : List Record) (r : Record) → k ≤ length rs → drop k (rs ++ r ∷ []) ≡ drop k rs ++ r ∷ []
-drop-more zero [] r h = refl
-drop-more zero (x ∷ rs) r h = refl
-drop-more (suc k) [] r h = absurd (omega arith)
-drop-more (suc k) (x ∷ rs) r h = drop-more k rs r (omega arith)
-
-pub drop-past : (k : ℕ) (rs : List Record) → length rs ≤ k → drop k rs ≡ []
-drop-past zero [] h = refl
-drop-past zero (x ∷ rs) h = absurd (omega arith)
-drop-past (suc k) [] h = refl
-drop-past (suc k) (x ∷ rs) h = drop-past k rs (omega arith)
-
 -- one record more
 pub since-snoc : (n h : ℕ) (since : Option ℕ) (rs : List Record) (r : Record) → intends_since n h since (rs ++ r ∷ []) ≡ (intends_since n h since rs || (is_since (length rs + 1) since && intends_kind n h r.kind))
 since-snoc n h None rs r = refl
@@ -57,28 +45,23 @@ since-snoc n h (Some place) rs r = go (nat_le place (length rs + 1)) refl
     go : (b : Bool) → nat_le place (length rs + 1) ≡ b → intends n h (drop (place - 1) (rs ++ r ∷ [])) ≡ (intends n h (drop (place - 1) rs) || (b && intends_kind n h r.kind))
     go true e =
         let low : place - 1 ≤ length rs = grind (arith, nat_tests) in
-        ap (intends n h) (drop-more (place - 1) rs r low) ∙ list_any-append (λ x. intends_kind n h x.kind) (drop (place - 1) rs) (r ∷ [])
+        ap (intends n h) (drop-append-le (place - 1) rs (r ∷ []) low) ∙ list_any-append (λ x. intends_kind n h x.kind) (drop (place - 1) rs) (r ∷ [])
         ∙ ap (λ b. intends n h (drop (place - 1) rs) || b) (or-false (intends_kind n h r.kind))
     go false e =
         let high : length (rs ++ r ∷ []) ≤ place - 1 = grind (arith, nat_tests, length-append {A = Record}) in
         let past : length rs ≤ place - 1 = grind (arith, nat_tests) in
-        ap (intends n h) (drop-past (place - 1) (rs ++ r ∷ []) high) ∙ sym (ap (λ xs. intends n h xs || false) (drop-past (place - 1) rs past))
+        ap (intends n h) (drop_all (place - 1) (rs ++ r ∷ []) high) ∙ sym (ap (λ xs. intends n h xs || false) (drop_all (place - 1) rs past))
 
 -- with the record at i
 pub since-more : (n h : ℕ) (since : Option ℕ) (rs : List Record) (i : ℕ) (r : Record) → i < length rs → r ≡ get_or rs i r
     → intends_since n h since (take (i + 1) rs) ≡ (intends_since n h since (take i rs) || (is_since (i + 1) since && intends_kind n h r.kind))
 since-more n h since rs i r below is =
     ap (intends_since n h since) (take_more rs i r below ∙ ap (λ y. take i rs ++ y ∷ []) (sym is)) ∙ since-snoc n h since (take i rs) r
-    ∙ ap (λ k. intends_since n h since (take i rs) || (is_since (k + 1) since && intends_kind n h r.kind)) (length-take i rs below)
-  where
-    length-take : (i : ℕ) (rs : List Record) → i < length rs → length (take i rs) ≡ i
-    length-take zero rs h = refl
-    length-take (suc i) [] h = absurd (omega arith)
-    length-take (suc i) (x ∷ rs) h = let k = length-take i rs (omega arith) in omega arith
+    ∙ ap (λ k. intends_since n h since (take i rs) || (is_since (k + 1) since && intends_kind n h r.kind)) (length-take-le i rs (omega arith))
 
 pub hold-none : (n h : ℕ) (since : Option ℕ) (base : Bool) → base ≡ (base || intends_since n h since [])
 hold-none n h None base = sym (or-false base)
-hold-none n h (Some place) base = sym (ap (λ rs. base || intends n h rs) (drop-past (place - 1) [] (omega arith)) ∙ or-false base)
+hold-none n h (Some place) base = sym (ap (λ rs. base || intends n h rs) (drop_all (place - 1) [] (omega arith)) ∙ or-false base)
 
 pub hold-more : (n h : ℕ) (since : Option ℕ) (rs : List Record) (i : ℕ) (r : Record) (old new base : Bool) → i < length rs → r ≡ get_or rs i r
     → old ≡ (base || intends_since n h since (take i rs)) → new ≡ (old || (is_since (i + 1) since && intends_kind n h r.kind)) → new ≡ (base || intends_since n h since (take (i + 1) rs))

@@ -52,9 +52,6 @@ waits-by-fate n m Dropped v = grind (arith, nat_tests)
 fate-equal : (n m : ℕ) (es : List Event) → (m == n && is_waits (fate m es)) ≡ (m == n && is_waits (fate n es))
 fate-equal n m es = grind (arith, nat_tests)
 
-or-idem : (a b c : Bool) → ((a && b) || ((a && (c && b)) || false)) ≡ (a && b)
-or-idem a b c = grind arith
-
 waiting-holds : (n m time : ℕ) (vs : List Written) (es : List Event) → waits_in n (waiting (map (λ v. Hold m time v) vs ++ es)) ≡ ((some_put vs && (m == n && is_waits (fate n es))) || waits_in n (waiting es))
 unfolding some_put
 waiting-holds n m time [] es = refl
@@ -82,6 +79,10 @@ pub waits-events : (n : ℕ) (k : List ℕ) (w : Bool) (rs : List Record) → wa
 waits-events n k w [] = grind arith
 waits-events n k w (r ∷ rs) = go r.time r.kind (λ w. waits-events n k w rs)
   where
+    settle : (b v : Bool) (f : Fate) → is_waits f ≡ false → (((if b then false else w) && is_waits (fate n (events k rs))) || v) ≡ ((w && is_waits (if b then f else fate n (events k rs))) || v)
+    settle true v f e = rw e (grind arith)
+    settle false v f e = refl
+
     go : (time : ℕ) (kind : Kind) → ((w : Bool) → waits_by n (at_key k) w rs ≡ ((w && is_waits (fate n (events k rs))) || waits_in n (waiting (events k rs))))
         → waits_by n (at_key k) (wait_kind n (at_key k) w kind) rs ≡ ((w && is_waits (fate n (kind_events k time kind ++ events k rs))) || waits_in n (waiting (kind_events k time kind ++ events k rs)))
     go time (kind.Write ops) ih = ih w ∙ sym (ap (λ f. (w && is_waits f) || waits_in n (waiting (map (λ v. Put time v) (puts k ops) ++ events k rs))) (fate-puts n time (puts k ops) (events k rs))
@@ -98,15 +99,7 @@ waits-events n k w (r ∷ rs) = go r.time r.kind (λ w. waits-events n k w rs)
         join : (e p w f v : Bool) → (((if e && p then true else w) && f) || v) ≡ ((w && f) || ((p && (e && f)) || v))
         join e p w f v = grind arith
     go time (kind.Apply m commit) ih = ih (if m == n then false else w) ∙ settle (m == n) (waits_in n (waiting (events k rs))) (Taken commit) refl
-      where
-        settle : (b v : Bool) (f : Fate) → is_waits f ≡ false → (((if b then false else w) && is_waits (fate n (events k rs))) || v) ≡ ((w && is_waits (if b then f else fate n (events k rs))) || v)
-        settle true v f e = rw e (grind arith)
-        settle false v f e = refl
     go time (kind.Abort m) ih = ih (if m == n then false else w) ∙ settle (m == n) (waits_in n (waiting (events k rs))) Dropped refl
-      where
-        settle : (b v : Bool) (f : Fate) → is_waits f ≡ false → (((if b then false else w) && is_waits (fate n (events k rs))) || v) ≡ ((w && is_waits (if b then f else fate n (events k rs))) || v)
-        settle true v f e = rw e (grind arith)
-        settle false v f e = refl
     go time (kind.Safe value) ih = ih w
     go time (kind.Split at left right) ih = ih w
 

@@ -3,12 +3,12 @@ use Rattle.std.proofs.Common.{◌≡◌, ℕ, ◌+◌, ◌<◌, Bool, true, fals
 use Rattle.std.proofs.lemmas.Bool.Decides.{nat_tests}
 use Rattle.std.proofs.Common.{◌++◌, length, take, get_or}
 use Rattle.std.proofs.lemmas.List.{take_more, map-append}
-use Rattle.std.proofs.lemmas.Option.{slice_get-get_or}
+use Rattle.std.proofs.lemmas.Option.{slice_get-get_or, same_Some, none-some}
 use Rattle.std.proofs.lemmas.List.Sums.{fold-append}
 use Rattle.std.proofs.lemmas.List.Folds.{list_any-append}
 use Rattle.std.specs.Prelude.{fold, is_some, map, slice_get}
 use Rattle.std.specs.List.{list_any, list_all}
-use Rattle.std.proofs.lemmas.Bool.{eqb-true, eq-eqb}
+use Rattle.std.proofs.lemmas.Bool.{eqb-true, eq-eqb, false≢true}
 use Rattle.xc_record.specs.declared.record.Header.{Header}
 use Rattle.xc_agree.specs.declared.held.Held.{Held}
 use Rattle.xc_record.specs.declared.record.Record.{Record}
@@ -29,7 +29,6 @@ use Rattle.xc_agree.proofs.SlotLaws.{slot-at-item}
 use Rattle.xc_agree.proofs.CommitLaws.{slot-below, slots-differ, time-at-slot}
 use Rattle.xc_agree.specs.Seen.{Seen, see, pends, passes, settles, see_kind, kind_of, kind_seen, earlier, IsLeast, with_kind, IsLeastWith, since_at, since_in, pends_at, pends_in, is_in_slot, AreInSlots, IsLook, Takes, Began, IsEnd, waits_from, unseen, kind_at_end, kind_tried, is_among}
 use Rattle.std.proofs.Math.Bool.{or-false, or-true}
-use Rattle.xc_agree.proofs.Steps.{some-same}
 
 -- found goes by the kinds alone
 pub least-same : (found : Option Found) (kinds more : ℕ → Option AgreeKind) → ((n : ℕ) → more n ≡ kinds n) → IsLeast found kinds → IsLeast found more
@@ -78,20 +77,14 @@ lift-since commits old new txn slot f at step n = go (slot_of commits n) refl
       where
         here : (b : Bool) → n == txn ≡ b → None ≡ if b then f None else None
         here false apart = refl
-        here true same = absurd (no (sym e ∙ ap (slot_of commits) (eqb-true n txn same) ∙ at))
-          where
-            no : None ≡ Some slot → ⊥
-            no k = cc
+        here true same = absurd (none-some slot (sym e ∙ ap (slot_of commits) (eqb-true n txn same) ∙ at))
     go (Some i) e = step i ∙ here (i == slot) (n == txn) refl refl
       where
-        apart : false ≡ true → ⊥
-        apart k = cc
-
         here : (a b : Bool) → i == slot ≡ a → n == txn ≡ b → (if a then f (since_at old i) else since_at old i) ≡ if b then f (since_at old i) else since_at old i
         here true true is same = refl
         here false false is same = refl
-        here true false is same = absurd (apart (sym same ∙ eq-eqb n txn (slots-differ commits n txn slot (e ∙ ap (λ k. Some k) (eqb-true i slot is)) at)))
-        here false true is same = absurd (apart (sym is ∙ eq-eqb i slot (some-same (sym e ∙ ap (slot_of commits) (eqb-true n txn same) ∙ at))))
+        here true false is same = absurd (false≢true (sym same ∙ eq-eqb n txn (slots-differ commits n txn slot (e ∙ ap (λ k. Some k) (eqb-true i slot is)) at)))
+        here false true is same = absurd (false≢true (sym is ∙ eq-eqb i slot (same_Some _ _ (sym e ∙ ap (slot_of commits) (eqb-true n txn same) ∙ at))))
 
 -- an intent of a transaction that commits
 pub take-intent : (old new : Look) (commits : List Commit) (txn time commit : ℕ) (ops : List Op) → time_of commits txn ≡ Some commit → Next old new → (Began old → Began new)
@@ -162,7 +155,7 @@ take-apply old new mid commits txn time named commit is next starts same since f
         go true same =
             let at : txn ≡ n = eqb-true txn n same in
             let here : n == txn ≡ true = subst (λ m. n == m ≡ true) (sym at) (eq-eqb n n refl) in
-            let one : commit ≡ c = some-same (sym is ∙ ap (time_of commits) at ∙ e) in
+            let one : commit ≡ c = same_Some _ _ (sym is ∙ ap (time_of commits) at ∙ e) in
             let p : pends_in commits commit old txn ≡ pends c (seen n c) = ap (λ x. pends_in commits x old txn) one ∙ ap (pends_in commits c old) at ∙ sym (pends-same old commits seen n c h e) in
             kind-apply-at (not (named == c)) (pends c (seen n c)) (seen n c).differs (seen n c).late (seen n c).aborted (seen n c).straggles (n == txn) (not (named == commit)) (pends_in commits commit old txn)
             (kinds_in commits seen n) here (ap (λ x. not (named == x)) one) p (ap (option_and_then (λ c. kind_seen (seen n c))) e)
@@ -366,10 +359,7 @@ try-waiter look commits seen found more ws i none h same below step f =
     let get : slice_get commits w.slot ≡ Some (get_or commits w.slot d) = slice_get-get_or commits w.slot d k in
     let time : time_of commits w.txn ≡ Some (get_or commits w.slot d).time = time-at-slot commits w.txn w.slot (get_or commits w.slot d) at get in
     try-more look commits seen found more w.txn (map txn_of (take i ws)) (map txn_of (take (i + 1) ws)) h
-    (λ c e. subst (λ p. IsLeastWith found p w.txn Straggler more) (waiter-pends look commits w.txn w.slot c at ∙ refl) (subst (λ t. IsLeastWith found (pends_at t look w.slot) w.txn Straggler more) (some-same (sym time ∙ e)) (step (get_or commits w.slot d) get)))
-    (λ e. absurd (no (sym time ∙ e)))
+    (λ c e. subst (λ p. IsLeastWith found p w.txn Straggler more) (waiter-pends look commits w.txn w.slot c at ∙ refl) (subst (λ t. IsLeastWith found (pends_at t look w.slot) w.txn Straggler more) (same_Some _ _ (sym time ∙ e)) (step (get_or commits w.slot d) get)))
+    (λ e. absurd (none-some _ (sym e ∙ time)))
     (ap (map txn_of) (take_more ws i none below) ∙ map-append txn_of (take i ws) (w ∷ []))
     f
-  where
-    no : {x : ℕ} → Some x ≡ None → ⊥
-    no e = cc

@@ -1,10 +1,13 @@
 -- Laws of the records of the tablets one by one: how many there are, and what applies among them.
-use Rattle.std.proofs.Common.{◌≡◌, ℕ, ◌+◌, ◌<◌, ◌≤◌, ◌^◌, List, [], ◌∷◌, ◌++◌, length, map, take, get_or, sum_by, refl, ap, sym, ◌∙◌, subst, arith, append_assoc, length-append, length-take}
-use Rattle.std.proofs.lemmas.List.{append-nil, length-map, take_more}
+use Rattle.std.proofs.Common.{◌≡◌, ℕ, ◌+◌, ◌<◌, ◌≤◌, ◌^◌, List, [], ◌∷◌, ◌++◌, length, map, take, get_or, sum_by, ap, sym, ◌∙◌, subst, arith, length-append, length-take}
+use Rattle.std.proofs.lemmas.List.{append-nil, length-map, take_all}
+use Rattle.std.proofs.lemmas.List.Sums.{sum_by_more}
+use Rattle.std.proofs.lemmas.List.Concat.{flat_map-append}
 use Rattle.xc_record.specs.declared.record.Record.{Record}
 use Rattle.xc_record.specs.declared.record.Tablet.{Tablet}
 use Rattle.xc_record.specs.Accepted.{AcceptedTablet, accepted_tablets_after, accepted_tablet_after}
 use Rattle.xc_record.specs.Commits.{distinct}
+use Rattle.xc_logs.proofs.ValidFacts.{IsWellFormed}
 use Rattle.xc_agree.specs.declared.commits.Commit.{Commit}
 use Rattle.xc_agree.specs.declared.run.Run.{Run}
 use Rattle.xc_agree.specs.declared.tally.Applies.{Applies}
@@ -12,19 +15,14 @@ use Rattle.xc_agree.specs.declared.tally.Tally.{Tally}
 use Rattle.xc_agree.specs.Runs.{IsRun}
 use Rattle.xc_agree.specs.Slots.{time_of}
 use Rattle.xc_agree.specs.Tally.{applies_in, writes, IsTally}
-use Rattle.xc_agree.specs.Cases.{all_records}
+use Rattle.xc_agree.specs.Cases.{all_records, of_tablets}
 use Rattle.xc_agree.proofs.RunLaws.{tablets-more}
-use Rattle.xc_agree.proofs.SplitLaws.{IsSound, sum-at, sum-cons}
-use Rattle.xc_agree.proofs.Steps.{take_past}
+use Rattle.xc_agree.proofs.SplitLaws.{sum-at}
 use Rattle.xc_agree.proofs.TallyLaws.{applies-append, writes-append, count-within, distinct-within, time-applies, txns-applies}
 
 -- all accepted records of these tablets
 abbrev pub records_of : List Tablet → List Record
 records_of ts = all_records (accepted_tablets_after [] ts)
-
-flat-append : (bs cs : List AcceptedTablet) → all_records (bs ++ cs) ≡ all_records bs ++ all_records cs
-flat-append [] cs = refl
-flat-append (b ∷ bs) cs = ap (λ xs. b.records ++ xs) (flat-append bs cs) ∙ sym (append_assoc b.records (all_records bs) (all_records cs))
 
 -- one tablet more
 records-more : (ts : List Tablet) (i : ℕ) (t : Tablet) (run : Run) → IsRun run (accepted_tablet_after (accepted_tablets_after [] (take i ts)) t) t → i < length ts → t ≡ get_or ts i t
@@ -32,14 +30,10 @@ records-more : (ts : List Tablet) (i : ℕ) (t : Tablet) (run : Run) → IsRun r
 records-more ts i t run h below is =
     let bs : List AcceptedTablet = accepted_tablets_after [] (take i ts) in
     let b : AcceptedTablet = accepted_tablet_after bs t in
-    ap all_records (tablets-more ts i t below is) ∙ flat-append bs (b ∷ []) ∙ ap (λ xs. all_records bs ++ xs) (append-nil b.records ∙ h.records)
+    ap all_records (tablets-more ts i t below is) ∙ flat_map-append (λ (b : AcceptedTablet). b.records) bs (b ∷ []) ∙ ap (λ xs. all_records bs ++ xs) (append-nil b.records ∙ h.records)
 
 sum-more : (ts : List Tablet) (i : ℕ) (t : Tablet) → i < length ts → t ≡ get_or ts i t → sum_by (λ t. length t.records) (take (i + 1) ts) ≡ sum_by (λ t. length t.records) (take i ts) + length t.records
-sum-more ts i t below is = ap (sum_by (λ (t : Tablet). length t.records)) (take_more ts i t below ∙ ap (λ u. take i ts ++ u ∷ []) (sym is)) ∙ sum-snoc (take i ts)
-  where
-    sum-snoc : (us : List Tablet) → sum_by (λ t. length t.records) (us ++ t ∷ []) ≡ sum_by (λ t. length t.records) us + length t.records
-    sum-snoc [] = omega (arith, sum-cons t [])
-    sum-snoc (u ∷ us) = let r = sum-snoc us in omega (arith, sum-cons u us, sum-cons u (us ++ t ∷ []))
+sum-more ts i t below is = sum_by_more (λ t. length t.records) ts i t below ∙ ap (λ (u : Tablet). sum_by (λ t. length t.records) (take i ts) + length u.records) (sym is)
 
 -- the applies and the writes of the tablets, of which there are no more than records
 pub record AreNoted (applies : Applies) (ts : List Tablet) : Type 0 where
@@ -47,7 +41,7 @@ pub record AreNoted (applies : Applies) (ts : List Tablet) : Type 0 where
   pub writes : applies.writes ≡ writes (records_of ts)
   pub within : length (records_of ts) ≤ sum_by (λ t. length t.records) ts
 
-pub note-bound : (ts : List Tablet) (i : ℕ) (t : Tablet) (run : Run) (applies : Applies) (rs : List Record) → IsSound ts → i < length ts → t ≡ get_or ts i t → rs ≡ take run.walk.accepted t.records
+pub note-bound : (ts : List Tablet) (i : ℕ) (t : Tablet) (run : Run) (applies : Applies) (rs : List Record) → IsWellFormed (of_tablets ts) → i < length ts → t ≡ get_or ts i t → rs ≡ take run.walk.accepted t.records
     → AreNoted applies (take i ts) → applies.writes + length rs < 2 ^ 63
 note-bound ts i t run applies rs s below is e k =
     let sum = sum-at ts i t below is in
@@ -68,9 +62,9 @@ note-more ts i t run old new rs h below is e k items count =
 
 -- past the last tablet
 pub noted-all : (ts : List Tablet) (i : ℕ) (applies : Applies) → length ts ≤ i → AreNoted applies (take i ts) → AreNoted applies ts
-noted-all ts i applies h k = subst (AreNoted applies) (take_past i ts h) k
+noted-all ts i applies h k = subst (AreNoted applies) (take_all i ts h) k
 
-pub count-bound : (ts : List Tablet) (applies : Applies) (n : ℕ) → IsSound ts → AreNoted applies ts → n ≡ length (distinct (map (λ c. c.txn) applies.items.items)) → applies.writes + n < 2 ^ 63
+pub count-bound : (ts : List Tablet) (applies : Applies) (n : ℕ) → IsWellFormed (of_tablets ts) → AreNoted applies ts → n ≡ length (distinct (map (λ c. c.txn) applies.items.items)) → applies.writes + n < 2 ^ 63
 count-bound ts applies n s k e =
     let within = count-within (records_of ts) in
     let long = distinct-within (map (λ (c : Commit). c.txn) applies.items.items) in

@@ -1,6 +1,7 @@
 -- Laws of the operations of a transaction: those of its accepted intents.
-use Rattle.std.proofs.Common.{◌≡◌, ℕ, zero, suc, Bool, true, false, ◌||◌, List, [], ◌∷◌, ◌++◌, refl, ap, ◌∙◌, arith}
+use Rattle.std.proofs.Common.{◌≡◌, ℕ, suc, Bool, true, false, ◌||◌, List, [], ◌∷◌, ◌++◌, refl, ap, ◌∙◌, arith}
 use Rattle.std.proofs.lemmas.List.Folds.{list_any-append}
+use Rattle.std.proofs.lemmas.Map.Keys.{any_passes_from_place}
 use Rattle.std.specs.Prelude.{Option, Some, None, if◌then◌else◌, flat_map, slice_get}
 use Rattle.std.specs.List.{list_any}
 use Rattle.std.specs.Option.{option_map_or}
@@ -14,8 +15,6 @@ use Rattle.xc_record.specs.Commits.{Provisional, provisional_cmp, intent_ops, in
 use Rattle.xc_record.specs.Lists.{insert_by, sort_by}
 use Rattle.xc_record.proofs.AcceptedLaws.{Each}
 use Rattle.xc_record.proofs.ListLaws.{Each-append}
-use Rattle.std.proofs.lemmas.Bool.{or_right}
-use Rattle.xc_agree.proofs.Steps.{some-same}
 
 any-insert : {X : Type 0} (q : X → Bool) (cmp : X → X → Ordering) (x : X) (ys : List X) → list_any q (insert_by cmp x ys) ≡ (q x || list_any q ys)
 any-insert q cmp x [] = refl
@@ -44,9 +43,6 @@ any-intents : (n tablet : ℕ) (q : Op → Bool) (rs : List Record) → list_any
 any-intents n tablet q [] = refl
 any-intents n tablet q (r ∷ rs) = go (any-intents n tablet q rs) (intent_ops n r.kind)
   where
-    or-false : (a b : Bool) → ((a || false) || b) ≡ (a || b)
-    or-false a b = grind arith
-
     go : list_any (λ i. list_any q i.ops) (intents_in n tablet rs) ≡ list_any (any_intent n q) rs → (o : Option (List Op))
         → list_any (λ i. list_any q i.ops) (option_map_or (λ ops. record { time = r.time; tablet = tablet; ops = ops } ∷ []) o [] ++ intents_in n tablet rs) ≡ (option_map_or (λ ops. list_any q ops) o false || list_any (any_intent n q) rs)
     go ih None = ih
@@ -71,14 +67,9 @@ each-from-index : {X : Type 0} (P : X → Type 0) (xs : List X) → ((i : ℕ) (
 each-from-index P [] f = tt
 each-from-index P (x ∷ xs) f = (f 0 x refl, each-from-index P xs (λ i y e. f (suc i) y e))
 
-any-at : {X : Type 0} (q : X → Bool) (xs : List X) (i : ℕ) (x : X) → slice_get xs i ≡ Some x → q x ≡ true → list_any q xs ≡ true
-any-at q [] i x e h = cc
-any-at q (y ∷ ys) zero x e h = rw (ap q (some-same e) ∙ h) refl
-any-at q (y ∷ ys) (suc i) x e h = or_right (q y) _ (any-at q ys i x e h)
-
 pub ops-in : (logs : Logs) (n : ℕ) → Each (λ b. Each (OpsIn logs n) b.records) (accepted_tablets logs)
 ops-in logs n = each-from-index _ (accepted_tablets logs) (λ i b at. each-from-index _ b.records (λ j r here. record {
-  all = λ q e. any-txn_ops logs n q ∙ any-at (λ (b : AcceptedTablet). list_any (any_intent n q) b.records) (accepted_tablets logs) i b at (any-at (any_intent n q) b.records j r here e);
+  all = λ q e. any-txn_ops logs n q ∙ any_passes_from_place (λ (b : AcceptedTablet). list_any (any_intent n q) b.records) (accepted_tablets logs) i b at (any_passes_from_place (any_intent n q) b.records j r here e);
 }))
 
 pub each-flat : {X Y : Type 0} (P : Y → Type 0) (f : X → List Y) (xs : List X) → Each (λ x. Each P (f x)) xs → Each P (flat_map f xs)

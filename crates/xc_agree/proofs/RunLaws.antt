@@ -5,10 +5,11 @@ use Rattle.std.specs.Prelude.{Option, Some, None, fold, slice_get, if◌then◌e
 use Rattle.xc_record.specs.declared.record.Record.{Record}
 use Rattle.xc_record.specs.declared.record.Tablet.{Tablet}
 use Rattle.xc_record.specs.Order.{Progress, after, accepted_from}
-use Rattle.xc_record.specs.Accepted.{AcceptedTablet, accepted_tablets_after, accepted_tablet_after, start_after, reached_after, halt_from}
+use Rattle.xc_record.specs.Accepted.{AcceptedTablet, accepted_tablets_after, accepted_tablet_after, start_after, reached_after, halt_from, accepted_tablets}
 use Rattle.xc_agree.specs.declared.run.Start.{Start}
 use Rattle.xc_agree.specs.declared.run.Run.{Run}
 use Rattle.xc_agree.specs.Runs.{IsRun, IsRuns, start_from, halt_at}
+use Rattle.xc_agree.specs.Cases.{of_tablets}
 
 -- the accepted records are the first ones
 pub accepted-first : (p : Progress) (rs : List Record) → take (length (accepted_from p rs)) rs ≡ accepted_from p rs
@@ -24,11 +25,13 @@ IsRuns-snoc [] (c ∷ bs) ts run b t h r = absurd h
 IsRuns-snoc (x ∷ runs) [] ts run b t h r = absurd h
 IsRuns-snoc (x ∷ runs) (c ∷ bs) [] run b t h r = absurd h
 
--- one more tablet, where the tablets before have these runs
-pub accepted_tablets-snoc : (before : List AcceptedTablet) (ts : List Tablet) (t : Tablet)
-    → accepted_tablets_after before (ts ++ t ∷ []) ≡ accepted_tablets_after before ts ++ accepted_tablet_after (accepted_tablets_after before ts) t ∷ []
-accepted_tablets-snoc before [] t = refl
-accepted_tablets-snoc before (u ∷ ts) t = accepted_tablets-snoc (before ++ accepted_tablet_after before u ∷ []) ts t
+pub accepted-of : (ts : List Tablet) → accepted_tablets (of_tablets ts) ≡ accepted_tablets_after [] ts
+unfolding accepted_tablets
+accepted-of ts = refl
+
+pub after-append : (before : List AcceptedTablet) (ts us : List Tablet) → accepted_tablets_after before (ts ++ us) ≡ accepted_tablets_after (accepted_tablets_after before ts) us
+after-append before [] us = refl
+after-append before (t ∷ ts) us = after-append (before ++ accepted_tablet_after before t ∷ []) ts us
 
 -- what a run says at a place
 pub data RunAt (o : Option Run) (b : Option AcceptedTablet) : Type 0 where
@@ -88,9 +91,9 @@ add_run runs more ts i t run start before rs below is h same begins all r e =
     let next : IsRun run (accepted_tablet_after (accepted_tablets_after [] (take i ts)) t) t =
     next_run runs (accepted_tablets_after [] (take i ts)) (take i ts) t run h (subst (λ s. IsRunOf run s t.records) (begins ∙ ap (λ x. start_from x t.header.parent) same) (subst (λ x. IsRunOf run start x) all r)) in
     let one : take (i + 1) ts ≡ take i ts ++ t ∷ [] = take_more ts i t below ∙ ap (λ u. take i ts ++ u ∷ []) (sym is) in
-    rw (e, one, accepted_tablets-snoc [] (take i ts) t) (IsRuns-snoc runs (accepted_tablets_after [] (take i ts)) (take i ts) run (accepted_tablet_after (accepted_tablets_after [] (take i ts)) t) t h next)
+    rw (e, one, after-append [] (take i ts) (t ∷ [])) (IsRuns-snoc runs (accepted_tablets_after [] (take i ts)) (take i ts) run (accepted_tablet_after (accepted_tablets_after [] (take i ts)) t) t h next)
 
 -- the accepted tablets of one tablet more
 pub tablets-more : (ts : List Tablet) (i : ℕ) (t : Tablet) → i < length ts → t ≡ get_or ts i t
     → accepted_tablets_after [] (take (i + 1) ts) ≡ accepted_tablets_after [] (take i ts) ++ accepted_tablet_after (accepted_tablets_after [] (take i ts)) t ∷ []
-tablets-more ts i t h e = ap (accepted_tablets_after []) (take_more ts i t h ∙ ap (λ u. take i ts ++ u ∷ []) (sym e)) ∙ accepted_tablets-snoc [] (take i ts) t
+tablets-more ts i t h e = ap (accepted_tablets_after []) (take_more ts i t h ∙ ap (λ u. take i ts ++ u ∷ []) (sym e)) ∙ after-append [] (take i ts) (t ∷ [])

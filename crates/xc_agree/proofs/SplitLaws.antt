@@ -1,12 +1,12 @@
 -- Laws of the tablets around one of them.
-use Rattle.std.proofs.Common.{◌≡◌, ℕ, zero, suc, ◌+◌, ◌<◌, ◌≤◌, ◌^◌, Bool, true, List, [], ◌∷◌, ◌++◌, length, take, drop, get_or, sum_by, refl, ap, sym, ◌∙◌, subst, arith, append_assoc, length-append}
+use Rattle.std.proofs.Common.{◌≡◌, ℕ, zero, suc, ◌+◌, ◌<◌, ◌≤◌, Bool, true, List, [], ◌∷◌, ◌++◌, length, take, drop, get_or, sum_by, refl, ap, sym, ◌∙◌, subst, arith, append_assoc, length-append, take-append-drop, drop-cons, length-take}
 use Rattle.std.proofs.lemmas.Bool.Decides.{nat_tests}
-use Rattle.std.proofs.lemmas.Bool.{and_parts, leb-true}
-use Rattle.std.proofs.lemmas.List.{append-nil}
-use Rattle.std.proofs.lemmas.List.Sums.{sum_by-cons}
+use Rattle.std.proofs.lemmas.Bool.{and_parts}
+use Rattle.std.proofs.lemmas.List.{append-nil, length-take-le}
+use Rattle.std.proofs.lemmas.Option.{slice_get_read, same_Some}
+use Rattle.std.proofs.lemmas.List.Sums.{sum_by_more_le}
 use Rattle.std.specs.Prelude.{Option, Some, ◌&&◌, slice_get, nat_le, is_some}
 use Rattle.std.specs.List.{list_all, list_any}
-use Rattle.std.specs.Option.{option_map_or}
 use Rattle.xc_record.specs.declared.record.Kind.{Kind}
 use Rattle.xc_record.specs.declared.record.Kind.TheVariants.{Intent}
 use Rattle.xc_record.specs.declared.record.Header.{Header}
@@ -14,16 +14,17 @@ use Rattle.xc_record.specs.declared.record.Op.{Op}
 use Rattle.xc_record.specs.declared.record.Record.{Record}
 use Rattle.xc_record.specs.declared.record.Tablet.{Tablet}
 use Rattle.xc_record.specs.Hash.{hash_of, holds}
-use Rattle.xc_record.specs.Headers.{headers_fit, children}
-use Rattle.xc_record.specs.Valid.{headers_of, is_valid, tablet_fits, record_fits, ends_fit, kind_fits, ops_fit, op_fits, ops_in, is_txn, is_time}
-use Rattle.xc_base.specs.Names.{is_key, is_value}
+use Rattle.xc_record.specs.Headers.{children}
+use Rattle.xc_record.specs.Valid.{headers_of, tablet_fits, record_fits, ends_fit, kind_fits, ops_fit, op_fits, is_txn, is_time}
 use Rattle.xc_record.specs.Accepted.{AcceptedTablet, accepted_tablets_after, accepted_tablet_after}
 use Rattle.xc_record.proofs.AcceptedLaws.{Each}
+use Rattle.xc_record.proofs.ListLaws.{all-at}
+use Rattle.xc_logs.proofs.ValidFacts.{IsWellFormed}
 use Rattle.xc_agree.specs.declared.run.Run.{Run}
 use Rattle.xc_agree.specs.Runs.{IsRun, IsRuns}
 use Rattle.xc_agree.specs.Cases.{of_tablets}
+use Rattle.xc_agree.proofs.RunLaws.{after-append}
 use Rattle.xc_agree.proofs.StragglerLaws.{OwnIn}
-use Rattle.xc_agree.proofs.Steps.{some-same}
 use Rattle.xc_record.proofs.OpsLaws.{ops-hold}
 
 -- the accepted tablets of ts, after those before
@@ -35,14 +36,8 @@ pub after-more : (before : List AcceptedTablet) (ts : List Tablet) → accepted_
 after-more before [] = sym (append-nil before)
 after-more before (t ∷ ts) = after-more (before ++ accepted_tablet_after before t ∷ []) ts ∙ append_assoc before (accepted_tablet_after before t ∷ []) (more (before ++ accepted_tablet_after before t ∷ []) ts)
 
-after-append : (before : List AcceptedTablet) (ts us : List Tablet) → accepted_tablets_after before (ts ++ us) ≡ accepted_tablets_after (accepted_tablets_after before ts) us
-after-append before [] us = refl
-after-append before (t ∷ ts) us = after-append (before ++ accepted_tablet_after before t ∷ []) ts us
-
-pub split_at : {X : Type 0} (xs : List X) (i : ℕ) (x : X) → i < length xs → x ≡ get_or xs i x → xs ≡ take i xs ++ x ∷ drop (suc i) xs
-split_at [] i x h e = absurd (omega arith)
-split_at (y ∷ ys) zero x h e = ap (λ z. z ∷ ys) (sym e)
-split_at (y ∷ ys) (suc i) x h e = ap (λ zs. y ∷ zs) (split_at ys i x (omega arith) e)
+split_at : {X : Type 0} (xs : List X) (i : ℕ) (x : X) → i < length xs → x ≡ get_or xs i x → xs ≡ take i xs ++ x ∷ drop (suc i) xs
+split_at xs i x h e = sym (take-append-drop i xs) ∙ ap (λ ys. take i xs ++ ys) (drop-cons xs i x h ∙ ap (λ y. y ∷ drop (suc i) xs) (sym e))
 
 -- the tablet at i, with those before and after it
 pub around : (ts : List Tablet) (i : ℕ) (t : Tablet) → i < length ts → t ≡ get_or ts i t
@@ -55,21 +50,11 @@ pub count-after : (before : List AcceptedTablet) (ts : List Tablet) → length (
 count-after before [] = omega arith
 count-after before (t ∷ ts) = count-after (before ++ accepted_tablet_after before t ∷ []) ts ∙ grind (arith, length-append before (accepted_tablet_after before t ∷ []))
 
-pub take-count : {X : Type 0} (i : ℕ) (xs : List X) → i ≤ length xs → length (take i xs) ≡ i
-take-count zero xs h = refl
-take-count (suc i) [] h = absurd (omega arith)
-take-count (suc i) (x ∷ xs) h = let k = take-count i xs (omega arith) in omega arith
-
 pub get-middle : {X : Type 0} (xs : List X) (y : X) (ys : List X) (i : ℕ) → length xs ≡ i → slice_get (xs ++ y ∷ ys) i ≡ Some y
 get-middle [] y ys zero e = refl
 get-middle [] y ys (suc i) e = absurd (omega arith)
 get-middle (x ∷ xs) y ys zero e = absurd (omega arith)
 get-middle (x ∷ xs) y ys (suc i) e = get-middle xs y ys i (omega arith)
-
-pub get-at : {X : Type 0} (xs : List X) (i : ℕ) (x : X) → i < length xs → x ≡ get_or xs i x → slice_get xs i ≡ Some x
-get-at [] i x h e = absurd (omega arith)
-get-at (y ∷ ys) zero x h e = ap (λ z. Some z) (sym e)
-get-at (y ∷ ys) (suc i) x h e = get-at ys i x (omega arith) e
 
 pub runs-count : (runs : List Run) (bs : List AcceptedTablet) (ts : List Tablet) → IsRuns runs bs ts → length runs ≡ length ts
 runs-count [] [] [] h = refl
@@ -81,7 +66,7 @@ runs-count (x ∷ runs) (c ∷ bs) [] h = absurd h
 
 pub run-is : (runs : List Run) (bs : List AcceptedTablet) (ts : List Tablet) (i : ℕ) (run : Run) (b : AcceptedTablet) (t : Tablet) → IsRuns runs bs ts → slice_get runs i ≡ Some run → slice_get bs i ≡ Some b → slice_get ts i ≡ Some t → IsRun run b t
 run-is [] [] [] i run b t h e f g = cc
-run-is (r ∷ runs) (c ∷ bs) (u ∷ ts) zero run b t h e f g = subst (λ x. IsRun x b t) (some-same e) (subst (λ x. IsRun r x t) (some-same f) (subst (λ x. IsRun r c x) (some-same g) h.0))
+run-is (r ∷ runs) (c ∷ bs) (u ∷ ts) zero run b t h e f g = subst (λ x. IsRun x b t) (same_Some _ _ e) (subst (λ x. IsRun r x t) (same_Some _ _ f) (subst (λ x. IsRun r c x) (same_Some _ _ g) h.0))
 run-is (r ∷ runs) (c ∷ bs) (u ∷ ts) (suc i) run b t h e f g = run-is runs bs ts i run b t h.1 e f g
 run-is [] [] (u ∷ ts) i run b t h e f g = absurd h
 run-is [] (c ∷ bs) ts i run b t h e f g = absurd h
@@ -94,47 +79,18 @@ pub run-here : (runs : List Run) (ts : List Tablet) (i : ℕ) (run : Run) (t : T
 run-here runs ts i run t h below is at =
     let bs : List AcceptedTablet = accepted_tablets_after [] (take i ts) in
     let b : AcceptedTablet = accepted_tablet_after bs t in
-    let n : length (accepted_tablets_after [] (take i ts)) ≡ i = count-after [] (take i ts) ∙ ap (λ k. 0 + k) (take-count i ts (omega arith)) ∙ omega arith in
+    let n : length (accepted_tablets_after [] (take i ts)) ≡ i = count-after [] (take i ts) ∙ ap (λ k. 0 + k) (length-take-le i ts (omega arith)) ∙ omega arith in
     let all : accepted_tablets_after [] ts ≡ accepted_tablets_after [] (take i ts) ++ b ∷ more (bs ++ b ∷ []) (drop (suc i) ts) = around ts i t below is in
-    run-is runs (accepted_tablets_after [] ts) ts i run b t h (get-at runs i run (let k = runs-count runs (accepted_tablets_after [] ts) ts h in omega arith) at)
-    (ap (λ xs. slice_get xs i) all ∙ get-middle bs b (more (bs ++ b ∷ []) (drop (suc i) ts)) i n) (get-at ts i t below is)
-
-take-within : {X : Type 0} (k : ℕ) (xs : List X) → length (take k xs) ≡ k → k ≤ length xs
-take-within zero xs e = omega arith
-take-within (suc k) [] e = absurd (omega arith)
-take-within (suc k) (x ∷ xs) e = let h : k ≤ length xs = take-within k xs (omega arith) in omega arith
+    run-is runs (accepted_tablets_after [] ts) ts i run b t h (slice_get_read runs (length runs) i run refl (let k = runs-count runs (accepted_tablets_after [] ts) ts h in omega arith) at)
+    (ap (λ xs. slice_get xs i) all ∙ get-middle bs b (more (bs ++ b ∷ []) (drop (suc i) ts)) i n) (slice_get_read ts (length ts) i t refl below is)
 
 pub run-within : (run : Run) (b : AcceptedTablet) (t : Tablet) → IsRun run b t → run.walk.accepted ≤ length t.records
-run-within run b t h = take-within run.walk.accepted t.records (sym (ap length h.records) ∙ sym h.accepted)
+run-within run b t h = omega (arith, h.accepted, ap length h.records, length-take run.walk.accepted t.records)
 
 -- ---- the limits and the rules on records
 
-pub sum-cons : (u : Tablet) (ts : List Tablet) → sum_by (λ t. length t.records) (u ∷ ts) ≡ length u.records + sum_by (λ t. length t.records) ts
-sum-cons u ts = sum_by-cons (λ t. length t.records) u ts
-
 pub sum-at : (ts : List Tablet) (i : ℕ) (t : Tablet) → i < length ts → t ≡ get_or ts i t → sum_by (λ t. length t.records) (take i ts) + length t.records ≤ sum_by (λ t. length t.records) ts
-sum-at [] i t h e = absurd (omega arith)
-sum-at (u ∷ ts) zero t h e = let k : length t.records ≡ length u.records = ap (λ x. length x.records) e in omega (arith, sum-cons u ts)
-sum-at (u ∷ ts) (suc i) t h e = let k = sum-at ts i t (omega arith) e in omega (arith, sum-cons u ts, sum-cons u (take i ts))
-
-pub record IsSound (ts : List Tablet) : Type 0 where
-  pub headers : headers_fit (headers_of ts) ≡ true
-  pub tablets : list_all (tablet_fits (headers_of ts)) ts ≡ true
-  pub records : sum_by (λ t. length t.records) ts ≤ 2 ^ 20
-
-pub valid-sound : (ts : List Tablet) → is_valid (of_tablets ts) ≡ true → IsSound ts
-unfolding is_valid
-valid-sound ts e =
-    let a = and_parts (headers_fit (headers_of ts)) (list_all (tablet_fits (headers_of ts)) ts && (nat_le (length ts) 64 && (nat_le (sum_by (λ t. length t.records) ts) (2 ^ 20) && nat_le (sum_by (λ t. sum_by (λ r. ops_in r.kind) t.records) ts) (2 ^ 22)))) e in
-    let b = and_parts (list_all (tablet_fits (headers_of ts)) ts) (nat_le (length ts) 64 && (nat_le (sum_by (λ t. length t.records) ts) (2 ^ 20) && nat_le (sum_by (λ t. sum_by (λ r. ops_in r.kind) t.records) ts) (2 ^ 22))) a.1 in
-    let c = and_parts (nat_le (length ts) 64) (nat_le (sum_by (λ t. length t.records) ts) (2 ^ 20) && nat_le (sum_by (λ t. sum_by (λ r. ops_in r.kind) t.records) ts) (2 ^ 22)) b.1 in
-    let d = and_parts (nat_le (sum_by (λ t. length t.records) ts) (2 ^ 20)) (nat_le (sum_by (λ t. sum_by (λ r. ops_in r.kind) t.records) ts) (2 ^ 22)) c.1 in
-    record { headers = a.0; tablets = b.0; records = leb-true (sum_by (λ t. length t.records) ts) (2 ^ 20) d.0 }
-
-all-at : {X : Type 0} (p : X → Bool) (xs : List X) (i : ℕ) (x : X) → i < length xs → x ≡ get_or xs i x → list_all p xs ≡ true → p x ≡ true
-all-at p [] i x h e f = absurd (omega arith)
-all-at p (y ∷ ys) zero x h e f = ap p e ∙ (and_parts (p y) (list_all p ys) f).0
-all-at p (y ∷ ys) (suc i) x h e f = all-at p ys i x (omega arith) e (and_parts (p y) (list_all p ys) f).1
+sum-at ts i t h e = let k : length t.records ≡ length (get_or ts i t).records = ap (λ x. length x.records) e in omega (arith, sum_by_more_le (λ t. length t.records) ts i t h)
 
 all-take : {X : Type 0} (p : X → Bool) (k : ℕ) (xs : List X) → list_all p xs ≡ true → list_all p (take k xs) ≡ true
 all-take p zero xs f = refl
@@ -169,8 +125,8 @@ own-all header pair (r ∷ rs) e =
     (record { holds_one = λ n ops is. own-kind header pair r.kind n ops fits is; holds_all = λ n ops is. own-every header pair r.kind n ops fits is }, own-all header pair rs a.1)
 
 -- the accepted records of a tablet keep its range
-pub own-here : (ts : List Tablet) (i : ℕ) (run : Run) (b : AcceptedTablet) (t : Tablet) → IsSound ts → i < length ts → t ≡ get_or ts i t → IsRun run b t → Each (OwnIn b.header) b.records
+pub own-here : (ts : List Tablet) (i : ℕ) (run : Run) (b : AcceptedTablet) (t : Tablet) → IsWellFormed (of_tablets ts) → i < length ts → t ≡ get_or ts i t → IsRun run b t → Each (OwnIn b.header) b.records
 own-here ts i run b t s below is h =
-    let fits = and_parts (list_all (record_fits t.header (children (headers_of ts) t.header.id)) t.records) (ends_fit (is_some (children (headers_of ts) t.header.id)) t.records) (all-at (tablet_fits (headers_of ts)) ts i t below is s.tablets) in
+    let fits = and_parts (list_all (record_fits t.header (children (headers_of ts) t.header.id)) t.records) (ends_fit (is_some (children (headers_of ts) t.header.id)) t.records) (all-at (tablet_fits (headers_of ts)) ts i t s.tablets (slice_get_read ts (length ts) i t refl below is)) in
     let kept : list_all (record_fits t.header (children (headers_of ts) t.header.id)) (take run.walk.accepted t.records) ≡ true = all-take (record_fits t.header (children (headers_of ts) t.header.id)) run.walk.accepted t.records fits.0 in
     subst (λ x. Each (OwnIn x) b.records) (sym h.header) (subst (λ xs. Each (OwnIn t.header) xs) (sym h.records) (own-all t.header (children (headers_of ts) t.header.id) (take run.walk.accepted t.records) kept))

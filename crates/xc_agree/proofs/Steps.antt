@@ -1,17 +1,12 @@
 -- One step of a loop over a list.
-use Rattle.std.proofs.Common.{◌≡◌, ℕ, ◌+◌, ◌<◌, List, [], ◌∷◌, ◌++◌, length, take, get_or, zero, suc, ◌≤◌, refl, arith, ap, sym, ◌∙◌, append_assoc}
+use Rattle.std.proofs.Common.{◌≡◌, ℕ, ◌+◌, ◌<◌, List, [], ◌∷◌, ◌++◌, length, take, get_or, zero, suc, refl, arith, ap, sym, ◌∙◌, append_assoc}
 use Rattle.std.proofs.lemmas.List.{take_more}
-use Rattle.std.specs.Prelude.{slice_get, Some}
+use Rattle.std.specs.Prelude.{slice_get, Option, Some, None}
+use Rattle.xc_record.specs.Lists.{or_else}
 
 -- the items up to i after xs, with the item at i
 pub add_item : {X : Type 0} (xs ys : List X) (i : ℕ) (y : X) → i < length ys → y ≡ get_or ys i y → (xs ++ take i ys) ++ y ∷ [] ≡ xs ++ take (i + 1) ys
 add_item xs ys i y below is = append_assoc xs (take i ys) (y ∷ []) ∙ ap (λ zs. xs ++ zs) (ap (λ z. take i ys ++ z ∷ []) is ∙ sym (take_more ys i y below))
-
-pub take_past : {X : Type 0} (i : ℕ) (xs : List X) → length xs ≤ i → take i xs ≡ xs
-take_past zero [] h = refl
-take_past zero (x ∷ xs) h = absurd (omega arith)
-take_past (suc i) [] h = refl
-take_past (suc i) (x ∷ xs) h = ap (λ ys. x ∷ ys) (take_past i xs (omega arith))
 
 pub get-before : {X : Type 0} (xs ys : List X) (i : ℕ) → i < length xs → slice_get (xs ++ ys) i ≡ slice_get xs i
 get-before [] ys i h = absurd (omega arith)
@@ -35,5 +30,6 @@ place_of (suc i) (suc k) = later (place_of i k)
     later (Same h) = Same (omega arith)
     later (High h) = High (omega arith)
 
-pub some-same : {X : Type 0} {x y : X} → Some x ≡ Some y → x ≡ y
-some-same e = cc
+pub or-none : {X : Type 0} (o : Option X) → or_else o None ≡ o
+or-none None = refl
+or-none (Some x) = refl

@@ -1,10 +1,13 @@
 -- Laws of stragglers: the keys of a transaction's own operations are enough, and what waits at a tablet's start is what its parent held.
 use Rattle.std.proofs.Common.{◌≡◌, ℕ, Bool, true, false, ◌||◌, List, [], ◌∷◌, ◌++◌, refl, ap, sym, ◌∙◌, subst, append_assoc}
-use Rattle.std.proofs.lemmas.Bool.{eqb-true, eq-eqb, and_parts, both_ways}
+use Rattle.std.proofs.lemmas.Bool.{eqb-true, eq-eqb, and_parts, both_ways, false≢true}
 use Rattle.std.proofs.lemmas.List.{append-nil}
+use Rattle.std.proofs.lemmas.Slice.Eq.{bytes_eq-Decides}
 use Rattle.std.specs.Prelude.{◌&&◌, ◌==◌, nat_le, if◌then◌else◌, flat_map, filter, bytes_eq, nat_lt}
 use Rattle.std.specs.List.{list_any, list_all}
 use Rattle.std.specs.Option.{option_map_or}
+use Rattle.std.proofs.Math.Bool.{or_assoc}
+use Rattle.std.specs.Cmp.{both_ways as both}
 use Rattle.xc_record.specs.declared.record.Kind.{Kind}
 use Rattle.xc_record.specs.declared.record.Kind.TheVariants.{Write, Intent, Apply, Abort, Safe, Split}
 use Rattle.xc_record.specs.declared.record.Op.{Op}
@@ -33,29 +36,26 @@ use Rattle.std.proofs.lemmas.Bool.{or_right}
 abbrev Wider : (List Op → Bool) → (List Op → Bool) → Type 0
 Wider p q = (ops : List Op) → p ops ≡ true → q ops ≡ true
 
+-- a wait that may begin, and one that may end
+either : (b v : Bool) → v ≡ true → (if b then true else v) ≡ true
+either true v e = refl
+either false v e = e
+
+stops-wider : (b w v : Bool) → (w ≡ true → v ≡ true) → (if b then false else w) ≡ true → (if b then false else v) ≡ true
+stops-wider true w v k e = e
+stops-wider false w v k e = k e
+
 wait-wider : (n : ℕ) (p q : List Op → Bool) (w v : Bool) (kind : Kind) → Wider p q → (w ≡ true → v ≡ true) → wait_kind n p w kind ≡ true → wait_kind n q v kind ≡ true
 wait-wider n p q w v (Write ops) h k e = k e
 wait-wider n p q w v (Safe value) h k e = k e
 wait-wider n p q w v (Split at left right) h k e = k e
-wait-wider n p q w v (Apply txn commit) h k e = go (txn == n) e
-  where
-    go : (b : Bool) → (if b then false else w) ≡ true → (if b then false else v) ≡ true
-    go true e = e
-    go false e = k e
-wait-wider n p q w v (Abort txn) h k e = go (txn == n) e
-  where
-    go : (b : Bool) → (if b then false else w) ≡ true → (if b then false else v) ≡ true
-    go true e = e
-    go false e = k e
+wait-wider n p q w v (Apply txn commit) h k e = stops-wider (txn == n) w v k e
+wait-wider n p q w v (Abort txn) h k e = stops-wider (txn == n) w v k e
 wait-wider n p q w v (Intent txn ops) h k e = go (txn == n) (p ops) refl e
   where
     go : (b a : Bool) → p ops ≡ a → (if b && a then true else w) ≡ true → (if b && q ops then true else v) ≡ true
     go true true f e = rw (h ops f) refl
-    go true false f e = either (q ops) (k e)
-      where
-        either : (c : Bool) → v ≡ true → (if c then true else v) ≡ true
-        either true e = refl
-        either false e = e
+    go true false f e = either (q ops) v (k e)
     go false a f e = k e
 
 waits-wider : (n : ℕ) (p q : List Op → Bool) (w v : Bool) (rs : List Record) → Wider p q → (w ≡ true → v ≡ true) → waits_by n p w rs ≡ true → waits_by n q v rs ≡ true
@@ -77,34 +77,16 @@ straggles-append : (p : List Op → Bool) (n c : ℕ) (w : Bool) (xs ys : List R
 straggles-append p n c w [] ys = refl
 straggles-append p n c w (x ∷ xs) ys =
     ap (λ b. (option_map_or (λ value. nat_le c value) (safe_value x.kind) false && w) || b) (straggles-append p n c (wait_kind n p w x.kind) xs ys)
-    ∙ or-assoc (option_map_or (λ value. nat_le c value) (safe_value x.kind) false && w) (straggles p n c (wait_kind n p w x.kind) xs) (straggles p n c (waits_by n p (wait_kind n p w x.kind) xs) ys)
-  where
-    or-assoc : (a b c : Bool) → (a || (b || c)) ≡ ((a || b) || c)
-    or-assoc true b c = refl
-    or-assoc false b c = refl
+    ∙ sym (or_assoc (option_map_or (λ value. nat_le c value) (safe_value x.kind) false && w) (straggles p n c (wait_kind n p w x.kind) xs) (straggles p n c (waits_by n p (wait_kind n p w x.kind) xs) ys))
 
 -- ---- a key at which it waits
-
-bytes-same : (k : List ℕ) → bytes_eq k k ≡ true
-bytes-same [] = refl
-bytes-same (x ∷ k) = rw (eq-eqb x x refl) (bytes-same k)
-
-bytes-equal : (k q : List ℕ) → bytes_eq k q ≡ true → k ≡ q
-bytes-equal [] [] e = refl
-bytes-equal [] (y ∷ q) e = cc
-bytes-equal (x ∷ k) [] e = cc
-bytes-equal (x ∷ k) (y ∷ q) e =
-    let parts : (x == y ≡ true) × (bytes_eq k q ≡ true) = and_parts (x == y) (bytes_eq k q) e in
-    let a : x ≡ y = eqb-true x y parts.0 in
-    let b : k ≡ q = bytes-equal k q parts.1 in
-    cc
 
 key-hash : (h : ℕ) (k : List ℕ) → hash_of k ≡ h → Wider (at_key k) (writes_at h)
 key-hash h k e [] f = cc
 key-hash h k e (op ∷ ops) f = go (bytes_eq k op.key) refl (key-hash h k e ops) f
   where
     go : (b : Bool) → bytes_eq k op.key ≡ b → (at_key k ops ≡ true → writes_at h ops ≡ true) → (b || at_key k ops) ≡ true → (hash_of op.key == h || writes_at h ops) ≡ true
-    go true same ih f = rw (eq-eqb (hash_of op.key) h (sym (ap hash_of (bytes-equal k op.key same)) ∙ e)) refl
+    go true same ih f = rw (eq-eqb (hash_of op.key) h (sym (ap hash_of ((bytes_eq-Decides k op.key).0 same)) ∙ e)) refl
     go false same ih f = or_right (hash_of op.key == h) _ (ih f)
 
 key-any : (k : List ℕ) → Wider (at_key k) any_op
@@ -121,7 +103,7 @@ find-key test [] e = cc
 find-key test (op ∷ ops) e = go (test op.key) refl (find-key test ops) e
   where
     go : (b : Bool) → test op.key ≡ b → (list_any (λ op. test op.key) ops ≡ true → Found test ops) → (b || list_any (λ op. test op.key) ops) ≡ true → Found test (op ∷ ops)
-    go true f ih e = record { key = op.key; passes = f; at = rw (bytes-same op.key) refl }
+    go true f ih e = record { key = op.key; passes = f; at = rw ((bytes_eq-Decides op.key op.key).1 refl) refl }
     go false f ih e = let x : Found test ops = ih e in record { key = x.key; passes = x.passes; at = or_right (bytes_eq x.key op.key) _ x.at }
 
 -- the key is one of an operation of the transaction
@@ -147,27 +129,20 @@ keep-waiting logs n test line r keeps x = record {
   waits = waits-append n (at_key x.key) false (line x.key) (r ∷ []) ∙ ap (λ w. wait_kind n (at_key x.key) w r.kind) x.waits ∙ keeps x.key;
 }
 
+stop-waiting : (logs : Logs) (n : ℕ) (test : List ℕ → Bool) (line : List ℕ → List Record) (r : Record) (w stops : Bool) → (stops ≡ false → (k : List ℕ) → wait_kind n (at_key k) true r.kind ≡ true)
+    → (w ≡ true → WaitsAt logs n test line) → (if stops then false else w) ≡ true → WaitsAt logs n test (λ k. line k ++ r ∷ [])
+stop-waiting logs n test line r w true keeps k e = cc
+stop-waiting logs n test line r w false keeps k e = keep-waiting logs n test line r (keeps refl) (k e)
+
 wait-step : (logs : Logs) (n : ℕ) (p : List Op → Bool) (test : List ℕ → Bool) (line : List ℕ → List Record) (r : Record) (w : Bool) (kind : Kind) → r.kind ≡ kind → (w ≡ true → WaitsAt logs n test line) → Intends logs n p test r
     → wait_kind n p w kind ≡ true → WaitsAt logs n test (λ k. line k ++ r ∷ [])
 wait-step logs n p test line r w (Write ops) is k h e = keep-waiting logs n test line r (λ q. rw is refl) (k e)
 wait-step logs n p test line r w (Safe value) is k h e = keep-waiting logs n test line r (λ q. rw is refl) (k e)
 wait-step logs n p test line r w (Split at left right) is k h e = keep-waiting logs n test line r (λ q. rw is refl) (k e)
-wait-step logs n p test line r w (Apply txn commit) is k h e = go (txn == n) refl e
-  where
-    go : (b : Bool) → txn == n ≡ b → (if b then false else w) ≡ true → WaitsAt logs n test (λ k. line k ++ r ∷ [])
-    go true f e = cc
-    go false f e = keep-waiting logs n test line r (λ q. rw (is, f) refl) (k e)
-wait-step logs n p test line r w (Abort txn) is k h e = go (txn == n) refl e
-  where
-    go : (b : Bool) → txn == n ≡ b → (if b then false else w) ≡ true → WaitsAt logs n test (λ k. line k ++ r ∷ [])
-    go true f e = cc
-    go false f e = keep-waiting logs n test line r (λ q. rw (is, f) refl) (k e)
+wait-step logs n p test line r w (Apply txn commit) is k h e = stop-waiting logs n test line r w (txn == n) (λ f q. rw (is, f) refl) k e
+wait-step logs n p test line r w (Abort txn) is k h e = stop-waiting logs n test line r w (txn == n) (λ f q. rw (is, f) refl) k e
 wait-step logs n p test line r w (Intent txn ops) is k h e = go (txn == n) (p ops) refl refl e
   where
-    either : (c : Bool) → (if c then true else true) ≡ true
-    either true = refl
-    either false = refl
-
     begins : (q : List ℕ) (v : Bool) → txn == n ≡ true → at_key q ops ≡ true → wait_kind n (at_key q) v r.kind ≡ true
     begins q v f g = rw (is, f, g) refl
 
@@ -181,8 +156,8 @@ wait-step logs n p test line r w (Intent txn ops) is k h e = go (txn == n) (p op
           own = found.1 found.0.key found.0.at;
           waits = waits-append n (at_key found.0.key) false (line found.0.key) (r ∷ []) ∙ begins found.0.key (waits_by n (at_key found.0.key) false (line found.0.key)) f found.0.at;
         }
-    go true false f g e = keep-waiting logs n test line r (λ q. rw is (either (txn == n && at_key q ops))) (k e)
-    go false a f g e = keep-waiting logs n test line r (λ q. rw is (either (txn == n && at_key q ops))) (k e)
+    go true false f g e = keep-waiting logs n test line r (λ q. rw is (either (txn == n && at_key q ops) true refl)) (k e)
+    go false a f g e = keep-waiting logs n test line r (λ q. rw is (either (txn == n && at_key q ops) true refl)) (k e)
 
 WaitsAt-line : (logs : Logs) (n : ℕ) (test : List ℕ → Bool) (line other : List ℕ → List Record) → ((k : List ℕ) → test k ≡ true → line k ≡ other k) → WaitsAt logs n test line → WaitsAt logs n test other
 WaitsAt-line logs n test line other same x = record { key = x.key; passes = x.passes; own = x.own; waits = ap (waits_by n (at_key x.key) false) (sym (same x.key x.passes)) ∙ x.waits }
@@ -238,7 +213,7 @@ key-passes k q [] e f = cc
 key-passes k q (op ∷ ops) e f = go (bytes_eq k op.key) refl (λ e. key-passes k q ops e f) e
   where
     go : (b : Bool) → bytes_eq k op.key ≡ b → (at_key k ops ≡ true → list_any (λ op. q op.key) ops ≡ true) → (b || at_key k ops) ≡ true → (q op.key || list_any (λ op. q op.key) ops) ≡ true
-    go true same ih e = rw (ap q (sym (bytes-equal k op.key same)) ∙ f) refl
+    go true same ih e = rw (ap q (sym ((bytes_eq-Decides k op.key).0 same)) ∙ f) refl
     go false same ih e = or_right (q op.key) _ (ih e)
 
 own-key : (logs : Logs) (n : ℕ) (r : Record) (ops : List Op) → OpsIn logs n r → r.kind ≡ Intent n ops → (k : List ℕ) → at_key k ops ≡ true → IsOwn logs n k
@@ -278,11 +253,6 @@ any-elim f (x ∷ xs) e = go (f x) refl (any-elim f xs) e
     go : (b : Bool) → f x ≡ b → (list_any f xs ≡ true → (x : _) × (f x ≡ true)) → (b || list_any f xs) ≡ true → (x : _) × (f x ≡ true)
     go true g ih e = (x, g)
     go false g ih e = ih e
-
-both : (a b : Bool) → (a ≡ true → b ≡ true) → (b ≡ true → a ≡ true) → a ≡ b
-both true b f g = sym (f refl)
-both false true f g = g refl
-both false false f g = refl
 
 abbrev pub line_above : List AcceptedTablet → ℕ → List Record
 line_above before h = flat_map (λ b. b.records) (at_hash h before)
@@ -328,7 +298,7 @@ straggler-held logs before b rest all tree n c held start own = both _ _ forth b
     begins e =
         let y : HeldAt b.header held n = held-somewhere b.header held n e in
         let waits : waits_by n (writes_at y.hash) false (line_above before y.hash) ≡ true = sym (start y.hash y.within) ∙ y.held_there in
-        let none : false ≡ true → WaitsAt logs n (λ k. hash_of k == y.hash) (λ k. []) = λ f. absurd (no f) in
+        let none : false ≡ true → WaitsAt logs n (λ k. hash_of k == y.hash) (λ k. []) = λ f. absurd (false≢true f) in
         let x : WaitsAt logs n (λ k. hash_of k == y.hash) (λ k. line_above before y.hash) =
         waits-key logs n (writes_at y.hash) (λ k. hash_of k == y.hash) (λ k. []) (line_above before y.hash) false none
         (intends-hash logs n y.hash (line_above before y.hash) (each-flat (OpsIn logs n) (λ (a : AcceptedTablet). a.records) (at_hash y.hash before) (Each-filter (λ (a : AcceptedTablet). Each (OpsIn logs n) a.records) (λ a. holds a.header y.hash) before (each-before logs n before (b ∷ rest) ops))))
@@ -340,9 +310,6 @@ straggler-held logs before b rest all tree n c held start own = both _ _ forth b
           own = x.own;
           waits = ap (waits_by n (at_key x.key) false) (append-nil (line_above before (hash_of x.key)) ∙ ap (line_above before) same) ∙ x.waits;
         }
-      where
-        no : false ≡ true → ⊥
-        no f = cc
 
     back : straggles any_op n c (waits_from b.header held n) b.records ≡ true → list_any (λ op. holds b.header (hash_of op.key) && straggles_at n c op.key (path_above (accepted_tablets logs) b op.key) b.records) (txn_ops logs n) ≡ true
     back e =

@@ -1,7 +1,9 @@
 -- Laws of the tablets one by one: the commits so far, what was left waiting, and the first case so far.
-use Rattle.std.proofs.Common.{◌≡◌, ℕ, zero, suc, ◌+◌, ◌<◌, ◌≤◌, Bool, true, false, List, [], ◌∷◌, ◌++◌, length, take, drop, get_or, refl, ap, sym, ◌∙◌, subst, arith, append_assoc, length-append}
-use Rattle.std.proofs.lemmas.List.{append-nil}
-use Rattle.std.proofs.lemmas.Option.{slice_get-get_or, slice_get_within, slice_get_past, slice_get_read}
+use Rattle.std.proofs.Common.{◌≡◌, ℕ, suc, ◌+◌, ◌<◌, ◌≤◌, Bool, true, false, List, [], ◌∷◌, ◌++◌, length, take, drop, get_or, refl, ap, sym, ◌∙◌, subst, arith, length-append}
+use Rattle.std.proofs.lemmas.List.{append-nil, take_all, take-append-le, length-take-le}
+use Rattle.std.proofs.lemmas.List.Elements.{filter-append}
+use Rattle.std.proofs.lemmas.List.Concat.{flat_map-append}
+use Rattle.std.proofs.lemmas.Option.{slice_get-get_or, slice_get_within, slice_get_past, slice_get_read, same_Some, none-some}
 use Rattle.std.proofs.lemmas.Bool.Decides.{nat_tests}
 use Rattle.std.specs.List.{list_all}
 use Rattle.std.specs.Prelude.{Option, Some, None, ◌&&◌, ◌==◌, nat_le, nat_lt, slice_get, flat_map, if◌then◌else◌, is_some, option_map, option_and_then, fold}
@@ -18,6 +20,7 @@ use Rattle.xc_record.specs.Accepted.{AcceptedTablet, accepted_tablets, accepted_
 use Rattle.xc_record.specs.Agreement.{Disagreement, kind_at, straggler}
 use Rattle.xc_record.specs.Lists.{first_some, or_else}
 use Rattle.xc_record.proofs.AcceptedLaws.{Each, accepted_tablet_after-grown}
+use Rattle.xc_logs.proofs.ValidFacts.{IsWellFormed}
 use Rattle.xc_agree.specs.declared.run.Run.{Run}
 use Rattle.xc_agree.specs.declared.held.Held.{Held}
 use Rattle.xc_agree.specs.declared.cases.Case.{Case}
@@ -28,16 +31,15 @@ use Rattle.xc_agree.specs.Slots.{time_of}
 use Rattle.xc_agree.specs.Seen.{unseen, see, waits_from, is_in_slot, kind_at_end, IsLeast, IsEnd}
 use Rattle.xc_agree.specs.Held.{is_held, writes_at, waits_by, IsLeft, InSlots, seen_at_end}
 use Rattle.xc_agree.specs.Cases.{IsFirst, with_cases, case_of, held_from, left_of, items_of, line_through, AreLast, AreLeft, is_done, Drops, cases_of, of_tablets}
-use Rattle.xc_agree.proofs.RunLaws.{tablets-more}
+use Rattle.xc_agree.proofs.RunLaws.{tablets-more, accepted-of}
 use Rattle.xc_agree.proofs.TallyLaws.{first-append}
 use Rattle.xc_agree.proofs.WaitLaws.{waits-append}
 use Rattle.xc_agree.proofs.EndLaws.{differs-all, late-all, aborted-all, straggles, any_op, stands, stands-all}
 use Rattle.xc_agree.proofs.TreeLaws.{IsTree, at_hash, EndsAt, Before, Within, above_root, above_child, valid-tree}
 use Rattle.xc_agree.proofs.StragglerLaws.{OwnIn, line_above, straggler-held, nothing-waits}
-use Rattle.xc_agree.proofs.SplitLaws.{around, count-after, take-count, get-middle, IsSound, more, own-here}
-use Rattle.xc_agree.proofs.Steps.{take_past, get-before, Where, Low, Same, High, place_of}
+use Rattle.xc_agree.proofs.SplitLaws.{around, count-after, get-middle, more, own-here}
+use Rattle.xc_agree.proofs.Steps.{get-before, Where, Low, Same, High, place_of, or-none}
 use Rattle.std.proofs.Math.Bool.{and-false, and-true}
-use Rattle.xc_agree.proofs.Steps.{some-same}
 
 -- ---- the kind at a tablet
 
@@ -71,11 +73,8 @@ start-here : (lefts : List (Vec Held Global)) (lasts : List ℕ) (commits : List
 start-here lefts lasts commits bs b rest a tree n c h e s None k p = sym (ap (λ xs. waits_by n (writes_at h) false (flat_map (λ b. b.records) xs)) (above_root h bs b rest tree s p))
 start-here lefts lasts commits bs b rest a tree n c h e s (Some q) k p = go (above_child h q bs b rest tree s p)
   where
-    no : None ≡ Some q → ⊥
-    no f = cc
-
     go : EndsAt h 0 q None bs → is_held (left_of lefts q) n h ≡ waits_by n (writes_at h) false (line_above bs h)
-    go (Before none f) = absurd (no f)
+    go (Before none f) = absurd (none-some q f)
     go (Within j x at get there same) =
         let number : q ≡ j = omega arith in
         let one : j + 1 ≡ suc j = omega arith in
@@ -90,27 +89,10 @@ first-same : (first : Option Case) (cases other : ℕ → Option Disagreement) �
 first-same None cases other e f = λ n. e n ∙ f n
 first-same (Some d) cases other e f = (e d.txn ∙ f.0, λ n below. e n ∙ f.1 n below)
 
-or-none : {X : Type 0} (o : Option X) → or_else o None ≡ o
-or-none None = refl
-or-none (Some x) = refl
-
-take-before : {X : Type 0} (xs ys : List X) (k : ℕ) → k ≤ length xs → take k (xs ++ ys) ≡ take k xs
-take-before xs ys zero h = refl
-take-before [] ys (suc k) h = absurd (omega arith)
-take-before (x ∷ xs) ys (suc k) h = ap (λ zs. x ∷ zs) (take-before xs ys k (omega arith))
-
-take-snoc : {X : Type 0} (xs : List X) (y : X) (k : ℕ) → length xs < k → take k (xs ++ y ∷ []) ≡ xs ++ y ∷ []
-take-snoc [] y zero h = absurd (omega arith)
-take-snoc [] y (suc k) h = ap (λ zs. y ∷ zs) (take_past k [] (omega arith))
-take-snoc (x ∷ xs) y zero h = absurd (omega arith)
-take-snoc (x ∷ xs) y (suc k) h = ap (λ zs. x ∷ zs) (take-snoc xs y k (omega arith))
-
 line-snoc : (bs : List AcceptedTablet) (b : AcceptedTablet) (h : ℕ) → line_above (bs ++ b ∷ []) h ≡ line_above bs h ++ (if holds b.header h then b.records else [])
-line-snoc [] b h = elim (holds b.header h) as (λ c. flat_map (λ b. b.records) (if c then (b ∷ []) else []) ≡ (if c then b.records else [])) [ true ↦ append-nil b.records | false ↦ refl ]
-line-snoc (x ∷ bs) b h = elim (holds x.header h) as (λ c. flat_map (λ b. b.records) (if c then (x ∷ at_hash h (bs ++ b ∷ [])) else at_hash h (bs ++ b ∷ [])) ≡ flat_map (λ b. b.records) (if c then (x ∷ at_hash h bs) else at_hash h bs) ++ (if holds b.header h then b.records else [])) [
-  | true ↦ ap (λ zs. x.records ++ zs) (line-snoc bs b h) ∙ sym (append_assoc x.records (line_above bs h) (if holds b.header h then b.records else []))
-  | false ↦ line-snoc bs b h
-]
+line-snoc bs b h =
+    ap (flat_map (λ (b : AcceptedTablet). b.records)) (filter-append (λ (b : AcceptedTablet). holds b.header h) bs (b ∷ [])) ∙ flat_map-append (λ (b : AcceptedTablet). b.records) (at_hash h bs) (at_hash h (b ∷ []))
+    ∙ ap (λ xs. line_above bs h ++ xs) (elim (holds b.header h) as (λ c. flat_map (λ b. b.records) (if c then (b ∷ []) else []) ≡ (if c then b.records else [])) [ true ↦ append-nil b.records | false ↦ refl ])
 
 -- what the next tablet left
 left-next : (lefts : List (Vec Held Global)) (lasts : List ℕ) (left : Vec Held Global) (commits : List Commit) (bs : List AcceptedTablet) (b : AcceptedTablet) (rest : List AcceptedTablet) → AreLeft lefts lasts commits bs
@@ -158,16 +140,13 @@ lefts-more lefts after lasts left commits bs b a slots l drops = record {
         → is_held (left_of (lefts ++ left ∷ []) i) n h ≡ (is_some (time_of commits n) && (holds x.header h && waits_by n (writes_at h) false (line_through (bs ++ b ∷ []) i h)))
     at_place i k x get last bound n h (Low low) =
         let old : slice_get bs i ≡ Some x = sym (get-before bs (b ∷ []) i low) ∙ get in
-        let line : line_through (bs ++ b ∷ []) i h ≡ line_through bs i h = ap (λ xs. flat_map (λ (b : AcceptedTablet). b.records) (at_hash h xs)) (take-before bs (b ∷ []) (i + 1) (omega arith)) in
+        let line : line_through (bs ++ b ∷ []) i h ≡ line_through bs i h = ap (λ xs. flat_map (λ (b : AcceptedTablet). b.records) (at_hash h xs)) (take-append-le (i + 1) bs (b ∷ []) (omega arith)) in
         rw (get-before lefts (left ∷ []) i (let k = a.count in omega arith), line) (a.each i k x old last (omega arith) n h)
     at_place i k x get last bound n h (Same same) =
-        let mine : b ≡ x = some-same (sym (get-middle bs b [] i (sym same)) ∙ get) in
-        let line : line_through (bs ++ b ∷ []) i h ≡ line_above (bs ++ b ∷ []) h = ap (λ xs. flat_map (λ (b : AcceptedTablet). b.records) (at_hash h xs)) (take-snoc bs b (i + 1) (omega arith)) in
+        let mine : b ≡ x = same_Some _ _ (sym (get-middle bs b [] i (sym same)) ∙ get) in
+        let line : line_through (bs ++ b ∷ []) i h ≡ line_above (bs ++ b ∷ []) h = ap (λ xs. flat_map (λ (b : AcceptedTablet). b.records) (at_hash h xs)) (take_all (i + 1) (bs ++ b ∷ []) (omega (arith, length-append bs (b ∷ [])))) in
         rw (get-middle lefts left [] i (a.count ∙ sym same), line, ← mine) (l k (ap (slice_get lasts) (sym same) ∙ last) (omega arith) n h)
-    at_place i k x get last bound n h (High high) = absurd (none (sym (slice_get_past (bs ++ b ∷ []) i (let k = length-append bs (b ∷ []) in omega arith)) ∙ get))
-      where
-        none : None ≡ Some x → ⊥
-        none e = cc
+    at_place i k x get last bound n h (High high) = absurd (none-some x (sym (slice_get_past (bs ++ b ∷ []) i (let k = length-append bs (b ∷ []) in omega arith)) ∙ get))
 
 -- the cases with those of the next tablet
 cases-next : (ts : List Tablet) (commits : List Commit) (bs : List AcceptedTablet) (b : AcceptedTablet) (rest : List AcceptedTablet) (lefts : List (Vec Held Global)) → accepted_tablets (of_tablets ts) ≡ bs ++ b ∷ rest → IsTree (bs ++ b ∷ rest)
@@ -185,13 +164,9 @@ cases-next ts commits bs b rest lefts all tree lasts a k own order n = go (time_
         first-append (λ (b : AcceptedTablet). option_map (case_of n b.header.id) (kind_at (of_tablets ts) n c b)) bs (b ∷ [])
         ∙ ap (or_else (first_some (λ (b : AcceptedTablet). option_map (case_of n b.header.id) (kind_at (of_tablets ts) n c b)) bs)) (or-none (option_map (case_of n b.header.id) (kind_at (of_tablets ts) n c b)) ∙ ap (option_map (case_of n b.header.id)) (sym same))
 
-tree-of : (ts : List Tablet) → IsSound ts → accepted_tablets (of_tablets ts) ≡ accepted_tablets_after [] ts
-unfolding accepted_tablets
-tree-of ts s = refl
-
 -- one tablet more
 pub tablet-more : (ts : List Tablet) (i : ℕ) (t : Tablet) (run : Run) (lasts : List ℕ) (commits : List Commit) (lefts after : List (Vec Held Global)) (left : Vec Held Global) (found : Option Found) (first next : Option Case)
-    → IsSound ts → i < length ts → t ≡ get_or ts i t → IsRun run (accepted_tablet_after (accepted_tablets_after [] (take i ts)) t) t → length lasts ≡ length ts → AreLast lasts ts → AreLeft lefts lasts commits (accepted_tablets_after [] (take i ts))
+    → IsWellFormed (of_tablets ts) → i < length ts → t ≡ get_or ts i t → IsRun run (accepted_tablet_after (accepted_tablets_after [] (take i ts)) t) t → length lasts ≡ length ts → AreLast lasts ts → AreLeft lefts lasts commits (accepted_tablets_after [] (take i ts))
     → IsFirst first (cases_of (of_tablets ts) commits (accepted_tablets_after [] (take i ts)))
     → IsEnd found commits (seen_at_end t.header (held_from lefts t.header.parent) (take run.walk.accepted t.records))
     → ((k : ℕ) → slice_get lasts i ≡ Some k → i < k → IsLeft left.items commits t.header (held_from lefts t.header.parent) (take run.walk.accepted t.records)) → InSlots commits left.items
@@ -203,10 +178,10 @@ tablet-more ts i t run lasts commits lefts after left found first next s below i
     let rest : List AcceptedTablet = more (bs ++ b ∷ []) (drop (suc i) ts) in
     let split : accepted_tablets_after [] ts ≡ accepted_tablets_after [] (take i ts) ++ accepted_tablet_after (accepted_tablets_after [] (take i ts)) t ∷ more (bs ++ b ∷ []) (drop (suc i) ts) = around ts i t below is in
     let tree : IsTree (bs ++ b ∷ rest) = subst IsTree split (valid-tree ts s.headers) in
-    let all : accepted_tablets (of_tablets ts) ≡ bs ++ b ∷ rest = tree-of ts s ∙ split in
+    let all : accepted_tablets (of_tablets ts) ≡ bs ++ b ∷ rest = accepted-of ts ∙ split in
     let own : Each (OwnIn b.header) b.records = own-here ts i run b t s below is r in
     let order : accepted_from b.start b.records ≡ b.records = (accepted_tablet_after-grown bs t).in_order in
-    let place : length bs ≡ i = (let n = count-after [] (take i ts) in let m = take-count i ts (omega arith) in omega arith) in
+    let place : length bs ≡ i = (let n = count-after [] (take i ts) in let m = length-take-le i ts (omega arith) in omega arith) in
     let comes : Comes lasts bs t.header.parent = record { room = omega (arith, count, place); last = λ q k p get. subst (λ m. m ≤ k) (sym place) (last i q k t (slice_get_read ts (length ts) i t refl below is) p get) } in
     let ends : IsEnd found commits (seen_at_end b.header (held_from lefts b.header.parent) b.records) = subst (λ xs. IsEnd found commits (seen_at_end t.header (held_from lefts t.header.parent) xs)) (sym r.records) is_end in
     let leaves : (k : ℕ) → slice_get lasts (length bs) ≡ Some k → length bs < k → IsLeft left.items commits b.header (held_from lefts b.header.parent) b.records =
@@ -221,14 +196,11 @@ tablet-more ts i t run lasts commits lefts after left found first next s below i
 
 -- before the first tablet
 pub none-left : (lasts : List ℕ) (commits : List Commit) → AreLeft [] lasts commits []
-none-left lasts commits = record { count = refl; slots = λ i. refl; each = λ i k b get last le n h. absurd (none get) }
-  where
-    none : {X : Type 0} {x : X} → None ≡ Some x → ⊥
-    none e = cc
+none-left lasts commits = record { count = refl; slots = λ i. refl; each = λ i k b get last le n h. absurd (none-some b get) }
 
 -- the same, where what the tablets before left is seen as a slice
 pub tablet-next : (ts : List Tablet) (i : ℕ) (t : Tablet) (run : Run) (lasts : List ℕ) (commits : List Commit) (lefts now after : List (Vec Held Global)) (left : Vec Held Global) (found : Option Found) (first next : Option Case) (last : ℕ)
-    → now ≡ lefts → IsSound ts → i < length ts → t ≡ get_or ts i t → IsRun run (accepted_tablet_after (accepted_tablets_after [] (take i ts)) t) t → length lasts ≡ length ts → last ≡ get_or lasts i last → AreLast lasts ts
+    → now ≡ lefts → IsWellFormed (of_tablets ts) → i < length ts → t ≡ get_or ts i t → IsRun run (accepted_tablet_after (accepted_tablets_after [] (take i ts)) t) t → length lasts ≡ length ts → last ≡ get_or lasts i last → AreLast lasts ts
     → AreLeft lefts lasts commits (accepted_tablets_after [] (take i ts)) → IsFirst first (cases_of (of_tablets ts) commits (accepted_tablets_after [] (take i ts)))
     → (InSlots commits (held_from now t.header.parent) → IsEnd found commits (seen_at_end t.header (held_from now t.header.parent) (take run.walk.accepted t.records)))
     → (InSlots commits (held_from now t.header.parent) → nat_lt i last ≡ true → IsLeft left.items commits t.header (held_from now t.header.parent) (take run.walk.accepted t.records))
@@ -240,7 +212,7 @@ tablet-next ts i t run lasts commits lefts now after left found first next last 
     let get : slice_get lasts i ≡ Some last = slice_get_read lasts (length ts) i last (sym count) below at in
     tablet-more ts i t run lasts commits lefts after left found first next s below is r count all a f
     (subst (λ xs. IsEnd found commits (seen_at_end t.header (held_from xs t.header.parent) (take run.walk.accepted t.records))) same (is_end k))
-    (λ m e more. subst (λ xs. IsLeft left.items commits t.header (held_from xs t.header.parent) (take run.walk.accepted t.records)) same (is_left k (lt_true i last (subst (λ x. i < x) (some-same (sym e ∙ get)) more))))
+    (λ m e more. subst (λ xs. IsLeft left.items commits t.header (held_from xs t.header.parent) (take run.walk.accepted t.records)) same (is_left k (lt_true i last (subst (λ x. i < x) (same_Some _ _ (sym e ∙ get)) more))))
     (slots k) step drops
   where
     lt_true : (a b : ℕ) → a < b → nat_lt a b ≡ true

@@ -1,16 +1,16 @@
 -- Laws of the commits of some records.
-use Rattle.std.proofs.Common.{◌≡◌, ℕ, ◌+◌, ◌<◌, ◌≤◌, Bool, true, false, cond, ◌||◌, List, [], ◌∷◌, ◌++◌, length, map, refl, ap, sym, ◌∙◌, arith}
+use Rattle.std.proofs.Common.{◌≡◌, ℕ, ◌+◌, ◌≤◌, ◌||◌, List, [], ◌∷◌, ◌++◌, length, map, refl, ap, sym, ◌∙◌, arith}
 use Rattle.std.proofs.Common.{length-append}
 use Rattle.std.proofs.lemmas.Bool.Decides.{nat_tests}
 pub use Rattle.std.proofs.lemmas.List.Elements.{filter_map-append}
-use Rattle.std.specs.Prelude.{Option, Some, None, nat_lt, ◌==◌, is_some}
-use Rattle.std.specs.List.{list_any, filter_map, cons_option}
+use Rattle.std.specs.Prelude.{Option, Some, None, is_some}
+use Rattle.std.specs.List.{filter_map, cons_option}
 use Rattle.xc_record.specs.declared.record.Kind.{Kind}
 use Rattle.xc_record.specs.declared.record.Kind.TheVariants.{Write, Intent, Apply, Abort, Safe, Split}
 use Rattle.xc_record.specs.declared.record.Record.{Record}
 use Rattle.xc_record.specs.Commits.{applies, applied_txn, insert_number, distinct, write_ops}
 use Rattle.xc_record.specs.Lists.{first_some, or_else}
-use Rattle.xc_record.proofs.NumberLaws.{has, has-distinct}
+use Rattle.xc_record.proofs.NumberLaws.{has}
 use Rattle.xc_agree.specs.declared.commits.Commit.{Commit}
 use Rattle.xc_agree.specs.Slots.{time_of}
 use Rattle.xc_agree.specs.Tally.{first_commit, commit_by, applies_in, writes, applied_in}

@@ -1,19 +1,17 @@
 -- Laws of the accepted tablets' headers: what stands above a tablet on the path of a hash ends with its parent.
 use Rattle.std.proofs.Common.{◌≡◌, ℕ, suc, ◌+◌, ◌≤◌, Bool, true, false, cond, List, [], ◌∷◌, ◌++◌, length, take, map, refl, ap, sym, ◌∙◌, subst, arith, append_assoc}
 use Rattle.std.proofs.lemmas.Bool.Decides.{nat_tests}
-use Rattle.std.proofs.lemmas.Bool.{and_parts}
-use Rattle.std.proofs.lemmas.List.{append-nil}
+use Rattle.std.proofs.lemmas.List.{append-nil, map-append}
+use Rattle.std.proofs.lemmas.Option.{same_Some}
+use Rattle.std.proofs.lemmas.List.Elements.{filter-append}
 use Rattle.std.specs.Prelude.{Option, Some, None, ◌&&◌, filter, slice_get, nat_lt}
 use Rattle.xc_record.specs.declared.record.Header.{Header}
 use Rattle.xc_record.specs.declared.record.Tablet.{Tablet}
-use Rattle.xc_record.specs.declared.rules.Next.{Next}
-use Rattle.xc_record.specs.declared.rules.Next.TheVariants.{RootAt}
 use Rattle.xc_record.specs.Hash.{holds}
-use Rattle.xc_record.specs.Headers.{fit_from, headers_fit, next_after}
+use Rattle.xc_record.specs.Headers.{headers_fit}
 use Rattle.xc_record.specs.Valid.{headers_of}
 use Rattle.xc_record.specs.Accepted.{AcceptedTablet, accepted_tablets_after, accepted_tablet_after}
-use Rattle.xc_record.proofs.HeaderLaws.{Line, line_end, Numbered, Fits, FitsAll, headers_fit-all}
-use Rattle.xc_agree.proofs.Steps.{some-same}
+use Rattle.xc_record.proofs.HeaderLaws.{Line, line_end, Numbered, headers_fit-all}
 
 abbrev pub at_hash : ℕ → List AcceptedTablet → List AcceptedTablet
 at_hash h bs = filter (λ b. holds b.header h) bs
@@ -26,14 +24,10 @@ pub record IsTree (bs : List AcceptedTablet) : Type 0 where
   pub numbered : Numbered 0 (headers bs)
   pub lines : (h : ℕ) → Line None (headers (at_hash h bs))
 
-map-append : (bs cs : List AcceptedTablet) → headers (bs ++ cs) ≡ headers bs ++ headers cs
-map-append [] cs = refl
-map-append (b ∷ bs) cs = ap (λ hs. b.header ∷ hs) (map-append bs cs)
-
 headers-after : (before : List AcceptedTablet) (ts : List Tablet) → headers (accepted_tablets_after before ts) ≡ headers before ++ headers_of ts
 headers-after before [] = sym (append-nil (headers before))
 headers-after before (t ∷ ts) =
-    headers-after (before ++ accepted_tablet_after before t ∷ []) ts ∙ ap (λ hs. hs ++ headers_of ts) (map-append before (accepted_tablet_after before t ∷ [])) ∙ append_assoc (headers before) (t.header ∷ []) (headers_of ts)
+    headers-after (before ++ accepted_tablet_after before t ∷ []) ts ∙ ap (λ hs. hs ++ headers_of ts) (map-append (λ (b : AcceptedTablet). b.header) before (accepted_tablet_after before t ∷ [])) ∙ append_assoc (headers before) (t.header ∷ []) (headers_of ts)
 
 headers-at_hash : (h : ℕ) (bs : List AcceptedTablet) → headers (at_hash h bs) ≡ filter (λ x. holds x h) (headers bs)
 headers-at_hash h [] = refl
@@ -74,25 +68,18 @@ ends_at h m p q (b ∷ bs) n e = go (λ q. ends_at h (m + 1) p q bs n.1) (holds 
 
     go : ((q : Option ℕ) → line_end q (headers (at_hash h bs)) ≡ Some p → EndsAt h (m + 1) p q bs) → (c : Bool) → holds b.header h ≡ c
         → line_end q (headers (cond c (b ∷ at_hash h bs) (at_hash h bs))) ≡ Some p → EndsAt h m p q (b ∷ bs)
-    go ih true s e = later q (Some b.header.id) (ih (Some b.header.id) e) (λ none is. Within 0 b (let i : b.header.id ≡ p = some-same is in let k : b.header.id ≡ m = n.0 in omega arith) refl s (at_hash-take h 0 b bs none))
+    go ih true s e = later q (Some b.header.id) (ih (Some b.header.id) e) (λ none is. Within 0 b (let i : b.header.id ≡ p = same_Some _ _ is in let k : b.header.id ≡ m = n.0 in omega arith) refl s (at_hash-take h 0 b bs none))
     go ih false s e = later q q (ih q e) (λ none is. Before (rw s none) is)
 
 line-split : (q : Option ℕ) (xs : List Header) (t : Header) (ys : List Header) → Line q (xs ++ t ∷ ys) → t.parent ≡ line_end q xs
 line-split q [] t ys l = l.0
 line-split q (x ∷ xs) t ys l = line-split (Some x.id) xs t ys l.1
 
-at_hash-append : (h : ℕ) (bs cs : List AcceptedTablet) → at_hash h (bs ++ cs) ≡ at_hash h bs ++ at_hash h cs
-at_hash-append h [] cs = refl
-at_hash-append h (b ∷ bs) cs = elim (holds b.header h) as (λ x. cond x (b ∷ at_hash h (bs ++ cs)) (at_hash h (bs ++ cs)) ≡ cond x (b ∷ at_hash h bs) (at_hash h bs) ++ at_hash h cs) [
-  | true ↦ ap (λ xs. b ∷ xs) (at_hash-append h bs cs)
-  | false ↦ at_hash-append h bs cs
-]
-
 parent-line : (h : ℕ) (before : List AcceptedTablet) (b : AcceptedTablet) (rest : List AcceptedTablet) → Line None (headers (at_hash h (before ++ b ∷ rest))) → holds b.header h ≡ true
     → b.header.parent ≡ line_end None (headers (at_hash h before))
 parent-line h before b rest l s =
     let whole : headers (at_hash h (before ++ b ∷ rest)) ≡ headers (at_hash h before) ++ b.header ∷ headers (at_hash h rest) =
-    ap headers (at_hash-append h before (b ∷ rest) ∙ ap (λ xs. at_hash h before ++ xs) (rw s refl)) ∙ map-append (at_hash h before) (b ∷ at_hash h rest) in
+    ap headers (filter-append (λ (b : AcceptedTablet). holds b.header h) before (b ∷ rest) ∙ ap (λ xs. at_hash h before ++ xs) (rw s refl)) ∙ map-append (λ (b : AcceptedTablet). b.header) (at_hash h before) (b ∷ at_hash h rest) in
     line-split None (headers (at_hash h before)) b.header (headers (at_hash h rest)) (subst (Line None) whole l)
 
 numbered-before : (m : ℕ) (before rest : List AcceptedTablet) → Numbered m (headers (before ++ rest)) → Numbered m (headers before)
@@ -138,13 +125,6 @@ none-below h k m (b ∷ bs) n le =
     go d e true ih = rw e ih
     go d e false ih = ih
 
-below-append : (h k : ℕ) (bs cs : List AcceptedTablet) → below h k (bs ++ cs) ≡ below h k bs ++ below h k cs
-below-append h k [] cs = refl
-below-append h k (b ∷ bs) cs = elim (holds b.header h && nat_lt b.header.id k) as (λ x. cond x (b ∷ below h k (bs ++ cs)) (below h k (bs ++ cs)) ≡ cond x (b ∷ below h k bs) (below h k bs) ++ below h k cs) [
-  | true ↦ ap (λ xs. b ∷ xs) (below-append h k bs cs)
-  | false ↦ below-append h k bs cs
-]
-
 numbered-after : (m : ℕ) (before rest : List AcceptedTablet) → Numbered m (headers (before ++ rest)) → Numbered (m + length before) (headers rest)
 numbered-after m [] rest n = subst (λ x. Numbered x (headers rest)) (omega arith) n
 numbered-after m (b ∷ before) rest n = subst (λ x. Numbered x (headers rest)) (omega arith) (numbered-after (m + 1) before rest n.1)
@@ -158,7 +138,7 @@ pub below_number : (h : ℕ) (before : List AcceptedTablet) (b : AcceptedTablet)
     → filter (λ a. holds a.header h && nat_lt a.header.id b.header.id) (before ++ b ∷ rest) ≡ at_hash h before
 below_number h before b rest t =
     let i : b.header.id ≡ length before = number-before before b rest t in
-    below-append h b.header.id before (b ∷ rest)
+    filter-append (λ (a : AcceptedTablet). holds a.header h && nat_lt a.header.id b.header.id) before (b ∷ rest)
     ∙ ap (λ xs. below h b.header.id before ++ xs) (none-below h b.header.id (0 + length before) (b ∷ rest) (numbered-after 0 before (b ∷ rest) t.numbered) (omega arith))
     ∙ append-nil (below h b.header.id before)
     ∙ all-below h b.header.id 0 before (numbered-before 0 before (b ∷ rest) t.numbered) (omega arith)

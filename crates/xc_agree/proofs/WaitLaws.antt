@@ -1,10 +1,11 @@
 -- Laws of waiting.
 use Rattle.std.proofs.Common.{◌≡◌, ℕ, ◌+◌, ◌-◌, Bool, true, false, ◌||◌, List, [], ◌∷◌, ◌++◌, length, refl, ap, sym, ◌∙◌, subst, arith, length-append, append_assoc}
 use Rattle.std.proofs.lemmas.Bool.Decides.{nat_tests}
-use Rattle.std.proofs.lemmas.Bool.{eqb-true}
-use Rattle.std.proofs.lemmas.List.{append-nil}
+use Rattle.std.proofs.lemmas.Bool.{eqb-true, false≢true}
+use Rattle.std.proofs.lemmas.List.{append-nil, drop_all}
 use Rattle.std.specs.Prelude.{Option, Some, None, ◌&&◌, ◌==◌, nat_le, if◌then◌else◌, fold, is_some, option_and_then, not}
 use Rattle.std.specs.Option.{option_map_or}
+use Rattle.std.proofs.Math.Bool.{and_assoc}
 use Rattle.xc_record.specs.declared.record.Kind.{Kind}
 use Rattle.xc_record.specs.declared.record.Kind.TheVariants.{Write, Intent, Apply, Abort, Safe, Split}
 use Rattle.xc_record.specs.declared.record.Op.{Op}
@@ -18,7 +19,7 @@ use Rattle.xc_agree.specs.declared.commits.Commit.{Commit}
 use Rattle.xc_agree.specs.Slots.{time_of}
 use Rattle.xc_agree.specs.Seen.{Seen, see, see_kind, settles, passes, unseen, waits_from, since_in, IsLook}
 use Rattle.xc_agree.specs.Held.{is_held, writes_at, intends, intends_since, is_start, wait_kind, waits_by, IsLeft, seen_at_end}
-use Rattle.xc_agree.proofs.HeldLaws.{since-snoc, drop-past}
+use Rattle.xc_agree.proofs.HeldLaws.{since-snoc}
 
 pub waits-append : (n : ℕ) (p : List Op → Bool) (w : Bool) (xs ys : List Record) → waits_by n p w (xs ++ ys) ≡ waits_by n p (waits_by n p w xs) ys
 waits-append n p w [] ys = refl
@@ -32,15 +33,12 @@ pub record Still (n h : ℕ) (held : Bool) (s : Seen) (done : List Record) : Typ
 
 still-begin : (n h : ℕ) (held waits : Bool) → (held ≡ true → waits ≡ true) → Still n h held (unseen waits) []
 still-begin n h true true k = record { place = refl; below = refl; waits = refl }
-still-begin n h true false k = absurd (no (k refl))
-  where
-    no : false ≡ true → ⊥
-    no e = cc
+still-begin n h true false k = absurd (false≢true (k refl))
 still-begin n h false true k = record { place = refl; below = refl; waits = refl }
 still-begin n h false false k = record { place = refl; below = refl; waits = refl }
 
 empty-since : (n h : ℕ) (done : List Record) → intends_since n h (Some (length done + 1)) done ≡ false
-empty-since n h done = ap (intends n h) (drop-past (length done + 1 - 1) done (omega arith))
+empty-since n h done = ap (intends n h) (drop_all (length done + 1 - 1) done (omega arith))
 
 step-waits : (n c h : ℕ) (held : Bool) (s : Seen) (done : List Record) (r : Record) (time : ℕ) (kind : Kind) → r.kind ≡ kind → Still n h held s done
     → wait_kind n (writes_at h) (waits_by n (writes_at h) held done) kind ≡ ((held && is_start (see_kind n c s time kind).since) || intends_since n h (see_kind n c s time kind).since (done ++ r ∷ []))
@@ -123,9 +121,6 @@ left-at-end look commits header held left rs k is n h = is n h ∙ go (time_of c
     and-false : (a b : Bool) → ((a && (b && false)) || false) ≡ false
     and-false a b = grind arith
 
-    and-assoc : (a b c : Bool) → (a && (b && c)) ≡ ((a && b) && c)
-    and-assoc a b c = grind arith
-
     go : (o : Option ℕ) → time_of commits n ≡ o → ((is_held held n h && (holds header h && is_start (since_in commits look n))) || intends_since n h (since_in commits look n) rs)
         ≡ (is_some o && waits_by n (writes_at h) (is_held held n h && holds header h) rs)
     go None e =
@@ -135,4 +130,4 @@ left-at-end look commits header held left rs k is n h = is n h ∙ go (time_of c
         let since : since_in commits look n ≡ (seen_at_end header held rs n c).since = k.since n ∙ ap (option_and_then (λ c. (seen_at_end header held rs n c).since)) e in
         let still : Still n h (is_held held n h && holds header h) (seen_at_end header held rs n c) rs =
         still-all n c h (is_held held n h && holds header h) (unseen (waits_from header held n)) [] rs (still-begin n h (is_held held n h && holds header h) (waits_from header held n) (held-waits n h header held)) in
-        rw since (ap (λ b. b || intends_since n h (seen_at_end header held rs n c).since rs) (and-assoc (is_held held n h) (holds header h) (is_start (seen_at_end header held rs n c).since)) ∙ sym still.waits)
+        rw since (ap (λ b. b || intends_since n h (seen_at_end header held rs n c).since rs) (sym (and_assoc (is_held held n h) (holds header h) (is_start (seen_at_end header held rs n c).since))) ∙ sym still.waits)

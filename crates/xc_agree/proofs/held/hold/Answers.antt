@@ -1,10 +1,10 @@
 use Rattle.std.proofs.Common.{◌≡◌, List, subst, ◌∙◌}
 use Rattle.std.specs.Prelude.{◌&&◌, ◌||◌}
+use Rattle.std.proofs.lemmas.List.{take_all}
 use Rattle.xc_record.specs.Hash.{holds}
 use Rattle.xc_record.specs.declared.record.Record.{Record}
 use Rattle.xc_agree.specs.Seen.{since_in}
 use Rattle.xc_agree.specs.Held.{is_held, is_start, intends_since}
-use Rattle.xc_agree.proofs.Steps.{take_past}
 use Rattle.xc_agree.proofs.HeldLaws.{hold-more, hold-none}
 use Rattle.xc_agree.proofs.held.hold.Goals as goal
 
@@ -26,4 +26,4 @@ pub returns-clause-held : goal.returns-clause-held
 returns-clause-held c = λ slots n h.
     subst (λ (rs : List Record). is_held c.loop-i.more.items n h
     ≡ ((is_held c.args.held.now n h && (holds c.args.header.now h && is_start (since_in c.args.commits.now c.args.look.now n))) || intends_since n h (since_in c.args.commits.now c.args.look.now n) rs))
-    (take_past c.loop-i.i c.args.records.now c.loop-i-test.false) (c.loop-i.invariant.held slots n h)
+    (take_all c.loop-i.i c.args.records.now c.loop-i-test.false) (c.loop-i.invariant.held slots n h)

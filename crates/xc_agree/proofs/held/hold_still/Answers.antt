@@ -1,8 +1,8 @@
 use Rattle.std.proofs.Common.{get_or, refl, ap, ◌∙◌, subst}
 use Rattle.std.specs.Prelude.{◌&&◌, ◌||◌, ◌==◌}
+use Rattle.std.proofs.lemmas.List.{take_all}
 use Rattle.xc_agree.specs.declared.held.Held.{Held}
 use Rattle.xc_agree.specs.Held.{is_held, StaysHeld}
-use Rattle.xc_agree.proofs.Steps.{take_past}
 use Rattle.xc_agree.proofs.HeldLaws.{still-more}
 use Rattle.xc_agree.proofs.held.hold_still.Goals as goal
 
@@ -17,4 +17,4 @@ loop-x-preserved c = λ commits slots.
     (λ n h. c.in_ok-keep.ensures.held n h ∙ ap (λ b. is_held c.loop-x.still.items n h || (b && (x.txn == n && x.hash == h))) c.stays.ensures) (c.in_ok-keep.ensures.slots commits)
 
 pub returns : goal.returns
-returns c = λ commits slots. subst (StaysHeld c.loop-x.still.items commits c.args.look.now c.args.header.now) (take_past c.loop-x.x-index c.args.held.now c.loop-x-test.false) (c.loop-x.invariant commits slots)
+returns c = λ commits slots. subst (StaysHeld c.loop-x.still.items commits c.args.look.now c.args.header.now) (take_all c.loop-x.x-index c.args.held.now c.loop-x-test.false) (c.loop-x.invariant commits slots)

@@ -1,4 +1,5 @@
-use Rattle.std.proofs.Common.{◌≡◌, true, false, subst, sym, arith, refl}
+use Rattle.std.proofs.Common.{subst, sym, arith, refl, ◌∙◌}
+use Rattle.std.proofs.lemmas.Bool.{true≢false}
 use Rattle.xc_agree.specs.declared.held.Held.{Held}
 use Rattle.xc_agree.specs.Seen.{unseen, waits_from}
 use Rattle.xc_agree.specs.Held.{IsLeft, InSlots, seen_at_end}
@@ -26,11 +27,8 @@ returns-clause-left c = λ idle slots has. elim c.if-has_children.branch [
   | then-has_children+in_ok-left w ↦ subst (λ (left : Vec Held Global). IsLeft left.items c.args.commits.now c.args.header.now c.args.held.now c.args.records.now) (sym w.left-is)
       (left-at-end c.take_all.new.self c.args.commits.now c.args.header.now c.args.held.now w.in_ok-left.left.items c.args.records.now
       (c.in_ok-take_all.ensures (λ n x. unseen (waits_from c.args.header.now c.args.held.now n)) (c.in_ok-begin.ensures.begun c.args.commits.now idle slots)) (w.in_ok-left.ensures.held slots))
-  | else-has_children w ↦ absurd (no (sym has) w.if-has_children.false)
+  | else-has_children w ↦ absurd (true≢false (sym has ∙ w.if-has_children.false))
 ]
-  where
-    no : true ≡ c.args.has_children → c.args.has_children ≡ false → ⊥
-    no e f = cc
 
 pub returns-clause-slots : goal.returns-clause-slots
 returns-clause-slots c = λ slots. elim c.if-has_children.branch [

@@ -1,8 +1,8 @@
 use Rattle.std.proofs.Common.{◌≡◌, ℕ, List, subst, None, ◌∙◌}
 use Rattle.std.specs.Prelude.{if◌then◌else◌}
+use Rattle.std.proofs.lemmas.List.{take_all}
 use Rattle.xc_agree.specs.declared.look.Waiter.{Waiter}
 use Rattle.xc_agree.specs.Seen.{waits_at, is_slot_of}
-use Rattle.xc_agree.proofs.Steps.{take_past}
 use Rattle.xc_agree.proofs.BeginLaws.{stop-more}
 use Rattle.xc_agree.proofs.look.stop_all.Goals as goal
 
@@ -14,4 +14,4 @@ loop-waiter-preserved c = record {
 
 pub returns-clause-since : goal.returns-clause-since
 returns-clause-since c = subst (λ (ws : List Waiter). (i : ℕ) → waits_at c.loop-waiter.waiting.items i ≡ (if is_slot_of i ws then None else waits_at c.args.waiting.now.items i))
-    (take_past c.loop-waiter.waiter-index c.args.waiters.now c.loop-waiter-test.false) c.loop-waiter.invariant.since
+    (take_all c.loop-waiter.waiter-index c.args.waiters.now c.loop-waiter-test.false) c.loop-waiter.invariant.since

@@ -1,6 +1,6 @@
 use Rattle.std.proofs.Common.{subst, sym, ◌∙◌}
+use Rattle.std.proofs.lemmas.List.{take_all}
 use Rattle.xc_agree.specs.Cases.{AreLast}
-use Rattle.xc_agree.proofs.Steps.{take_past}
 use Rattle.xc_agree.proofs.ChildLaws.{none-last, last-more}
 use Rattle.xc_agree.proofs.tablets.last_children.Goals as goal
 
@@ -17,4 +17,4 @@ pub returns-clause-count : goal.returns-clause-count
 returns-clause-count c = c.loop-i.invariant.count
 
 pub returns-clause-last : goal.returns-clause-last
-returns-clause-last c = subst (AreLast c.loop-i.lasts.items) (take_past c.loop-i.i c.args.tablets.now c.loop-i-test.false) c.loop-i.invariant.last
+returns-clause-last c = subst (AreLast c.loop-i.lasts.items) (take_all c.loop-i.i c.args.tablets.now c.loop-i-test.false) c.loop-i.invariant.last

@@ -1,7 +1,9 @@
 use Rattle.std.proofs.Common.{ap, ◌+◌, ◌∙◌, arith}
-use Rattle.xc_agree.proofs.SplitLaws.{runs-count, run-here, run-within, valid-sound}
+use Rattle.xc_agree.proofs.SplitLaws.{runs-count, run-here, run-within}
 use Rattle.xc_agree.proofs.NoteLaws.{note-bound, note-more, noted-all, count-bound, tally-noted}
+use Rattle.xc_agree.specs.Cases.{of_tablets}
 use Rattle.xc_record.specs.Accepted.{accepted_tablets_after}
+use Rattle.xc_logs.proofs.ValidFacts.{valid_parts}
 use Rattle.std.specs.Prelude.{[]}
 use Rattle.xc_agree.proofs.tally.note_commits.Goals as goal
 
@@ -14,7 +16,7 @@ accepted_part-requires c =
 
 pub add_all-requires : goal.add_all-requires
 add_all-requires c =
-    note-bound c.args.tablets.now c.loop-i.i c.index-tablets-i.result c.index-runs-i.result c.loop-i.applies c.accepted_part.result.now (valid-sound c.args.tablets.now c.requires.valid)
+    note-bound c.args.tablets.now c.loop-i.i c.index-tablets-i.result c.index-runs-i.result c.loop-i.applies c.accepted_part.result.now (valid_parts (of_tablets c.args.tablets.now) c.requires.valid)
     c.loop-i-test.true c.index-tablets-i.is c.accepted_part.ensures c.loop-i.invariant
 
 pub loop-i-preserved : goal.loop-i-preserved
@@ -26,7 +28,7 @@ loop-i-preserved c =
 pub overflow_add-count : goal.overflow_add-count
 overflow_add-count c =
     let noted = noted-all c.args.tablets.now c.loop-i.i c.loop-i.applies c.loop-i-test.false c.loop-i.invariant in
-    let bound = count-bound c.args.tablets.now c.loop-i.applies c.len.result (valid-sound c.args.tablets.now c.requires.valid) noted (c.len.ensures ∙ c.in_ok-commits.ensures.count) in
+    let bound = count-bound c.args.tablets.now c.loop-i.applies c.len.result (valid_parts (of_tablets c.args.tablets.now) c.requires.valid) noted (c.len.ensures ∙ c.in_ok-commits.ensures.count) in
     omega arith
 
 pub returns : goal.returns

@@ -1,7 +1,7 @@
 use Rattle.std.proofs.Common.{◌≡◌, ◌+◌, take, subst, refl, sym, ◌∙◌}
+use Rattle.std.proofs.lemmas.List.{take_all}
 use Rattle.xc_agree.specs.declared.held.Held.{Held}
 use Rattle.xc_agree.specs.declared.look.Look.{Look}
-use Rattle.xc_agree.proofs.Steps.{take_past}
 use Rattle.xc_agree.proofs.BeginLaws.{Beginning, idle-begin, begin-none, begin-more, begin-past, begun}
 use Rattle.xc_agree.proofs.look.Look.begin.Goals as goal
 use Rattle.xc_agree.proofs.look.Look.begin.Goals.{then-holds+in_ok-wait, else-holds}
@@ -27,4 +27,4 @@ loop-x-preserved c = record {
 pub returns-clause-begun : goal.returns-clause-begun
 returns-clause-begun c = λ commits idle slots.
     begun c.loop-x.self commits c.args.header.now c.args.held.now c.loop-x.invariant.place slots
-    (subst (Beginning c.loop-x.self commits c.args.header.now) (take_past c.loop-x.x-index c.args.held.now c.loop-x-test.false) (c.loop-x.invariant.begun commits (idle-begin c.args.self.now commits idle) slots))
+    (subst (Beginning c.loop-x.self commits c.args.header.now) (take_all c.loop-x.x-index c.args.held.now c.loop-x-test.false) (c.loop-x.invariant.begun commits (idle-begin c.args.self.now commits idle) slots))

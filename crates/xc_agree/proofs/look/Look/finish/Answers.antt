@@ -1,9 +1,9 @@
 use Rattle.std.proofs.Common.{List, subst, ◌∙◌}
 use Rattle.std.specs.Prelude.{option_and_then, map}
+use Rattle.std.proofs.lemmas.List.{take_all}
 use Rattle.xc_agree.specs.Slots.{time_of}
 use Rattle.xc_agree.specs.Seen.{IsLeast, kind_tried, is_among}
 use Rattle.xc_agree.specs.declared.look.Waiter.{Waiter}
-use Rattle.xc_agree.proofs.Steps.{take_past}
 use Rattle.xc_agree.proofs.LookLaws.{try-waiter, try-all, txn_of}
 use Rattle.xc_agree.proofs.look.Look.finish.Goals as goal
 
@@ -19,4 +19,4 @@ returns c = λ seen h.
     let items : List Waiter = c.as_slice-waiter-items.result.now in
     try-all c.args.self.now c.args.commits.now seen c.loop-waiter.found h
     (subst (λ (ws : List Waiter). IsLeast c.loop-waiter.found (λ n. option_and_then (λ x. kind_tried (is_among n (map txn_of ws)) x (seen n x)) (time_of c.args.commits.now n)))
-    (take_past c.loop-waiter.waiter-index items c.loop-waiter-test.false ∙ c.as_slice-waiter-items.ensures.value) (c.loop-waiter.invariant seen h))
+    (take_all c.loop-waiter.waiter-index items c.loop-waiter-test.false ∙ c.as_slice-waiter-items.ensures.value) (c.loop-waiter.invariant seen h))

@@ -5,6 +5,8 @@ use Rattle.std.specs.Str.{all_ascii_digits}
 use Rattle.std.specs.Str.Parse.{digits_value, digits_value_after}
 use Rattle.std.specs.List.{All, join_with_byte}
 use Rattle.std.proofs.lemmas.Bool.Decides.{nat_tests}
+pub use Rattle.std.proofs.lemmas.Bool.{and_parts}
+use Rattle.std.proofs.lemmas.Bool.{eq-eqb, ne_eqb}
 use Rattle.std.proofs.lemmas.Fmt.{decimal_digit, digits_decimal, digits_value-decimal, decimal_nonempty, first_decimal, decimal-digits_value}
 use Rattle.std.proofs.lemmas.Str.Parse.{IsNumeralModel, numerals_by_value, tells_all_ascii_digits}
 use Rattle.std.proofs.lemmas.List.Splits.{slice_split_none, slice_split_at, join_with_byte-slice_split}
@@ -14,10 +16,6 @@ use Rattle.std.proofs.Math.Nat.{pow-succ', pow-le-pow_right}
 use Rattle.xc_base.specs.Words.{split_on, number_of, is_number, no_leading_zero}
 
 -- ---- digit by digit
-
-pub and_parts : (a b : Bool) → a && b ≡ true → (a ≡ true) × (b ≡ true)
-and_parts true b h = (refl, h)
-and_parts false b h = cc
 
 digit_value_is : (c : ℕ) → is_ascii_digit c ≡ true → digit_value c ≡ c - 48
 digit_value_is c h = grind (arith, nat_tests)
@@ -119,19 +117,13 @@ decimal-number_of word n h e =
 
 -- ---- pieces joined by the separator and split at it are the pieces
 
-differs : (a b : ℕ) → a ≢ b → a == b ≡ false
-differs a b h = grind (arith, nat_tests)
-
-eq_self : (a : ℕ) → a == a ≡ true
-eq_self a = grind (arith, nat_tests)
-
 none_in : (separator : ℕ) (piece : List ℕ) → All (λ byte. byte ≢ separator) piece → All (λ byte. byte == separator ≡ false) piece
-none_in separator piece h = λ k d l. differs _ separator (h k d l)
+none_in separator piece h = λ k d l. ne_eqb _ separator (h k d l)
 
 pub split_on-join : (separator : ℕ) (piece : List ℕ) (pieces : List (List ℕ)) → All (λ p. All (λ byte. byte ≢ separator) p) (piece ∷ pieces) → split_on separator (join_with_byte separator (piece ∷ pieces)) ≡ piece ∷ pieces
 split_on-join separator piece [] h = slice_split_none _ piece (none_in separator piece (h 0 piece (omega arith)))
 split_on-join separator piece (next ∷ pieces) h =
-    slice_split_at _ piece separator (join_with_byte separator (next ∷ pieces)) (none_in separator piece (h 0 piece (omega arith))) (eq_self separator)
+    slice_split_at _ piece separator (join_with_byte separator (next ∷ pieces)) (none_in separator piece (h 0 piece (omega arith))) (eq-eqb separator separator refl)
     ∙ ap (λ rest. piece ∷ rest) (split_on-join separator next pieces (All-tail (λ p. All (λ byte. byte ≢ separator) p) piece (next ∷ pieces) h))
 
 pub join-split_on : (separator : ℕ) (text : List ℕ) → join_with_byte separator (split_on separator text) ≡ text

@@ -51,8 +51,8 @@ fn ends_of(alloc: Global, runs: &[Run]) -> Result<Ends, AllocError>
 /// log is accepted and how many writes and transactions commit.
 ///
 /// For n records and m operations it takes time proportional to (n + m) log n, and a step more for each operation that
-/// waits at a split, at each such split: at most 31 of them follow one another. Beside a few words for each tablet it
-/// keeps 16 bytes for each apply, 24 for each transaction that was applied, and 16 for each operation that waits at a split.
+/// waits at a split, at each such split: at most 31 of them follow one another. Its memory is a few words for each apply
+/// and, until both children were looked at, for each operation that waits at a split.
 ///
 /// # Errors
 ///

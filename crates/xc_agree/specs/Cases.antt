@@ -2,7 +2,7 @@
 --     IsFirst first cases      first has the least transaction with a case, and that case
 --     left_of lefts i      what the records of the tablet at i left waiting
 --     held_from lefts parent      what the parent's records left waiting; nothing for a root
---     AreLast lasts ts      lasts has the last child of each tablet
+--     AreLast lasts ts      no tablet of ts has a child after the number that lasts has for it
 --     AreLeft lefts lasts commits bs      lefts has what each of the tablets bs with a child to come left waiting
 --     Drops lefts after lasts parent id      after is lefts without what the parent left, where the tablet `id` is its last child
 --     cases_of logs commits bs n      the first case of the transaction n at the tablets bs
@@ -49,7 +49,7 @@ held_from lefts (Some parent) = left_of lefts parent
 abbrev pub line_through : List AcceptedTablet → ℕ → ℕ → List Record
 line_through bs i h = flat_map (λ b. b.records) (filter (λ b. holds b.header h) (take (i + 1) bs))
 
--- no tablet of these has a child after its last one
+-- an upper bound: that the number is a child's is not said, since what is judged doesn't depend on it
 abbrev pub AreLast : List ℕ → List Tablet → Type 0
 AreLast lasts ts = (i p k : ℕ) (t : Tablet) → slice_get ts i ≡ Some t → t.header.parent ≡ Some p → slice_get lasts p ≡ Some k → i ≤ k
 

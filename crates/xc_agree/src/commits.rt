@@ -33,8 +33,6 @@ impl Model for Commits {
 
 impl Commits {
     /// The commits by some applies, in whose order the first of a transaction is the one that counts.
-    ///
-    /// Applies whose transactions rise already need no memory.
     pub fn of_applies(applies: Vec<Commit>) -> Result<Commits, AllocError>
         ensures times { IfOk result (λ commits. (n : ℕ) → time_of commits n ≡ time_of applies.items n) }
         ensures count { IfOk result (λ commits. length commits ≡ length (distinct (map (λ c. c.txn) applies.items))) }

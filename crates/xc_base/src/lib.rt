@@ -61,6 +61,20 @@ mod tests {
         ] {
             assert!(rt; Key::new(name.as_bytes()).err() == key, "{name}");
             assert!(rt; Value::new(name.as_bytes()).err() == value, "{name}");
+            assert!(rt; is_key(name.as_bytes()) == key.is_none(), "{name}");
+            assert!(rt; is_value(name.as_bytes()) == value.is_none(), "{name}");
+            if is_key(name.as_bytes()) {
+                assert!(rt;
+                    Key::of(name.as_bytes()).bytes() == name.as_bytes(),
+                    "{name}"
+                );
+            }
+            if is_value(name.as_bytes()) {
+                assert!(rt;
+                    Value::of(name.as_bytes()).bytes() == name.as_bytes(),
+                    "{name}"
+                );
+            }
         }
         assert!(rt;
             Key::new(b"order/10").ok() < Key::new(b"order/2").ok(),

@@ -207,6 +207,14 @@ covers-drained = sym (kept-values with_both_children drained 0 drained-stands)
 starts : IsSession with_both_children (start with_both_children)
 starts = sessions-start with_both_children valid
 
+-- before the first command
+abbrev at_start : Session
+at_start = record { places = 0 ∷ 0 ∷ 0 ∷ []; cursors = 0 ∷ 0 ∷ 0 ∷ []; acks = 0 ∷ 0 ∷ 0 ∷ []; cutoff = 0; closed = None }
+
+starts-here : IsSession with_both_children at_start
+unfolding computed
+starts-here = starts
+
 -- after a drain
 abbrev at_end : Session
 at_end = record { places = 4 ∷ 2 ∷ 2 ∷ []; cursors = 4 ∷ 2 ∷ 2 ∷ []; acks = 0 ∷ 0 ∷ 0 ∷ []; cutoff = 0; closed = None }

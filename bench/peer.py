@@ -1,7 +1,7 @@
 """What the measures share: a plain Rust program that does the same job, its inputs, and a run of a program.
 
-The peer stands in ../shared/peer. It is copied to a folder under the system's temporary one, built there, and makes its inputs there
-(about 600 MB, once).
+The peer stands in ../shared/peer. It is copied to a folder under the system's temporary one, built there, and makes its
+inputs there (about 600 MB, once).
 """
 import math, os, shutil, subprocess, sys, tempfile, time
 
@@ -11,7 +11,15 @@ WORK = os.path.join(tempfile.gettempdir(), "xcr-bench")
 PEER = os.path.join(WORK, "target", "release", "xcr")
 INPUTS = os.path.join(WORK, "bench", "inputs")
 # for the growth: a kind of the peer's generator, and a size whose double is also made
-GROWTH = [("wide", 256), ("versions", 500000), ("waiting-big", 16000), ("waiting-small", 250000), ("splits", 250000), ("safes", 500000), ("keys", 30000)]
+GROWTH = [
+    ("wide", 256),
+    ("versions", 500000),
+    ("waiting-big", 16000),
+    ("waiting-small", 250000),
+    ("splits", 250000),
+    ("safes", 500000),
+    ("keys", 30000),
+]
 
 
 def options(words, usage):
@@ -50,7 +58,8 @@ def run(program, words):
     """The wall time in seconds, the peak memory in MiB, the output and the error output of one run."""
     with tempfile.TemporaryFile() as output, tempfile.TemporaryFile() as errors:
         began = time.perf_counter()
-        child = subprocess.Popen([program] + words, cwd=INPUTS, stdout=output, stderr=errors, env={**os.environ, "XCR_TIMES": "1"})
+        env = {**os.environ, "XCR_TIMES": "1"}
+        child = subprocess.Popen([program] + words, cwd=INPUTS, stdout=output, stderr=errors, env=env)
         _, status, usage = os.wait4(child.pid, 0)
         took = time.perf_counter() - began
         child.returncode = os.waitstatus_to_exitcode(status)
@@ -72,7 +81,9 @@ def compare(names, peer_run, this_run):
     for name in names:
         (peer, peer_memory), (this, this_memory) = peer_run(name), this_run(name)
         ratios.append(this / peer)
-        print(f"{name:26} {peer:8.3f} {this:8.3f} {this / peer:6.2f} {peer_memory:9.0f} {this_memory:9.0f} {this_memory / peer_memory:6.2f}")
+        times = f"{peer:8.3f} {this:8.3f} {this / peer:6.2f}"
+        memory = f"{peer_memory:9.0f} {this_memory:9.0f} {this_memory / peer_memory:6.2f}"
+        print(f"{name:26} {times} {memory}")
     if ratios:
         mean = math.exp(sum(math.log(ratio) for ratio in ratios) / len(ratios))
         print(f"time: geometric mean {mean:.2f}, worst {max(ratios):.2f}")
@@ -82,5 +93,6 @@ def growth(this_run):
     """Prints how time and memory grow where an input doubles: 2.0 is in proportion."""
     print(f"\n{'kind':16} {'size':>9} {'doubled':>9} {'growth of time':>15} {'of memory':>10}")
     for kind, size in GROWTH:
-        (small, small_memory), (large, large_memory) = this_run(f"{kind}-{size}.growth"), this_run(f"{kind}-{2 * size}.growth")
+        small, small_memory = this_run(f"{kind}-{size}.growth")
+        large, large_memory = this_run(f"{kind}-{2 * size}.growth")
         print(f"{kind:16} {size:9} {2 * size:9} {large / small:15.2f} {large_memory / small_memory:10.2f}")

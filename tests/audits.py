@@ -1,9 +1,10 @@
 #!/usr/bin/env python3
 """audits.py [PROGRAM [NUMBER]]
 
-Runs `xcr audit` beside a plain program that computes the same by the definitions alone (docs/model.md), key by key and record by
-record, with no regard for time or memory: on a table of every kind of disagreement, alone and two at once, in every order of
-transaction and tablet, and on NUMBER (2000) small logs made from random numbers, with splits, breaks and transactions.
+Runs `xcr audit` beside a plain program that computes the same by the definitions alone (docs/model.md), key by
+key and record by record, with no regard for time or memory: on a table of every kind of disagreement, alone and
+two at once, in every order of transaction and tablet, with the applies on the first tablet or on the second,
+and on NUMBER (2000) small logs made from random numbers, with splits, breaks, transactions and subtransactions.
 Prints each difference, and closes with 'N passed, M failed'.
 """
 import os, random, subprocess, sys, tempfile
@@ -20,7 +21,9 @@ def hash_of(key):
 
 
 class Tablet:
-    """A tablet of the source. A record is a tuple: its log time, its kind, and the kind's fields."""
+    """A tablet of the source. A record is a tuple: its log time, its kind, and the kind's fields. Those of an
+    intent are the transaction, the subtransaction or 0, and the operations; those of an apply the transaction,
+    the commit, and the list of subtransactions that were rolled back."""
 
     def __init__(self, id, lo, hi, parent=None):
         self.id, self.lo, self.hi, self.parent, self.records = id, lo, hi, parent, []
@@ -79,7 +82,7 @@ def waits(n, key, path):
     """Whether an operation of transaction n on the key waits after the records of a path."""
     found = False
     for _, kind, *fields in path:
-        if kind == "intent" and fields[0] == n and any(name == key for name, _ in fields[1]):
+        if kind == "intent" and fields[0] == n and any(name == key for name, _ in fields[2]):
             found = True
         if kind in ("apply", "abort") and fields[0] == n:
             found = False
@@ -100,12 +103,13 @@ def straggles(n, commit, accepted, all_accepted):
 
 def disagreement(all_accepted):
     """The case of the least transaction, then of the least tablet, then the first kind, or None."""
-    applies = [(r[2], r[3]) for a in all_accepted for r in a.records if r[1] == "apply"]
-    for n in sorted({txn for txn, _ in applies}):
-        commit = next(c for txn, c in applies if txn == n)
+    applies = [r[2:] for a in all_accepted for r in a.records if r[1] == "apply"]
+    for n in sorted({txn for txn, _, _ in applies}):
+        commit, undone = next((c, without) for txn, c, without in applies if txn == n)
         for a in all_accepted:
             cases = [
                 ("commit-differs", any(r[1] == "apply" and r[2] == n and r[3] != commit for r in a.records)),
+                ("rollback-differs", any(r[1] == "apply" and r[2] == n and r[4] != undone for r in a.records)),
                 ("late-intent", any(r[1] == "intent" and r[2] == n and r[0] >= commit for r in a.records)),
                 ("aborted", any(r[1] == "abort" and r[2] == n for r in a.records)),
                 ("straggler", straggles(n, commit, a, all_accepted)),
@@ -116,11 +120,16 @@ def disagreement(all_accepted):
     return None
 
 
-def audit(tablets):
-    """The status and the output of an audit of the logs."""
+def accepted_of(tablets):
     accepted = []
     for tablet in tablets:
         accepted.append(Accepted(tablet, accepted))
+    return accepted
+
+
+def audit(tablets):
+    """The status and the output of an audit of the logs."""
+    accepted = accepted_of(tablets)
     case = disagreement(accepted)
     if case:
         return 3, "disagree %d %d %s\n" % case
@@ -138,15 +147,26 @@ def op_word(op):
 
 
 def record_line(id, record):
-    words = [str(id), str(record[0]), record[1]]
-    for field in record[2:]:
-        words += [op_word(op) for op in field] if isinstance(field, list) else [str(field)]
-    return " ".join(words)
+    time, kind, *fields = record
+    words = [id, time, kind]
+    if kind == "write":
+        words += [op_word(op) for op in fields[0]]
+    elif kind == "intent":
+        txn, sub, ops = fields
+        words += [txn] + (["sub", sub] if sub else []) + [op_word(op) for op in ops]
+    elif kind == "apply":
+        txn, commit, without = fields
+        words += [txn, commit] + (["without"] + without if without else [])
+    else:
+        words += fields
+    return " ".join(str(word) for word in words)
 
 
 def text_of(tablets, rng):
     """The logs as a text, the lines of different tablets mixed by chance."""
-    lines = ["xclog 1"] + [tablet.header() for tablet in tablets]
+    records = [record for tablet in tablets for record in tablet.records]
+    has_subs = any(r[1] == "intent" and r[3] != 0 or r[1] == "apply" and r[4] != [] for r in records)
+    lines = [f"xclog {2 if has_subs else rng.choice([1, 2])}"] + [tablet.header() for tablet in tablets]
     left = [(tablet.id, list(tablet.records)) for tablet in tablets if tablet.records]
     while left:
         id, records = rng.choice(left)
@@ -161,28 +181,54 @@ def two_roots():
     return [Tablet(0, 0, 32767), Tablet(1, 32768, 65535)]
 
 
-# what makes a case of the kind, of transaction n at tablet s, whose commit is 50 by an apply on tablet 0
+# what makes a case of the kind, of transaction n at tablet s, whose commit is 50, without subtransaction 1, by
+# an apply on one of the tablets
 CASES = {
-    "commit-differs": lambda n, key: [(60 + n, "apply", n, 51)],
-    "late-intent": lambda n, key: [(70 + n, "intent", n, [(key, "1")])],
+    "commit-differs": lambda n, key: [(60 + n, "apply", n, 51, [1])],
+    "rollback-differs": lambda n, key: [(65 + n, "apply", n, 50, [2])],
+    "late-intent": lambda n, key: [(70 + n, "intent", n, 0, [(key, "1")])],
     "aborted": lambda n, key: [(80 + n, "abort", n)],
-    "straggler": lambda n, key: [(n, "intent", n, [(key, "1")]), (90 + n, "safe", 50)],
+    "straggler": lambda n, key: [(n, "intent", n, 0, [(key, "1")]), (90 + n, "safe", 50)],
+    "straggler, rolled back": lambda n, key: [(20 + n, "intent", n, 1, [(key, "1")]), (90 + n, "safe", 50)],
 }
 
 
 def table():
-    """Logs with each kind alone, and with two at once, for two transactions and two tablets in every order."""
-    alone = [[(n, s, kind)] for n in (5, 7) for s in (0, 1) for kind in CASES]
-    both = [a + b for a in alone for b in alone if a != b]
-    for chosen in alone + both:
-        tablets = two_roots()
-        tablets[0].records += [(55, "apply", 5, 50), (57, "apply", 7, 50)]
-        for n, s, kind in chosen:
-            tablets[s].records += CASES[kind](n, "aaa" if s == 0 else "zzz")
-        for tablet in tablets:
-            # one record at a time, and what a case holds before the apply stays before it
-            tablet.records = sorted(set_of(tablet.records), key=lambda record: record[0])
-        yield tablets
+    """Logs with each kind alone, and with two at once, for two transactions and two tablets in every order. On
+    the tablet of the applies no straggler stands alone: what waits there is settled, or was logged after the
+    commit."""
+    for home in (0, 1):
+        alone = [
+            [(n, s, kind)]
+            for n in (5, 7)
+            for s in (0, 1)
+            for kind in CASES
+            if s != home or not kind.startswith("straggler")
+        ]
+        for chosen in alone:
+            tablets = made(home, chosen)
+            (n, s, kind), = chosen
+            case = disagreement(accepted_of(tablets))
+            # where an apply differs on the first tablet, it's the others that differ from it
+            at = 1 if kind in ("commit-differs", "rollback-differs") and (s, home) == (0, 1) else s
+            assert case == (n, at, kind.split(",")[0]), f"{chosen} makes {case}"
+            yield tablets
+        for a in alone:
+            for b in alone:
+                if a != b:
+                    yield made(home, a + b)
+
+
+def made(home, chosen):
+    """Two roots with the applies of both transactions on the tablet `home`, and what makes the chosen cases."""
+    tablets = two_roots()
+    tablets[home].records += [(55, "apply", 5, 50, [1]), (57, "apply", 7, 50, [1])]
+    for n, s, kind in chosen:
+        tablets[s].records += CASES[kind](n, "aaa" if s == 0 else "zzz")
+    for tablet in tablets:
+        # one record at a time, and what a case holds before the apply stays before it
+        tablet.records = sorted(set_of(tablet.records), key=lambda record: record[0])
+    return tablets
 
 
 def set_of(records):
@@ -199,8 +245,10 @@ def grown(rng):
     for _ in range(rng.choice([0, 0, 1, 1, 2])):
         parent = rng.choice([t for t in tablets if all(t.id != c.parent for c in tablets) and t.lo < t.hi])
         at = rng.randint(parent.lo + 1, parent.hi)
-        tablets += [Tablet(len(tablets), parent.lo, at - 1, parent.id), Tablet(len(tablets) + 1, at, parent.hi, parent.id)]
+        left = Tablet(len(tablets), parent.lo, at - 1, parent.id)
+        tablets += [left, Tablet(len(tablets) + 1, at, parent.hi, parent.id)]
     commits = {n: rng.randint(4, 30) for n in (1, 2, 3)}
+    undone = {n: rng.choice([[], [], [1], [2], [1, 64]]) for n in (1, 2, 3)}
     ends = {}
     for tablet in tablets:
         time = ends.get(tablet.parent, 0)
@@ -212,11 +260,13 @@ def grown(rng):
             kind = rng.choice(["write", "intent", "intent", "apply", "apply", "abort", "safe", "safe"])
             ops = [(rng.choice(keys), rng.choice(["1", "2", None])) for _ in range(rng.randint(1, 3))] if keys else None
             if kind in ("write", "intent") and ops:
-                tablet.records.append((time, kind, ops) if kind == "write" else (time, kind, n, ops))
+                sub = rng.choice([0, 0, 1, 2, 64])
+                tablet.records.append((time, kind, ops) if kind == "write" else (time, kind, n, sub, ops))
             elif kind == "apply":
                 commit = commits[n] if rng.random() < 0.9 else commits[n] + 1
+                without = undone[n] if rng.random() < 0.9 else rng.choice([[], [1], [1, 2]])
                 time = max(time, commit) if rng.random() < 0.9 else time
-                tablet.records.append((time, kind, n, commit))
+                tablet.records.append((time, kind, n, commit, without))
             elif kind == "abort" and rng.random() < 0.4:
                 tablet.records.append((time, kind, n))
             elif kind == "safe":

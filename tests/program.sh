@@ -27,6 +27,26 @@ shows 'a script that is not there fails at its first read' 5 '' replay logs none
 shows 'a folder cannot be read' 5 '' replay . script
 shows 'no words form no command' 1 'usage: the words after xcr do not form a command'
 
+mkfifo pipe || exit 1
+found=$(timeout 20 "$program" audits pipe)
+code=$?
+if [ "$code" -eq 1 ]; then
+    echo 'ok: no file is opened where the words form no command'
+else
+    echo "FAILED: no file is opened where the words form no command: status $code for 1"
+    failed=1
+fi
+
+echo 'xclog 3' >bad
+found=$(timeout 20 "$program" replay bad pipe)
+code=$?
+if [ "$code" -eq 2 ]; then
+    echo 'ok: no script is opened where the logs are refused'
+else
+    echo "FAILED: no script is opened where the logs are refused: status $code for 2"
+    failed=1
+fi
+
 "$program" replay logs script >/dev/full
 code=$?
 if [ "$code" -eq 6 ]; then

@@ -18,6 +18,11 @@ def one(line):
     return f"xclog 1\n{ONE}\n{line}\nend\n"
 
 
+def two(line):
+    """The same of version 2."""
+    return f"xclog 2\n{ONE}\n{line}\nend\n"
+
+
 def ops(count):
     return " ".join(["+aaa=1"] * count)
 
@@ -34,7 +39,10 @@ FULL_RECORDS = 2**22 // 64
 TABLE = [
     ("", (1, "no-end")),
     ("xclog 1", (1, "form")),
-    ("xclog 2\n", (1, "form")),
+    ("xclog 2\n", (2, "no-end")),
+    ("xclog 2 \n", (1, "form")),
+    ("xclog 3\n", (1, "form")),
+    ("xclog 02\n", (1, "form")),
     ("tablet 0 0 99999 root\n", (1, "form")),
     (f"xclog 1\n{ONE}\n", (3, "no-end")),
     (f"xclog 1\n{ONE}\nend", (3, "form")),
@@ -84,6 +92,49 @@ TABLE = [
     (one("0 1 write " + ops(64)), GOOD),
     (one("0 1 write " + ops(65)), (3, "limit")),
     (one("0 1 intent 0 " + ops(65)), (3, "number")),
+    (one("0 1 write +a%20b=2"), (3, "key")),
+    (two("0 1 write +a%20b=2"), GOOD),
+    (two("0 1 write +aaa=1 -zzz"), GOOD),
+    (two("0 1 write +a=%00%FF"), GOOD),
+    (two("0 1 write +a%3D=2"), GOOD),
+    (two("0 1 write +a%3d=2"), (3, "key")),
+    (two("0 1 write +a%61=2"), (3, "key")),
+    (two("0 1 write +a%=2"), (3, "key")),
+    (two("0 1 write +a%2=2"), (3, "key")),
+    (two("0 1 write +a%%=2"), (3, "key")),
+    (two("0 1 write +=1"), (3, "key")),
+    (two("0 1 write +a\xe9=1"), (3, "key")),
+    (two("0 1 write +" + 32 * "%00" + "=1"), GOOD),
+    (two("0 1 write +" + 33 * "%00" + "=1"), (3, "key")),
+    (two("0 1 write +aaa=" + 64 * "%FF"), GOOD),
+    (two("0 1 write +aaa=" + 65 * "%FF"), (3, "key")),
+    (two("0 0 write +%=1"), (3, "number")),
+    (one("0 1 intent 3 sub 1 +aaa=1"), GOOD),
+    (one("0 1 intent 3 sub 64 +aaa=1"), GOOD),
+    (one("0 1 intent 3 sub 0 +aaa=1"), (3, "number")),
+    (one("0 1 intent 3 sub 65 +aaa=1"), (3, "number")),
+    (one("0 1 intent 3 sub 01 +aaa=1"), (3, "form")),
+    (one("0 1 intent 3 sub +aaa=1"), (3, "form")),
+    (one("0 1 intent 3 sub 1"), (3, "form")),
+    (one("0 1 intent 3 sub"), (3, "form")),
+    (one("0 1 intent 3 1 +aaa=1"), (3, "form")),
+    (one("0 1 write sub 1 +aaa=1"), (3, "form")),
+    (two("0 1 intent 3 sub 1 +a%20=1"), GOOD),
+    (two("0 1 intent 3 sub 0 +a%20=1"), (3, "number")),
+    (one("0 9 apply 1 8 without 1"), GOOD),
+    (one("0 9 apply 1 8 without 1 2 64"), GOOD),
+    (one("0 9 apply 1 8 without " + " ".join(str(sub) for sub in range(1, 65))), GOOD),
+    (one("0 9 apply 1 8 without"), (3, "form")),
+    (one("0 9 apply 1 8 with 1"), (3, "form")),
+    (one("0 9 apply 1 8 1"), (3, "form")),
+    (one("0 9 apply 1 8 without 0"), (3, "number")),
+    (one("0 9 apply 1 8 without 65"), (3, "number")),
+    (one("0 9 apply 1 8 without 2 1"), (3, "number")),
+    (one("0 9 apply 1 8 without 1 1"), (3, "number")),
+    (one("0 9 apply 1 8 without 1 x"), (3, "form")),
+    (one("0 9 apply 1 8 without 2 1 x"), (3, "form")),
+    (two("0 9 apply 1 8 without 1 2"), GOOD),
+    (two("0 9 apply 1 8 without 2 1"), (3, "number")),
     (one("0 9 apply 1 0"), (3, "number")),
     (one("0 9 safe 4611686018427387904"), (3, "number")),
     (one("0 9 split 32768 1 2"), (3, "range")),

@@ -5,15 +5,16 @@ use Rattle.std.proofs.lemmas.Bool.Decides.{nat_tests}
 use Rattle.std.proofs.lemmas.Fn.{always_returns_same}
 use Rattle.std.proofs.lemmas.List.{get_or-map, length-map}
 use Rattle.std.proofs.lemmas.Map.Keys.{IsStrictlyIncreasing-dedup}
-use Rattle.std.specs.Prelude.{◌==◌, is_some, slice_index}
+use Rattle.std.specs.Prelude.{Some, None, ◌==◌, is_some, slice_index, if◌then◌else◌}
 use Rattle.std.specs.Fn.{Called, ComputesKey}
 use Rattle.std.specs.List.{filter, dedup, dedup_from}
 use Rattle.std.specs.List.Sorted.{IsSorted, IsSortedByKey, IsStableByKey, IsStrictlyIncreasing, ties}
 use Rattle.std.specs.Ordering.{nat_cmp, is_lt}
-use Rattle.xc_record.specs.Commits.{distinct}
+use Rattle.xc_record.specs.Lists.{has, distinct}
 use Rattle.xc_agree.specs.declared.commits.Commit.{Commit}
-use Rattle.xc_agree.specs.Slots.{time_of, Rises}
-use Rattle.xc_record.proofs.NumberLaws.{has, has-distinct, Rising, distinct-rising}
+use Rattle.xc_record.specs.Lists.{first_some, or_else}
+use Rattle.xc_agree.specs.Slots.{field_at, field_of, time_of, Rises}
+use Rattle.xc_record.proofs.NumberLaws.{has-distinct, Rising, distinct-rising}
 use denote.Ref.{Bor}
 use denote.Param.Members.{Mut}
 
@@ -23,20 +24,28 @@ abbrev below : Commit → Commit → Bool
 below x y = is_lt (nat_cmp x.txn y.txn)
 
 abbrev none : ℕ → Commit
-none n = record { txn = n; time = 0 }
+none n = record { txn = n; time = 0; without = [] }
 
 ties-same : (n : ℕ) (c : Commit) → ties below (none n) c ≡ (c.txn == n)
 ties-same n c = grind (arith, nat_tests)
 
-time-filter : (cs : List Commit) (n : ℕ) → time_of (filter (ties below (none n)) cs) n ≡ time_of cs n
-time-filter [] n = refl
-time-filter (c ∷ cs) n = grind (arith, nat_tests, ties-same n c, time-filter cs n)
+field-filter : {X : Type 0} (field : Commit → X) (cs : List Commit) (n : ℕ) → field_of field (filter (ties below (none n)) cs) n ≡ field_of field cs n
+field-filter field [] n = refl
+field-filter {X = X} field (c ∷ cs) n = go (field-filter field cs n) (c.txn == n) (ties below (none n) c) refl (ties-same n c)
+  where
+    go : field_of field (filter (ties below (none n)) cs) n ≡ field_of field cs n → (b t : Bool) → c.txn == n ≡ b → t ≡ b
+        → first_some (field_at field n) (if t then (c ∷ filter (ties below (none n)) cs) else filter (ties below (none n)) cs) ≡ or_else (if b then Some (field c) else None) (field_of field cs n)
+    go ih true true at e = rw at refl
+    go ih false false at e = ih
+    go ih true false at e = cc
+    go ih false true at e = cc
 
-pub time-sorted : {F : Type 0} {g : Mut F (Bor Commit × Unit {0}) ℕ} {f : F} (xs ys : List Commit) → ((key : Commit → ℕ) → ComputesKey g key f → IsStableByKey key nat_cmp xs ys)
-    → ((a : Bor Commit × Unit {0}) (r : ℕ) (f' : F) → Called g f a r f' → (r ≡ a.0.now.txn) × (f' ≡ f)) → (n : ℕ) → time_of ys n ≡ time_of xs n
-time-sorted {g = g} {f = f} xs ys stable calls n =
+-- a sort keeps what the first commit of each transaction says
+pub field-sorted : {X F : Type 0} (field : Commit → X) {g : Mut F (Bor Commit × Unit {0}) ℕ} {f : F} (xs ys : List Commit) → ((key : Commit → ℕ) → ComputesKey g key f → IsStableByKey key nat_cmp xs ys)
+    → ((a : Bor Commit × Unit {0}) (r : ℕ) (f' : F) → Called g f a r f' → (r ≡ a.0.now.txn) × (f' ≡ f)) → (n : ℕ) → field_of field ys n ≡ field_of field xs n
+field-sorted field {g = g} {f = f} xs ys stable calls n =
     let same = stable (λ c. c.txn) (always_returns_same g (λ a r. r ≡ a.0.now.txn) f calls) (none n) in
-    sym (time-filter ys n) ∙ ap (λ zs. time_of zs n) same ∙ time-filter xs n
+    sym (field-filter field ys n) ∙ ap (λ zs. field_of field zs n) same ∙ field-filter field xs n
 
 pub sorted-by-txn : {F : Type 0} {g : Mut F (Bor Commit × Unit {0}) ℕ} {f : F} (ys : List Commit) → ((key : Commit → ℕ) → ComputesKey g key f → IsSortedByKey key nat_cmp ys)
     → ((a : Bor Commit × Unit {0}) (r : ℕ) (f' : F) → Called g f a r f' → (r ≡ a.0.now.txn) × (f' ≡ f)) → IsSortedByKey (λ c. c.txn) nat_cmp ys
@@ -47,13 +56,13 @@ sorted-by-txn {g = g} {f = f} ys sorted calls = sorted (λ c. c.txn) (always_ret
 abbrev pub same_txn : Commit → Commit → Bool
 same_txn x y = x.txn == y.txn
 
-time-dedup_from : (k : Commit) (cs : List Commit) (n : ℕ) → time_of (dedup_from same_txn k cs) n ≡ time_of (k ∷ cs) n
-time-dedup_from k [] n = refl
-time-dedup_from k (c ∷ cs) n = grind (arith, nat_tests, time-dedup_from k cs n, time-dedup_from c cs n)
+field-dedup_from : {X : Type 0} (field : Commit → X) (k : Commit) (cs : List Commit) (n : ℕ) → field_of field (dedup_from same_txn k cs) n ≡ field_of field (k ∷ cs) n
+field-dedup_from field k [] n = refl
+field-dedup_from field k (c ∷ cs) n = grind (arith, nat_tests, field-dedup_from field k cs n, field-dedup_from field c cs n)
 
-pub time-dedup : (cs : List Commit) (n : ℕ) → time_of (dedup same_txn cs) n ≡ time_of cs n
-time-dedup [] n = refl
-time-dedup (c ∷ cs) n = time-dedup_from c cs n
+pub field-dedup : {X : Type 0} (field : Commit → X) (cs : List Commit) (n : ℕ) → field_of field (dedup same_txn cs) n ≡ field_of field cs n
+field-dedup field [] n = refl
+field-dedup field (c ∷ cs) n = field-dedup_from field c cs n
 
 txns-dedup_from : (k : Commit) (cs : List Commit) → map (λ c. c.txn) (dedup_from same_txn k cs) ≡ dedup_from ◌==◌ k.txn (map (λ c. c.txn) cs)
 txns-dedup_from k [] = refl

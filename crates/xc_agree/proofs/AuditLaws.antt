@@ -1,7 +1,7 @@
 -- Laws of the audit.
-use Rattle.std.proofs.Common.{◌≡◌, ℕ, zero, suc, ◌+◌, ◌<◌, Bool, true, false, ◌||◌, List, [], ◌∷◌, ◌++◌, length, map, refl, ap, sym, ◌∙◌, subst, arith, length-append}
+use Rattle.std.proofs.Common.{◌≡◌, ℕ, ◌+◌, ◌<◌, Bool, true, false, ◌||◌, List, [], ◌∷◌, ◌++◌, length, map, refl, ap, sym, ◌∙◌, subst, arith, length-append}
 use Rattle.std.proofs.lemmas.Bool.{eqb-true, eq-eqb, true≢false}
-use Rattle.std.specs.Prelude.{Option, Some, None, ◌==◌, slice_get, flat_map, if◌then◌else◌, is_some, option_map}
+use Rattle.std.specs.Prelude.{Option, Some, None, Err, ◌==◌, flat_map, if◌then◌else◌, is_some, option_map}
 use Rattle.std.specs.List.{filter_map, cons_option}
 use Rattle.std.specs.Option.{option_map_or}
 use Rattle.std.specs.declared.cmp.Ordering.{Ordering}
@@ -11,23 +11,24 @@ use Rattle.xc_record.specs.declared.record.Op.{Op}
 use Rattle.xc_record.specs.declared.record.Record.{Record}
 use Rattle.xc_record.specs.declared.record.Tablet.{Tablet}
 use Rattle.xc_record.specs.declared.record.Logs.{Logs}
-use Rattle.xc_record.specs.Accepted.{AcceptedTablet, accepted_tablets_after, accepted_tablet, halt}
-use Rattle.xc_record.specs.Commits.{Commit, commit_cmp, applies, applied_txn, distinct, write_ops, writes_in, write_commits, txn_ops, txn_commits, commits, commit_of, applied}
+use Rattle.xc_record.specs.Accepted.{AcceptedTablet, accepted_tablets_after, halt_of}
+use Rattle.xc_record.specs.Commits.{Commit, commit_cmp, applies, rolls_back, undone, applied_txn, write_ops, writes_in, write_commits, txn_ops, txn_commits, commits, commit_of, applied}
 use Rattle.xc_record.specs.Agreement.{Disagreement, disagreement, disagreement_on, kind_at}
-use Rattle.xc_record.specs.Lists.{first_some, or_else, sort_by, insert_by}
+use Rattle.xc_record.specs.Lists.{first_some, or_else, sort_by, insert_by, has, distinct}
 use Rattle.xc_record.proofs.AgreementLaws.{commit-applied}
 use Rattle.xc_agree.specs.declared.audit.EndState.TheVariants.{Unreached}
 use Rattle.xc_agree.specs.declared.cases.Case.{Case}
-use Rattle.xc_agree.specs.declared.run.Halt.{Halt}
+use Rattle.xc_order.specs.declared.walk.Halt.{Halt}
 use Rattle.xc_agree.specs.declared.run.Run.{Run}
 use Rattle.xc_agree.specs.declared.tally.Tally.{Tally}
-use Rattle.xc_agree.specs.Runs.{IsRun, IsRuns, end_from, halt_state, halt_at}
-use Rattle.xc_agree.specs.Slots.{time_of}
-use Rattle.xc_agree.specs.Tally.{first_commit, writes, applied_in, IsTally}
+use Rattle.xc_agree.specs.Runs.{IsRun, IsRuns, end_from, halt_state}
+use Rattle.xc_order.specs.Walks.{halt_at}
+use Rattle.xc_agree.specs.Slots.{time_of, undone_of}
+use Rattle.xc_agree.specs.Tally.{first_commit, first_without, writes, applied_in, IsTally}
 use Rattle.xc_agree.specs.declared.audit.Audit.{Audit}
-use Rattle.xc_agree.specs.Audit.{end_of, state_of, IsAudit}
+use Rattle.xc_agree.specs.Audit.{end_of, ends_of, ends, state_of, audit_of, IsAudit}
 use Rattle.xc_agree.specs.Cases.{IsFirst, case_of, cases_of, of_tablets, all_records}
-use Rattle.xc_record.proofs.NumberLaws.{has, has-distinct, Rising, distinct-rising}
+use Rattle.xc_record.proofs.NumberLaws.{has-distinct, Rising, distinct-rising}
 use Rattle.xc_agree.proofs.RunLaws.{accepted-of}
 use Rattle.xc_agree.proofs.TallyLaws.{has-applied, first-append, filter_map-append, writes-append}
 use Rattle.std.proofs.lemmas.Bool.{or_right}
@@ -38,26 +39,20 @@ state-same : (reached : Bool) (b : AcceptedTablet) (h : Option Halt) (at : Optio
 state-same reached b None at e f = rw (e, ← f) refl
 state-same reached b (Some h) at e f = rw (e, ← f) refl
 
-end-same : (logs : Logs) (s : ℕ) (run : Run) (b : AcceptedTablet) (t : Tablet) → IsRun run b t → slice_get logs.tablets s ≡ Some t → accepted_tablet logs s ≡ Some b → end_from run ≡ end_of logs s b
-unfolding halt
-end-same logs s run b t r e f =
-    let at : option_map halt_at run.walk.halt ≡ halt logs s = r.halt ∙ rw (f, e) refl in
-    rw (r.accepted, r.order, state-same run.reached b run.walk.halt (halt logs s) r.reached at) refl
+end-same : (run : Run) (b : AcceptedTablet) (t : Tablet) → IsRun run b t → end_from run ≡ end_of b t.records
+end-same run b t r = rw (r.accepted, r.order, state-same run.reached b run.walk.halt (halt_of b t.records) r.reached r.halt) refl
 
-ends-from : (logs : Logs) (runs : List Run) (bs : List AcceptedTablet) (ts : List Tablet) (s i : ℕ) → IsRuns runs bs ts → ((run : Run) (b : AcceptedTablet) (t : Tablet) → slice_get bs i ≡ Some b → slice_get ts i ≡ Some t → IsRun run b t → end_from run ≡ end_of logs s b)
-    → slice_get (map end_from runs) i ≡ option_map (end_of logs s) (slice_get bs i)
-ends-from logs [] [] [] s i h k = refl
-ends-from logs (run ∷ runs) (b ∷ bs) (t ∷ ts) s zero h k = ap (λ x. Some x) (k run b t refl refl h.0)
-ends-from logs (run ∷ runs) (b ∷ bs) (t ∷ ts) s (suc i) h k = ends-from logs runs bs ts s i h.1 k
-ends-from logs [] [] (u ∷ ts) s i h k = absurd h
-ends-from logs [] (c ∷ bs) ts s i h k = absurd h
-ends-from logs (x ∷ runs) [] ts s i h k = absurd h
-ends-from logs (x ∷ runs) (c ∷ bs) [] s i h k = absurd h
+ends-same : (runs : List Run) (bs : List AcceptedTablet) (ts : List Tablet) → IsRuns runs bs ts → map end_from runs ≡ ends_of bs ts
+ends-same [] [] [] h = refl
+ends-same (run ∷ runs) (b ∷ bs) (t ∷ ts) h = rw (end-same run b t h.0, ends-same runs bs ts h.1) refl
+ends-same [] [] (u ∷ ts) h = absurd h
+ends-same [] (c ∷ bs) ts h = absurd h
+ends-same (x ∷ runs) [] ts h = absurd h
+ends-same (x ∷ runs) (c ∷ bs) [] h = absurd h
 
-pub ends-here : (ts : List Tablet) (runs : List Run) → IsRuns runs (accepted_tablets_after [] ts) ts → (s : ℕ) → slice_get (map end_from runs) s ≡ option_map (end_of (of_tablets ts) s) (accepted_tablet (of_tablets ts) s)
-ends-here ts runs h s =
-    ends-from (of_tablets ts) runs (accepted_tablets_after [] ts) ts s s h (λ run b t e f r. end-same (of_tablets ts) s run b t r f (ap (λ bs. slice_get bs s) (accepted-of ts) ∙ e))
-    ∙ ap (λ bs. option_map (end_of (of_tablets ts) s) (slice_get bs s)) (sym (accepted-of ts))
+pub ends-here : (ts : List Tablet) (runs : List Run) → IsRuns runs (accepted_tablets_after [] ts) ts → map end_from runs ≡ ends (of_tablets ts)
+unfolding ends
+ends-here ts runs h = ends-same runs (accepted_tablets_after [] ts) ts h ∙ ap (λ bs. ends_of bs ts) (sym (accepted-of ts))
 
 -- ---- the commits
 
@@ -69,6 +64,16 @@ first-flat n (b ∷ bs) = first-append (λ (r : Record). applies n r.kind) b.rec
 pub commit-here : (ts : List Tablet) (n : ℕ) → first_commit n (all_records (accepted_tablets_after [] ts)) ≡ commit_of (of_tablets ts) n
 unfolding commit_of
 commit-here ts n = first-flat n (accepted_tablets_after [] ts) ∙ ap (first_some (λ (b : AcceptedTablet). first_some (λ r. applies n r.kind) b.records)) (sym (accepted-of ts))
+
+without-flat : (n : ℕ) (bs : List AcceptedTablet) → first_without n (all_records bs) ≡ first_some (λ b. first_some (λ r. rolls_back n r.kind) b.records) bs
+without-flat n [] = refl
+without-flat n (b ∷ bs) = first-append (λ (r : Record). rolls_back n r.kind) b.records (all_records bs) ∙ ap (or_else (first_some (λ r. rolls_back n r.kind) b.records)) (without-flat n bs)
+
+-- and so are its subtransactions that were rolled back
+pub undone-here : (ts : List Tablet) (tally : Tally) → IsTally tally (all_records (accepted_tablets_after [] ts)) → (n : ℕ) → undone_of tally.commits n ≡ undone (of_tablets ts) n
+unfolding undone
+undone-here ts tally h n =
+    ap (λ o. option_map_or (λ without. without) o []) (h.undone n ∙ without-flat n (accepted_tablets_after [] ts) ∙ ap (first_some (λ (b : AcceptedTablet). first_some (λ r. rolls_back n r.kind) b.records)) (sym (accepted-of ts)))
 
 applied-flat : (bs : List AcceptedTablet) → applied_in (all_records bs) ≡ flat_map (λ b. filter_map (λ r. applied_txn r.kind) b.records) bs
 applied-flat [] = refl
@@ -184,17 +189,18 @@ disagrees-here ts tally d h f =
 -- ---- the whole audit
 
 pub fails : (ts : List Tablet) (logs : Logs) (tally : Tally) (first : Option Case) (d : Case) → ts ≡ logs.tablets → IsTally tally (all_records (accepted_tablets_after [] ts))
-    → IsFirst first (cases_of (of_tablets ts) tally.commits (accepted_tablets_after [] ts)) → first ≡ Some d → disagreement logs ≡ Some (case_of d.txn d.tablet d.kind)
+    → IsFirst first (cases_of (of_tablets ts) tally.commits (accepted_tablets_after [] ts)) → first ≡ Some d → audit_of logs ≡ Err (case_of d.txn d.tablet d.kind)
 fails ts logs tally first d same h f is =
-    subst (λ l. disagreement l ≡ Some (case_of d.txn d.tablet d.kind)) (ap of_tablets same) (disagrees-here ts tally d h (subst (λ o. IsFirst o (cases_of (of_tablets ts) tally.commits (accepted_tablets_after [] ts))) is f))
+    let case : disagreement (of_tablets ts) ≡ Some (case_of d.txn d.tablet d.kind) = disagrees-here ts tally d h (subst (λ o. IsFirst o (cases_of (of_tablets ts) tally.commits (accepted_tablets_after [] ts))) is f) in
+    subst (λ l. audit_of l ≡ Err (case_of d.txn d.tablet d.kind)) (ap of_tablets same) (rw case refl)
 
 audits-tablets : (ts : List Tablet) (runs : List Run) (found : Tally) (first : Option Case) (a : Audit) → IsRuns runs (accepted_tablets_after [] ts) ts → IsTally found (all_records (accepted_tablets_after [] ts))
     → IsFirst first (cases_of (of_tablets ts) found.commits (accepted_tablets_after [] ts)) → first ≡ None → a.ends ≡ map end_from runs → a.commits ≡ found.count → IsAudit (of_tablets ts) a
-audits-tablets ts runs found first a r h f is ends count = record {
-  agrees = agrees-here ts found h (subst (λ o. IsFirst o (cases_of (of_tablets ts) found.commits (accepted_tablets_after [] ts))) is f);
-  ends = λ s. ap (λ es. slice_get es s) ends ∙ ends-here ts runs r s;
-  commits = count ∙ commits-here ts found h;
-}
+audits-tablets ts runs found first a r h f is all count =
+    let none : disagreement (of_tablets ts) ≡ None = agrees-here ts found h (subst (λ o. IsFirst o (cases_of (of_tablets ts) found.commits (accepted_tablets_after [] ts))) is f) in
+    let ends : a.ends ≡ ends (of_tablets ts) = all ∙ ends-here ts runs r in
+    let commits : a.commits ≡ length (commits (of_tablets ts)) = count ∙ commits-here ts found h in
+    rw (none, ← ends, ← commits) refl
 
 pub audits : (ts : List Tablet) (logs : Logs) (runs now : List Run) (found : Tally) (first : Option Case) (a : Audit) → ts ≡ logs.tablets → now ≡ runs → IsRuns runs (accepted_tablets_after [] ts) ts → IsTally found (all_records (accepted_tablets_after [] ts))
     → IsFirst first (cases_of (of_tablets ts) found.commits (accepted_tablets_after [] ts)) → first ≡ None → a.ends ≡ map end_from now → a.commits ≡ found.count → IsAudit logs a

@@ -14,10 +14,10 @@ use Rattle.std.specs.Result.{result_ok}
 use Rattle.std.specs.declared.cmp.Ordering.TheVariants.{Less, Equal, Greater}
 use Rattle.xc_record.specs.Lists.{or_else}
 use Rattle.xc_agree.specs.declared.commits.Commit.{Commit}
-use Rattle.xc_agree.specs.Slots.{slot_of, time_of, Rises}
+use Rattle.xc_agree.specs.Slots.{slot_of, field_of, time_of, Rises}
 
 pub slot-below : (cs : List Commit) (n i : ℕ) → slot_of cs n ≡ Some i → i < length cs
-slot-below cs n i e = (position-Some (λ c. c.txn == n) cs i (record { txn = 0; time = 0 }) e).0
+slot-below cs n i e = (position-Some (λ c. c.txn == n) cs i (record { txn = 0; time = 0; without = [] }) e).0
 
 pub slot-at : (cs : List Commit) (n i : ℕ) (c : Commit) → slot_of cs n ≡ Some i → slice_get cs i ≡ Some c → c.txn ≡ n
 slot-at cs n i c e f = eqb-true c.txn n (ap (λ (c : Commit). c.txn == n) (sym (get_or_from_slice_get cs i c c f)) ∙ (position-Some (λ c. c.txn == n) cs i c e).1)
@@ -37,23 +37,26 @@ shifted-none : (o : Option ℕ) → shifted o ≡ None → o ≡ None
 shifted-none None e = refl
 shifted-none (Some j) e = cc
 
-pub time-at-slot : (cs : List Commit) (n i : ℕ) (c : Commit) → slot_of cs n ≡ Some i → slice_get cs i ≡ Some c → time_of cs n ≡ Some c.time
-time-at-slot [] n i c e f = cc
-time-at-slot (d ∷ cs) n i c e f = go (λ j g h. time-at-slot cs n j c g h) (d.txn == n) i (sym (slot-cons d cs n) ∙ e) f
+pub field-at-slot : {X : Type 0} (field : Commit → X) (cs : List Commit) (n i : ℕ) (c : Commit) → slot_of cs n ≡ Some i → slice_get cs i ≡ Some c → field_of field cs n ≡ Some (field c)
+field-at-slot field [] n i c e f = cc
+field-at-slot {X = X} field (d ∷ cs) n i c e f = go (λ j g h. field-at-slot field cs n j c g h) (d.txn == n) i (sym (slot-cons d cs n) ∙ e) f
   where
-    go : ((j : ℕ) → slot_of cs n ≡ Some j → slice_get cs j ≡ Some c → time_of cs n ≡ Some c.time) → (b : Bool) (i : ℕ) → (if b then Some 0 else shifted (slot_of cs n)) ≡ Some i
-        → slice_get (d ∷ cs) i ≡ Some c → or_else (if b then Some d.time else None) (time_of cs n) ≡ Some c.time
+    go : ((j : ℕ) → slot_of cs n ≡ Some j → slice_get cs j ≡ Some c → field_of field cs n ≡ Some (field c)) → (b : Bool) (i : ℕ) → (if b then Some 0 else shifted (slot_of cs n)) ≡ Some i
+        → slice_get (d ∷ cs) i ≡ Some c → or_else (if b then Some (field d) else None) (field_of field cs n) ≡ Some (field c)
     go ih true zero e f = cc
     go ih true (suc i) e f = let no : 0 ≡ suc i = cc in absurd (omega arith)
     go ih false i e f =
         let at = shifted-some (slot_of cs n) i e in
         ih at.0 at.2 (subst (λ k. slice_get (d ∷ cs) k ≡ Some c) at.1 f)
 
-pub no-slot : (cs : List Commit) (n : ℕ) → slot_of cs n ≡ None → time_of cs n ≡ None
-no-slot [] n e = refl
-no-slot (c ∷ cs) n e = go (no-slot cs n) (c.txn == n) (sym (slot-cons c cs n) ∙ e)
+pub time-at-slot : (cs : List Commit) (n i : ℕ) (c : Commit) → slot_of cs n ≡ Some i → slice_get cs i ≡ Some c → time_of cs n ≡ Some c.time
+time-at-slot cs n i c e f = field-at-slot (λ c. c.time) cs n i c e f
+
+pub no-slot : {X : Type 0} (field : Commit → X) (cs : List Commit) (n : ℕ) → slot_of cs n ≡ None → field_of field cs n ≡ None
+no-slot field [] n e = refl
+no-slot {X = X} field (c ∷ cs) n e = go (no-slot field cs n) (c.txn == n) (sym (slot-cons c cs n) ∙ e)
   where
-    go : (slot_of cs n ≡ None → time_of cs n ≡ None) → (b : Bool) → (if b then Some 0 else shifted (slot_of cs n)) ≡ None → or_else (if b then Some c.time else None) (time_of cs n) ≡ None
+    go : (slot_of cs n ≡ None → field_of field cs n ≡ None) → (b : Bool) → (if b then Some 0 else shifted (slot_of cs n)) ≡ None → or_else (if b then Some (field c) else None) (field_of field cs n) ≡ None
     go ih true e = cc
     go ih false e = ih (shifted-none (slot_of cs n) e)
 
@@ -69,7 +72,7 @@ pub slots-differ : (cs : List Commit) (n m i : ℕ) → slot_of cs n ≡ Some i 
 slots-differ cs n m i e f = sym (at n e) ∙ at m f
   where
     none : Commit
-    none = record { txn = 0; time = 0 }
+    none = record { txn = 0; time = 0; without = [] }
 
     at : (k : ℕ) → slot_of cs k ≡ Some i → (get_or cs i none).txn ≡ k
     at k e = eqb-true (get_or cs i none).txn k (position-Some (λ c. c.txn == k) cs i none e).1
@@ -103,7 +106,7 @@ slot-absent : (cs : List Commit) (n : ℕ) → ((k : ℕ) (d : Commit) → k < l
 slot-absent cs n absent = rw (position_or_len_is (λ c. c.txn == n) cs (length cs) none (omega arith) (λ k h. apart k h) (λ h. absurd (omega arith)), le-ltb (length cs) (length cs) (omega arith)) refl
   where
     none : Commit
-    none = record { txn = 0; time = 0 }
+    none = record { txn = 0; time = 0; without = [] }
 
     apart : (k : ℕ) → k < length cs → ((get_or cs k none).txn == n) ≡ false
     apart k h = grind (arith, nat_tests, absent k none h)
@@ -127,7 +130,7 @@ cmp-apart a b e = grind (arith, nat_tests)
 -- what a binary search answers
 pub slot-searched : (cs : List Commit) (n : ℕ) (r : Result ℕ ℕ) → Rises cs → IsSearchInRange r (length cs) → IsBinarySearchResult (λ c. nat_cmp c.txn n) cs r → result_ok r ≡ slot_of cs n
 slot-searched cs n (Ok i) rises below h =
-    let none : Commit = record { txn = 0; time = 0 } in
+    let none : Commit = record { txn = 0; time = 0; without = [] } in
     sym (slot-here cs n i (get_or cs i none) rises (slice_get-get_or cs i none below) (cmp-equal (get_or cs i none).txn n (h none)))
 slot-searched cs n (Err i) rises below h = sym (slot-absent cs n absent)
   where

@@ -3,7 +3,7 @@ use Rattle.std.proofs.Common.{◌≡◌, ℕ, ◌+◌, ◌-◌, ◌<◌, ◌≤�
 use Rattle.std.proofs.lemmas.Bool.Decides.{nat_tests}
 use Rattle.std.proofs.lemmas.Bool.{eqb-true}
 use Rattle.std.proofs.lemmas.List.{take_more, drop-append-le, drop_all, length-take-le}
-use Rattle.std.proofs.lemmas.List.Folds.{list_any-append, list_any_more, list_all-append}
+use Rattle.std.proofs.lemmas.List.Folds.{list_any-append, list_all-append}
 use Rattle.std.specs.Prelude.{Option, Some, None, ◌&&◌, ◌==◌, nat_le, option_and_then}
 use Rattle.std.specs.List.{list_all}
 use Rattle.xc_record.specs.declared.record.Record.{Record}
@@ -87,12 +87,20 @@ still-more commits look header held old new i d slots below was step more =
 pub slots-more : (commits : List Commit) (held new : List Held) (x : Held) → new ≡ held ++ x ∷ [] → is_in_slot commits x.txn x.slot ≡ true → InSlots commits held → InSlots commits new
 slots-more commits held new x is at h = ap (list_all (λ x. is_in_slot commits x.txn x.slot)) is ∙ list_all-append (λ x. is_in_slot commits x.txn x.slot) held (x ∷ []) ∙ rw (h, at) refl
 
--- one operation more
-pub ops-more : (held old new : List Held) (x : Held) (ops : List Op) (i : ℕ) (op : Op) → i < length ops → op ≡ get_or ops i op → x.hash ≡ hash_of op.key → new ≡ old ++ x ∷ []
-    → ((n h : ℕ) → is_held old n h ≡ (is_held held n h || (x.txn == n && writes_at h (take i ops)))) → (n h : ℕ) → is_held new n h ≡ (is_held held n h || (x.txn == n && writes_at h (take (i + 1) ops)))
-ops-more held old new x ops i op below is hash snoc was n h =
-    let writes : writes_at h (take (i + 1) ops) ≡ (writes_at h (take i ops) || x.hash == h) = list_any_more (λ op. hash_of op.key == h) ops i op below ∙ ap (λ op. writes_at h (take i ops) || hash_of op.key == h) (sym is) ∙ ap (λ k. writes_at h (take i ops) || k == h) (sym hash) in
-    ap (λ xs. is_held xs n h) snoc ∙ list_any-append (λ y. y.txn == n && y.hash == h) old (x ∷ []) ∙ rw (was n h, writes) (both (is_held held n h) (x.txn == n) (writes_at h (take i ops)) (x.hash == h))
+-- one operation more, and those that are left
+pub ops-next : (held old new : List Held) (x : Held) (op : Op) (ops left rest : List Op) → left ≡ op ∷ rest → x.hash ≡ hash_of op.key → new ≡ old ++ x ∷ []
+    → ((n h : ℕ) → (is_held old n h || (x.txn == n && writes_at h left)) ≡ (is_held held n h || (x.txn == n && writes_at h ops)))
+    → (n h : ℕ) → (is_held new n h || (x.txn == n && writes_at h rest)) ≡ (is_held held n h || (x.txn == n && writes_at h ops))
+ops-next held old new x op ops left rest first hash snoc was n h =
+    let writes : writes_at h left ≡ (x.hash == h || writes_at h rest) = ap (writes_at h) first ∙ ap (λ k. k == h || writes_at h rest) (sym hash) in
+    let more : is_held new n h ≡ (is_held old n h || ((x.txn == n && x.hash == h) || false)) = ap (λ xs. is_held xs n h) snoc ∙ list_any-append (λ y. y.txn == n && y.hash == h) old (x ∷ []) in
+    ap (λ b. b || (x.txn == n && writes_at h rest)) more ∙ join (is_held old n h) (x.txn == n) (x.hash == h) (writes_at h rest) ∙ ap (λ b. is_held old n h || (x.txn == n && b)) (sym writes) ∙ was n h
   where
-    both : (a t w q : Bool) → ((a || (t && w)) || ((t && q) || false)) ≡ (a || (t && (w || q)))
-    both a t w q = grind arith
+    join : (a t q w : Bool) → ((a || ((t && q) || false)) || (t && w)) ≡ (a || (t && (q || w)))
+    join a t q w = grind arith
+
+pub ops-done : (n h : ℕ) (a t : Bool) (left : List Op) → left ≡ [] → (a || (t && writes_at h left)) ≡ a
+ops-done n h a t left none = rw none (nothing a t)
+  where
+    nothing : (a t : Bool) → (a || (t && false)) ≡ a
+    nothing a t = grind arith

@@ -12,10 +12,10 @@ use Rattle.std.proofs.lemmas.Bool.{eqb-true, eq-eqb, false≢true}
 use Rattle.xc_record.specs.declared.record.Header.{Header}
 use Rattle.xc_agree.specs.declared.held.Held.{Held}
 use Rattle.xc_record.specs.declared.record.Record.{Record}
-use Rattle.std.specs.Prelude.{Option, Some, None, option_and_then, if◌then◌else◌, ◌==◌, ◌&&◌, not, nat_le, nat_lt}
+use Rattle.std.specs.Prelude.{Option, Some, None, option_and_then, if◌then◌else◌, ◌==◌, ◌&&◌, not, nat_le, nat_lt, bytes_eq}
 use Rattle.std.specs.Option.{option_map_or}
 use Rattle.xc_record.specs.declared.record.AgreeKind.{AgreeKind}
-use Rattle.xc_record.specs.declared.record.AgreeKind.TheVariants.{CommitDiffers, LateIntent, Aborted, Straggler}
+use Rattle.xc_record.specs.declared.record.AgreeKind.TheVariants.{CommitDiffers, RollbackDiffers, LateIntent, Aborted, Straggler}
 use Rattle.xc_record.specs.declared.record.Kind.{Kind}
 use Rattle.xc_record.specs.declared.record.Kind.TheVariants.{Intent, Apply, Abort}
 use Rattle.xc_record.specs.declared.record.Op.{Op}
@@ -24,10 +24,10 @@ use Rattle.xc_agree.specs.declared.look.Found.{Found}
 use Rattle.xc_agree.specs.declared.look.Look.{Look}
 use Rattle.xc_agree.specs.declared.look.Waiter.{Waiter}
 use Rattle.xc_agree.specs.declared.commits.Commit.{Commit}
-use Rattle.xc_agree.specs.Slots.{time_of, slot_of}
+use Rattle.xc_agree.specs.Slots.{time_of, undone_of, slot_of}
 use Rattle.xc_agree.proofs.SlotLaws.{slot-at-item}
 use Rattle.xc_agree.proofs.CommitLaws.{slot-below, slots-differ, time-at-slot}
-use Rattle.xc_agree.specs.Seen.{Seen, see, pends, passes, settles, see_kind, kind_of, kind_seen, earlier, IsLeast, with_kind, IsLeastWith, since_at, since_in, pends_at, pends_in, is_in_slot, AreInSlots, IsLook, Takes, Began, IsEnd, waits_from, unseen, kind_at_end, kind_tried, is_among}
+use Rattle.xc_agree.specs.Seen.{Seen, see, pends, passes, settles_as, see_kind, kind_of, kind_seen, earlier, IsLeast, with_kind, IsLeastWith, since_at, since_in, pends_at, pends_in, is_in_slot, AreInSlots, IsLook, Takes, Began, IsEnd, waits_from, unseen, kind_at_end, kind_tried, is_among}
 use Rattle.std.proofs.Math.Bool.{or-false, or-true}
 
 -- found goes by the kinds alone
@@ -36,26 +36,36 @@ least-same None kinds more e h = λ n. e n ∙ h n
 least-same (Some f) kinds more e h = (e f.txn ∙ h.0, λ n below. e n ∙ h.1 n below)
 
 -- one more flag
-pub kind-differs : (b d l a s : Bool) → kind_of (d || b) l a s ≡ if b then Some (earlier CommitDiffers (kind_of d l a s)) else kind_of d l a s
-kind-differs b d l a s = grind arith
+pub kind-differs : (b d u l a s : Bool) → kind_of (d || b) u l a s ≡ if b then Some (earlier CommitDiffers (kind_of d u l a s)) else kind_of d u l a s
+kind-differs b d u l a s = grind arith
 
-pub kind-late : (b d l a s : Bool) → kind_of d (l || b) a s ≡ if b then Some (earlier LateIntent (kind_of d l a s)) else kind_of d l a s
-kind-late b d l a s = grind arith
+pub kind-undoes : (b d u l a s : Bool) → kind_of d (u || b) l a s ≡ if b then Some (earlier RollbackDiffers (kind_of d u l a s)) else kind_of d u l a s
+kind-undoes b d u l a s = grind arith
 
-pub kind-aborted : (d l a s : Bool) → kind_of d l true s ≡ Some (earlier Aborted (kind_of d l a s))
-kind-aborted d l a s = grind arith
+pub kind-late : (b d u l a s : Bool) → kind_of d u (l || b) a s ≡ if b then Some (earlier LateIntent (kind_of d u l a s)) else kind_of d u l a s
+kind-late b d u l a s = grind arith
 
-pub kind-straggles : (b d l a s : Bool) → kind_of d l a (s || b) ≡ if b then Some (earlier Straggler (kind_of d l a s)) else kind_of d l a s
-kind-straggles b d l a s = grind arith
+pub kind-aborted : (d u l a s : Bool) → kind_of d u l true s ≡ Some (earlier Aborted (kind_of d u l a s))
+kind-aborted d u l a s = grind arith
 
-pub kind-apply : (b p d l a s : Bool) → kind_of (d || b) l a (s || p)
-    ≡ if p then Some (earlier Straggler (if b then Some (earlier CommitDiffers (kind_of d l a s)) else kind_of d l a s)) else (if b then Some (earlier CommitDiffers (kind_of d l a s)) else kind_of d l a s)
-kind-apply b p d l a s = kind-straggles p (d || b) l a s ∙ ap (λ k. if p then Some (earlier Straggler k) else k) (kind-differs b d l a s)
+pub kind-straggles : (b d u l a s : Bool) → kind_of d u l a (s || b) ≡ if b then Some (earlier Straggler (kind_of d u l a s)) else kind_of d u l a s
+kind-straggles b d u l a s = grind arith
 
-kind-apply-at : (b p d l a s here c q : Bool) (k : Option AgreeKind) → here ≡ true → c ≡ b → q ≡ p → k ≡ kind_of d l a s → kind_of (d || b) l a (s || p)
-    ≡ if q then (if here then Some (earlier Straggler (if c then (if here then Some (earlier CommitDiffers k) else k) else k)) else (if c then (if here then Some (earlier CommitDiffers k) else k) else k))
-    else (if c then (if here then Some (earlier CommitDiffers k) else k) else k)
-kind-apply-at b p d l a s here c q k h e f g = rw (h, e, f, g) (kind-apply b p d l a s)
+-- with the case where it stands
+abbrev with_if : Bool → AgreeKind → Option AgreeKind → Option AgreeKind
+with_if stands kind k = if stands then Some (earlier kind k) else k
+
+-- the same of the transaction that is `here`
+abbrev with_at : Bool → Bool → AgreeKind → Option AgreeKind → Option AgreeKind
+with_at here stands kind k = if stands then (if here then Some (earlier kind k) else k) else k
+
+pub kind-apply : (b r p d u l a s : Bool) → kind_of (d || b) (u || r) l a (s || p) ≡ with_if p Straggler (with_if r RollbackDiffers (with_if b CommitDiffers (kind_of d u l a s)))
+kind-apply b r p d u l a s =
+    kind-straggles p (d || b) (u || r) l a s ∙ ap (with_if p Straggler) (kind-undoes r (d || b) u l a s ∙ ap (with_if r RollbackDiffers) (kind-differs b d u l a s))
+
+kind-apply-at : (b r p d u l a s here c t q : Bool) (k : Option AgreeKind) → here ≡ true → c ≡ b → t ≡ r → q ≡ p → k ≡ kind_of d u l a s
+    → kind_of (d || b) (u || r) l a (s || p) ≡ with_at here q Straggler (with_at here t RollbackDiffers (with_at here c CommitDiffers k))
+kind-apply-at b r p d u l a s here c t q k h e f g i = rw (h, e, f, g, i) (kind-apply b r p d u l a s)
 
 -- the kinds of the transactions that commit
 abbrev pub kinds_in : List Commit → (ℕ → ℕ → Seen) → ℕ → Option AgreeKind
@@ -87,11 +97,11 @@ lift-since commits old new txn slot f at step n = go (slot_of commits n) refl
         here false true is same = absurd (false≢true (sym is ∙ eq-eqb i slot (same_Some _ _ (sym e ∙ ap (slot_of commits) (eqb-true n txn same) ∙ at))))
 
 -- an intent of a transaction that commits
-pub take-intent : (old new : Look) (commits : List Commit) (txn time commit : ℕ) (ops : List Op) → time_of commits txn ≡ Some commit → Next old new → (Began old → Began new)
+pub take-intent : (old new : Look) (commits : List Commit) (txn time commit sub : ℕ) (ops : List Op) → time_of commits txn ≡ Some commit → Next old new → (Began old → Began new)
     → (AreInSlots commits old.began.items → AreInSlots commits new.began.items)
     → (length old.waiting.items ≡ length commits → (n : ℕ) → since_in commits new n ≡ if n == txn then or_else (since_in commits old n) (Some (old.place + 1)) else since_in commits old n)
-    → IsLeastWith old.found (nat_le commit time) txn LateIntent new.found → Takes old new commits time (Intent txn ops)
-take-intent old new commits txn time commit ops is next starts waiters since found = λ seen h. record {
+    → IsLeastWith old.found (nat_le commit time) txn LateIntent new.found → Takes old new commits time (Intent txn sub ops)
+take-intent old new commits txn time commit sub ops is next starts waiters since found = λ seen h. record {
   place = λ n c. grind (arith, h.place n c, next.place);
   safe = λ n c. grind (arith, h.safe n c, next.safe);
   floor = λ n c. grind (arith, h.floor n c, next.floor);
@@ -103,14 +113,14 @@ take-intent old new commits txn time commit ops is next starts waiters since fou
 }
   where
     sinces : (seen : ℕ → ℕ → Seen) → IsLook old commits seen → (n : ℕ) (o : Option ℕ) → time_of commits n ≡ o
-        → (if n == txn then or_else (since_in commits old n) (Some (old.place + 1)) else since_in commits old n) ≡ option_and_then (λ c. (see_kind n c (seen n c) time (Intent txn ops)).since) o
+        → (if n == txn then or_else (since_in commits old n) (Some (old.place + 1)) else since_in commits old n) ≡ option_and_then (λ c. (see_kind n c (undone_of commits n) (seen n c) time (Intent txn sub ops)).since) o
     sinces seen h n None e = grind (arith, nat_tests, h.since n)
     sinces seen h n (Some c) e = grind (arith, nat_tests, h.since n, h.place n c)
 
     kinds : (seen : ℕ → ℕ → Seen) (n : ℕ) (o : Option ℕ) → time_of commits n ≡ o
-        → option_and_then (λ c. kind_seen (see_kind n c (seen n c) time (Intent txn ops))) o ≡ (if nat_le commit time then with_kind txn LateIntent (kinds_in commits seen) n else kinds_in commits seen n)
+        → option_and_then (λ c. kind_seen (see_kind n c (undone_of commits n) (seen n c) time (Intent txn sub ops))) o ≡ (if nat_le commit time then with_kind txn LateIntent (kinds_in commits seen) n else kinds_in commits seen n)
     kinds seen n None e = grind (arith, nat_tests)
-    kinds seen n (Some c) e = grind (arith, nat_tests, kind-late (nat_le c time) (seen n c).differs (seen n c).late (seen n c).aborted (seen n c).straggles)
+    kinds seen n (Some c) e = grind (arith, nat_tests, kind-late (nat_le c time) (seen n c).differs (seen n c).undoes (seen n c).late (seen n c).aborted (seen n c).straggles)
 
 -- whether what is seen pends goes by the look
 pends-same : (old : Look) (commits : List Commit) (seen : ℕ → ℕ → Seen) (n c : ℕ) → IsLook old commits seen → time_of commits n ≡ Some c → pends c (seen n c) ≡ pends_in commits c old n
@@ -119,46 +129,59 @@ pends-same old commits seen n c h e =
     rw (s, h.safe n c, h.floor n c) refl
 
 -- an apply of a transaction that commits
-pub take-apply : (old new : Look) (mid : Option Found) (commits : List Commit) (txn time named commit : ℕ) → time_of commits txn ≡ Some commit → Next old new → (Began old → Began new) → new.began ≡ old.began
+pub take-apply : (old new : Look) (mid more : Option Found) (commits : List Commit) (txn time named commit : ℕ) (without : List ℕ) → time_of commits txn ≡ Some commit → Next old new → (Began old → Began new) → new.began ≡ old.began
     → ((n : ℕ) → since_in commits new n ≡ if n == txn then None else since_in commits old n)
-    → IsLeastWith old.found (not (named == commit)) txn CommitDiffers mid → IsLeastWith mid (pends_in commits commit old txn) txn Straggler new.found → Takes old new commits time (Apply txn named)
-take-apply old new mid commits txn time named commit is next starts same since first second = λ seen h. record {
+    → IsLeastWith old.found (not (named == commit)) txn CommitDiffers mid → IsLeastWith mid (not (bytes_eq without (undone_of commits txn))) txn RollbackDiffers more
+    → IsLeastWith more (pends_in commits commit old txn) txn Straggler new.found → Takes old new commits time (Apply txn named without)
+take-apply old new mid more commits txn time named commit without is next starts same since first second third = λ seen h. record {
   place = λ n c. grind (arith, h.place n c, next.place);
   safe = λ n c. grind (arith, h.safe n c, next.safe);
   floor = λ n c. grind (arith, h.floor n c, next.floor);
   since = λ n. since n ∙ sinces seen h n (time_of commits n) refl;
-  found = least-same new.found _ _ (λ n. kinds seen h n (time_of commits n) refl) (second _ (first (kinds_in commits seen) h.found));
+  found = least-same new.found _ _ (λ n. kinds seen h n (time_of commits n) refl) (third _ (second _ (first (kinds_in commits seen) h.found)));
   slots = next.slots ∙ h.slots;
   began = starts h.began;
   waiters = rw same h.waiters;
 }
   where
     sinces : (seen : ℕ → ℕ → Seen) → IsLook old commits seen → (n : ℕ) (o : Option ℕ) → time_of commits n ≡ o
-        → (if n == txn then None else since_in commits old n) ≡ option_and_then (λ c. (see_kind n c (seen n c) time (Apply txn named)).since) o
+        → (if n == txn then None else since_in commits old n) ≡ option_and_then (λ c. (see_kind n c (undone_of commits n) (seen n c) time (Apply txn named without)).since) o
     sinces seen h n None e = grind (arith, nat_tests, h.since n)
     sinces seen h n (Some c) e = grind (arith, nat_tests, h.since n, h.place n c)
 
+    undoes : Bool
+    undoes = not (bytes_eq without (undone_of commits txn))
+
+    -- what is found of n
+    after_all : (seen : ℕ → ℕ → Seen) (n : ℕ) → Option AgreeKind
+    after_all seen n = with_at (n == txn) (pends_in commits commit old txn) Straggler (with_at (n == txn) undoes RollbackDiffers (with_at (n == txn) (not (named == commit)) CommitDiffers (kinds_in commits seen n)))
+
+    apart-same : (seen : ℕ → ℕ → Seen) (n : ℕ) → n == txn ≡ false → after_all seen n ≡ kinds_in commits seen n
+    apart-same seen n apart = rw apart (same-if (pends_in commits commit old txn) undoes (not (named == commit)) (kinds_in commits seen n))
+      where
+        same-if : (p r b : Bool) (k : Option AgreeKind) → with_at false p Straggler (with_at false r RollbackDiffers (with_at false b CommitDiffers k)) ≡ k
+        same-if p r b k = grind arith
+
     kinds : (seen : ℕ → ℕ → Seen) → IsLook old commits seen → (n : ℕ) (o : Option ℕ) → time_of commits n ≡ o
-        → option_and_then (λ c. kind_seen (see_kind n c (seen n c) time (Apply txn named))) o
-        ≡ (if pends_in commits commit old txn then with_kind txn Straggler (λ n. if not (named == commit) then with_kind txn CommitDiffers (kinds_in commits seen) n else kinds_in commits seen n) n
-        else (if not (named == commit) then with_kind txn CommitDiffers (kinds_in commits seen) n else kinds_in commits seen n))
-    kinds seen h n None e = grind (arith, nat_tests)
+        → option_and_then (λ c. kind_seen (see_kind n c (undone_of commits n) (seen n c) time (Apply txn named without))) o ≡ after_all seen n
+    kinds seen h n None e =
+        let apart : n == txn ≡ false = (grind (arith, nat_tests)) in
+        sym (apart-same seen n apart ∙ ap (option_and_then (λ c. kind_seen (seen n c))) e)
     kinds seen h n (Some c) e = go (txn == n) refl
       where
         other : txn == n ≡ false → n == txn ≡ false
         other apart = grind (arith, nat_tests)
 
-        go : (same : Bool) → txn == n ≡ same → kind_seen (if same then record (settles c (seen n c)) { differs = (seen n c).differs || not (named == c) } else passes (seen n c))
-            ≡ (if pends_in commits commit old txn then with_kind txn Straggler (λ n. if not (named == commit) then with_kind txn CommitDiffers (kinds_in commits seen) n else kinds_in commits seen n) n
-            else (if not (named == commit) then with_kind txn CommitDiffers (kinds_in commits seen) n else kinds_in commits seen n))
-        go false apart = rw (other apart) (grind (arith, nat_tests))
+        go : (same : Bool) → txn == n ≡ same → kind_seen (if same then settles_as c (undone_of commits n) (seen n c) named without else passes (seen n c)) ≡ after_all seen n
+        go false apart = sym (apart-same seen n (other apart) ∙ ap (option_and_then (λ c. kind_seen (seen n c))) e)
         go true same =
             let at : txn ≡ n = eqb-true txn n same in
             let here : n == txn ≡ true = subst (λ m. n == m ≡ true) (sym at) (eq-eqb n n refl) in
             let one : commit ≡ c = same_Some _ _ (sym is ∙ ap (time_of commits) at ∙ e) in
             let p : pends_in commits commit old txn ≡ pends c (seen n c) = ap (λ x. pends_in commits x old txn) one ∙ ap (pends_in commits c old) at ∙ sym (pends-same old commits seen n c h e) in
-            kind-apply-at (not (named == c)) (pends c (seen n c)) (seen n c).differs (seen n c).late (seen n c).aborted (seen n c).straggles (n == txn) (not (named == commit)) (pends_in commits commit old txn)
-            (kinds_in commits seen n) here (ap (λ x. not (named == x)) one) p (ap (option_and_then (λ c. kind_seen (seen n c))) e)
+            kind-apply-at (not (named == c)) (not (bytes_eq without (undone_of commits n))) (pends c (seen n c)) (seen n c).differs (seen n c).undoes (seen n c).late (seen n c).aborted (seen n c).straggles
+            (n == txn) (not (named == commit)) (not (bytes_eq without (undone_of commits txn))) (pends_in commits commit old txn)
+            (kinds_in commits seen n) here (ap (λ x. not (named == x)) one) (ap (λ m. not (bytes_eq without (undone_of commits m))) at) p (ap (option_and_then (λ c. kind_seen (seen n c))) e)
 
 -- an abort of a transaction that commits
 pub take-abort : (old new : Look) (mid : Option Found) (commits : List Commit) (txn time commit : ℕ) → time_of commits txn ≡ Some commit → Next old new → (Began old → Began new) → new.began ≡ old.began
@@ -176,20 +199,20 @@ take-abort old new mid commits txn time commit is next starts same since first s
 }
   where
     sinces : (seen : ℕ → ℕ → Seen) → IsLook old commits seen → (n : ℕ) (o : Option ℕ) → time_of commits n ≡ o
-        → (if n == txn then None else since_in commits old n) ≡ option_and_then (λ c. (see_kind n c (seen n c) time (Abort txn)).since) o
+        → (if n == txn then None else since_in commits old n) ≡ option_and_then (λ c. (see_kind n c (undone_of commits n) (seen n c) time (Abort txn)).since) o
     sinces seen h n None e = grind (arith, nat_tests, h.since n)
     sinces seen h n (Some c) e = grind (arith, nat_tests, h.since n, h.place n c)
 
     kinds : (seen : ℕ → ℕ → Seen) → IsLook old commits seen → (n : ℕ) (o : Option ℕ) → time_of commits n ≡ o
-        → option_and_then (λ c. kind_seen (see_kind n c (seen n c) time (Abort txn))) o
+        → option_and_then (λ c. kind_seen (see_kind n c (undone_of commits n) (seen n c) time (Abort txn))) o
         ≡ (if pends_in commits commit old txn then with_kind txn Straggler (with_kind txn Aborted (kinds_in commits seen)) n else with_kind txn Aborted (kinds_in commits seen) n)
     kinds seen h n None e = grind (arith, nat_tests)
     kinds seen h n (Some c) e = grind (
       arith,
       nat_tests,
       pends-same old commits seen n c h e,
-      kind-straggles (pends c (seen n c)) (seen n c).differs (seen n c).late true (seen n c).straggles,
-      kind-aborted (seen n c).differs (seen n c).late (seen n c).aborted (seen n c).straggles,
+      kind-straggles (pends c (seen n c)) (seen n c).differs (seen n c).undoes (seen n c).late true (seen n c).straggles,
+      kind-aborted (seen n c).differs (seen n c).undoes (seen n c).late (seen n c).aborted (seen n c).straggles,
     )
 
 pub takes-same : (old new : Look) (commits : List Commit) (time more : ℕ) (kind other : Kind) → time ≡ more → kind ≡ other → Takes old new commits time kind → Takes old new commits more other
@@ -221,8 +244,8 @@ near-look old new commits seen near e h = subst (λ look. IsLook look commits se
 
 -- the look after the record at i
 pub look-more : (look : Look) (commits : List Commit) (seen : ℕ → ℕ → Seen) (rs : List Record) (i : ℕ) (r : Record) → i < length rs → r ≡ get_or rs i r
-    → IsLook look commits (λ n c. see_kind n c (fold (see n c) (seen n c) (take i rs)) r.time r.kind) → IsLook look commits (λ n c. fold (see n c) (seen n c) (take (i + 1) rs))
-look-more look commits seen rs i r below is h = seen-same look commits _ _ (λ n c. ap (fold (see n c) (seen n c)) (take_more rs i r below ∙ ap (λ x. take i rs ++ x ∷ []) (sym is)) ∙ fold-append (see n c) (seen n c) (take i rs) (r ∷ [])) h
+    → IsLook look commits (λ n c. see_kind n c (undone_of commits n) (fold (see n c (undone_of commits n)) (seen n c) (take i rs)) r.time r.kind) → IsLook look commits (λ n c. fold (see n c (undone_of commits n)) (seen n c) (take (i + 1) rs))
+look-more look commits seen rs i r below is h = seen-same look commits _ _ (λ n c. ap (fold (see n c (undone_of commits n)) (seen n c)) (take_more rs i r below ∙ ap (λ x. take i rs ++ x ∷ []) (sym is)) ∙ fold-append (see n c (undone_of commits n)) (seen n c) (take i rs) (r ∷ [])) h
 
 -- ---- the first record
 
@@ -256,7 +279,7 @@ try-none look commits seen h = least-same look.found (kinds_in commits seen) _ (
   where
     kinds : (n : ℕ) (o : Option ℕ) → option_and_then (λ c. kind_tried false c (seen n c)) o ≡ option_and_then (λ c. kind_seen (seen n c)) o
     kinds n None = refl
-    kinds n (Some c) = ap (kind_of (seen n c).differs (seen n c).late (seen n c).aborted) (or-false (seen n c).straggles)
+    kinds n (Some c) = ap (kind_of (seen n c).differs (seen n c).undoes (seen n c).late (seen n c).aborted) (or-false (seen n c).straggles)
 
 abbrev pub txn_of : Waiter → ℕ
 txn_of w = w.txn
@@ -301,7 +324,7 @@ try-all look commits seen found h f = least-same found _ _ (λ n. kinds n (time_
 
     kinds : (n : ℕ) (o : Option ℕ) → time_of commits n ≡ o → option_and_then (λ c. kind_at_end c (seen n c)) o ≡ option_and_then (λ c. kind_tried (is_among n (began_txns look)) c (seen n c)) o
     kinds n None e = refl
-    kinds n (Some c) e = ap (λ b. kind_of (seen n c).differs (seen n c).late (seen n c).aborted ((seen n c).straggles || b)) (sym (tried n c e))
+    kinds n (Some c) e = ap (λ b. kind_of (seen n c).differs (seen n c).undoes (seen n c).late (seen n c).aborted ((seen n c).straggles || b)) (sym (tried n c e))
 
 or-or : (s b p q : Bool) → (s || ((b || q) && p)) ≡ ((s || (b && p)) || (q && p))
 or-or s b p q = grind arith
@@ -335,7 +358,7 @@ try-more look commits seen found more txn tried after h step same is f = go (tim
       among n,
       pends-same look commits seen n c h e,
       or-or (seen n c).straggles (is_among n tried) (pends c (seen n c)) (txn == n),
-      kind-straggles ((txn == n) && pends c (seen n c)) (seen n c).differs (seen n c).late (seen n c).aborted ((seen n c).straggles || (is_among n tried && pends c (seen n c))),
+      kind-straggles ((txn == n) && pends c (seen n c)) (seen n c).differs (seen n c).undoes (seen n c).late (seen n c).aborted ((seen n c).straggles || (is_among n tried && pends c (seen n c))),
     )
 
     go : (o : Option ℕ) → time_of commits txn ≡ o → IsLeast more (λ n. option_and_then (λ c. kind_tried (is_among n after) c (seen n c)) (time_of commits n))
@@ -355,7 +378,7 @@ try-waiter look commits seen found more ws i none h same below step f =
     let w : Waiter = get_or ws i none in
     let at : slot_of commits w.txn ≡ Some w.slot = slot-at-item (λ (w : Waiter). w.txn) (λ w. w.slot) commits ws i none (rw same h.waiters) below in
     let k : w.slot < length commits = slot-below commits w.txn w.slot at in
-    let d : Commit = record { txn = 0; time = 0 } in
+    let d : Commit = record { txn = 0; time = 0; without = [] } in
     let get : slice_get commits w.slot ≡ Some (get_or commits w.slot d) = slice_get-get_or commits w.slot d k in
     let time : time_of commits w.txn ≡ Some (get_or commits w.slot d).time = time-at-slot commits w.txn w.slot (get_or commits w.slot d) at get in
     try-more look commits seen found more w.txn (map txn_of (take i ws)) (map txn_of (take (i + 1) ws)) h

@@ -6,19 +6,19 @@ use Rattle.std.proofs.lemmas.List.Concat.{flat_map-append}
 use Rattle.xc_record.specs.declared.record.Record.{Record}
 use Rattle.xc_record.specs.declared.record.Tablet.{Tablet}
 use Rattle.xc_record.specs.Accepted.{AcceptedTablet, accepted_tablets_after, accepted_tablet_after}
-use Rattle.xc_record.specs.Commits.{distinct}
+use Rattle.xc_record.specs.Lists.{distinct}
 use Rattle.xc_logs.proofs.ValidFacts.{IsWellFormed}
 use Rattle.xc_agree.specs.declared.commits.Commit.{Commit}
 use Rattle.xc_agree.specs.declared.run.Run.{Run}
 use Rattle.xc_agree.specs.declared.tally.Applies.{Applies}
 use Rattle.xc_agree.specs.declared.tally.Tally.{Tally}
 use Rattle.xc_agree.specs.Runs.{IsRun}
-use Rattle.xc_agree.specs.Slots.{time_of}
+use Rattle.xc_agree.specs.Slots.{time_of, without_of}
 use Rattle.xc_agree.specs.Tally.{applies_in, writes, IsTally}
 use Rattle.xc_agree.specs.Cases.{all_records, of_tablets}
 use Rattle.xc_agree.proofs.RunLaws.{tablets-more}
 use Rattle.xc_agree.proofs.SplitLaws.{sum-at}
-use Rattle.xc_agree.proofs.TallyLaws.{applies-append, writes-append, count-within, distinct-within, time-applies, txns-applies}
+use Rattle.xc_agree.proofs.TallyLaws.{applies-append, writes-append, count-within, distinct-within, time-applies, without-applies, txns-applies}
 
 -- all accepted records of these tablets
 abbrev pub records_of : List Tablet → List Record
@@ -72,8 +72,9 @@ count-bound ts applies n s k e =
 
 -- what the applies of all tablets make
 pub tally-noted : (ts : List Tablet) (applies : Applies) (tally : Tally) → AreNoted applies ts → ((n : ℕ) → time_of tally.commits n ≡ time_of applies.items.items n)
-    → length tally.commits ≡ length (distinct (map (λ c. c.txn) applies.items.items)) → tally.count ≡ applies.writes + length tally.commits → IsTally tally (records_of ts)
-tally-noted ts applies tally k times long count = record {
+    → ((n : ℕ) → without_of tally.commits n ≡ without_of applies.items.items n) → length tally.commits ≡ length (distinct (map (λ c. c.txn) applies.items.items)) → tally.count ≡ applies.writes + length tally.commits → IsTally tally (records_of ts)
+tally-noted ts applies tally k times undone long count = record {
   times = λ n. times n ∙ ap (λ cs. time_of cs n) k.items ∙ time-applies (records_of ts) n;
+  undone = λ n. undone n ∙ ap (λ cs. without_of cs n) k.items ∙ without-applies (records_of ts) n;
   count = let l = long ∙ ap (λ (cs : List Commit). length (distinct (map (λ c. c.txn) cs))) k.items ∙ ap (λ ns. length (distinct ns)) (txns-applies (records_of ts)) in omega (arith, count, k.writes);
 }

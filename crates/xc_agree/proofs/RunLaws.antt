@@ -8,7 +8,8 @@ use Rattle.xc_record.specs.Order.{Progress, after, accepted_from}
 use Rattle.xc_record.specs.Accepted.{AcceptedTablet, accepted_tablets_after, accepted_tablet_after, start_after, reached_after, halt_from, accepted_tablets}
 use Rattle.xc_agree.specs.declared.run.Start.{Start}
 use Rattle.xc_agree.specs.declared.run.Run.{Run}
-use Rattle.xc_agree.specs.Runs.{IsRun, IsRuns, start_from, halt_at}
+use Rattle.xc_order.specs.Walks.{halt_at}
+use Rattle.xc_agree.specs.Runs.{IsRun, IsRuns, start_from}
 use Rattle.xc_agree.specs.Cases.{of_tablets}
 
 -- the accepted records are the first ones

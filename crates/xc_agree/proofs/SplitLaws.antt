@@ -106,23 +106,23 @@ one-holds : (header : Header) (ops : List Op) → nat_le 1 (length ops) ≡ true
 one-holds header [] e f = grind (arith, nat_tests)
 one-holds header (op ∷ ops) e f = let a = and_parts (holds header (hash_of op.key)) (list_all (λ op. holds header (hash_of op.key)) ops) f in rw (a.0) refl
 
-intent-fits : (header : Header) (pair : Option (Header × Header)) (kind : Kind) (n : ℕ) (ops : List Op) → kind_fits header pair kind ≡ true → kind ≡ Intent n ops → ops_fit header ops ≡ true
-intent-fits header pair kind n ops f e = (and_parts (is_txn n) (ops_fit header ops) (subst (λ k. kind_fits header pair k ≡ true) e f)).1
+intent-fits : (header : Header) (pair : Option (Header × Header)) (kind : Kind) (n sub : ℕ) (ops : List Op) → kind_fits header pair kind ≡ true → kind ≡ Intent n sub ops → ops_fit header ops ≡ true
+intent-fits header pair kind n sub ops f e = (and_parts (nat_le sub 64) (ops_fit header ops) (and_parts (is_txn n) (nat_le sub 64 && ops_fit header ops) (subst (λ k. kind_fits header pair k ≡ true) e f)).1).1
 
-own-kind : (header : Header) (pair : Option (Header × Header)) (kind : Kind) (n : ℕ) (ops : List Op) → kind_fits header pair kind ≡ true → kind ≡ Intent n ops → list_any (λ op. holds header (hash_of op.key)) ops ≡ true
-own-kind header pair kind n ops f e =
-    let a = fits-parts header ops (intent-fits header pair kind n ops f e) in
+own-kind : (header : Header) (pair : Option (Header × Header)) (kind : Kind) (n sub : ℕ) (ops : List Op) → kind_fits header pair kind ≡ true → kind ≡ Intent n sub ops → list_any (λ op. holds header (hash_of op.key)) ops ≡ true
+own-kind header pair kind n sub ops f e =
+    let a = fits-parts header ops (intent-fits header pair kind n sub ops f e) in
     one-holds header ops a.0 (ops-hold header ops a.1)
 
-own-every : (header : Header) (pair : Option (Header × Header)) (kind : Kind) (n : ℕ) (ops : List Op) → kind_fits header pair kind ≡ true → kind ≡ Intent n ops → list_all (λ op. holds header (hash_of op.key)) ops ≡ true
-own-every header pair kind n ops f e = ops-hold header ops (fits-parts header ops (intent-fits header pair kind n ops f e)).1
+own-every : (header : Header) (pair : Option (Header × Header)) (kind : Kind) (n sub : ℕ) (ops : List Op) → kind_fits header pair kind ≡ true → kind ≡ Intent n sub ops → list_all (λ op. holds header (hash_of op.key)) ops ≡ true
+own-every header pair kind n sub ops f e = ops-hold header ops (fits-parts header ops (intent-fits header pair kind n sub ops f e)).1
 
 own-all : (header : Header) (pair : Option (Header × Header)) (rs : List Record) → list_all (record_fits header pair) rs ≡ true → Each (OwnIn header) rs
 own-all header pair [] e = tt
 own-all header pair (r ∷ rs) e =
     let a = and_parts (record_fits header pair r) (list_all (record_fits header pair) rs) e in
     let fits = (and_parts (is_time r.time) (kind_fits header pair r.kind) a.0).1 in
-    (record { holds_one = λ n ops is. own-kind header pair r.kind n ops fits is; holds_all = λ n ops is. own-every header pair r.kind n ops fits is }, own-all header pair rs a.1)
+    (record { holds_one = λ n sub ops is. own-kind header pair r.kind n sub ops fits is; holds_all = λ n sub ops is. own-every header pair r.kind n sub ops fits is }, own-all header pair rs a.1)
 
 -- the accepted records of a tablet keep its range
 pub own-here : (ts : List Tablet) (i : ℕ) (run : Run) (b : AcceptedTablet) (t : Tablet) → IsWellFormed (of_tablets ts) → i < length ts → t ≡ get_or ts i t → IsRun run b t → Each (OwnIn b.header) b.records

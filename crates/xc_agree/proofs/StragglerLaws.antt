@@ -17,7 +17,7 @@ use Rattle.xc_record.specs.declared.record.Logs.{Logs}
 use Rattle.xc_record.specs.Hash.{hash_of, holds}
 use Rattle.xc_record.specs.Order.{safe_value}
 use Rattle.xc_record.specs.Accepted.{AcceptedTablet, accepted_tablets}
-use Rattle.xc_record.specs.Commits.{txn_ops}
+use Rattle.xc_record.specs.Commits.{provisional_ops}
 use Rattle.xc_record.specs.Agreement.{straggles_at, path_above, straggler}
 use Rattle.xc_record.proofs.AcceptedLaws.{Each}
 use Rattle.xc_agree.specs.declared.held.Held.{Held}
@@ -25,9 +25,10 @@ use Rattle.xc_agree.specs.Seen.{waits_from}
 use Rattle.xc_agree.specs.Held.{is_held, writes_at, wait_kind, waits_by}
 use Rattle.xc_agree.proofs.WaitLaws.{waits-append, held-waits}
 use Rattle.xc_agree.proofs.EndLaws.{straggles, any_op}
-use Rattle.xc_agree.proofs.KeyLaws.{at_key, straggles-key}
+use Rattle.xc_agree.proofs.KeyLaws.{straggles-key}
 use Rattle.xc_agree.proofs.OpLaws.{OpsIn, ops-in, each-flat}
 use Rattle.xc_agree.proofs.TreeLaws.{IsTree, at_hash, below_number}
+use Rattle.xc_record.proofs.IntentLaws.{any-elim, at_key, key-passes}
 use Rattle.xc_record.proofs.ListLaws.{Each-filter}
 use Rattle.std.proofs.lemmas.Bool.{or_right}
 
@@ -49,9 +50,9 @@ wait-wider : (n : ℕ) (p q : List Op → Bool) (w v : Bool) (kind : Kind) → W
 wait-wider n p q w v (Write ops) h k e = k e
 wait-wider n p q w v (Safe value) h k e = k e
 wait-wider n p q w v (Split at left right) h k e = k e
-wait-wider n p q w v (Apply txn commit) h k e = stops-wider (txn == n) w v k e
+wait-wider n p q w v (Apply txn commit without) h k e = stops-wider (txn == n) w v k e
 wait-wider n p q w v (Abort txn) h k e = stops-wider (txn == n) w v k e
-wait-wider n p q w v (Intent txn ops) h k e = go (txn == n) (p ops) refl e
+wait-wider n p q w v (Intent txn sub ops) h k e = go (txn == n) (p ops) refl e
   where
     go : (b a : Bool) → p ops ≡ a → (if b && a then true else w) ≡ true → (if b && q ops then true else v) ≡ true
     go true true f e = rw (h ops f) refl
@@ -108,7 +109,7 @@ find-key test (op ∷ ops) e = go (test op.key) refl (find-key test ops) e
 
 -- the key is one of an operation of the transaction
 abbrev IsOwn : Logs → ℕ → List ℕ → Type 0
-IsOwn logs n k = (q : List ℕ → Bool) → q k ≡ true → list_any (λ op. q op.key) (txn_ops logs n) ≡ true
+IsOwn logs n k = (q : List ℕ → Bool) → q k ≡ true → list_any (λ op. q op.key) (provisional_ops logs n) ≡ true
 
 -- an own key that the test passes, at which the transaction waits after the records of its line
 record WaitsAt (logs : Logs) (n : ℕ) (test : List ℕ → Bool) (line : List ℕ → List Record) : Type 0 where
@@ -119,7 +120,7 @@ record WaitsAt (logs : Logs) (n : ℕ) (test : List ℕ → Bool) (line : List �
 
 -- an intent of n whose operations pass p has one at an own key that the test passes
 record Intends (logs : Logs) (n : ℕ) (p : List Op → Bool) (test : List ℕ → Bool) (r : Record) : Type 0 where
-  found : (ops : List Op) → r.kind ≡ Intent n ops → p ops ≡ true → Found test ops × ((k : List ℕ) → at_key k ops ≡ true → IsOwn logs n k)
+  found : (sub : ℕ) (ops : List Op) → r.kind ≡ Intent n sub ops → p ops ≡ true → Found test ops × ((k : List ℕ) → at_key k ops ≡ true → IsOwn logs n k)
 
 keep-waiting : (logs : Logs) (n : ℕ) (test : List ℕ → Bool) (line : List ℕ → List Record) (r : Record) → ((k : List ℕ) → wait_kind n (at_key k) true r.kind ≡ true) → WaitsAt logs n test line → WaitsAt logs n test (λ k. line k ++ r ∷ [])
 keep-waiting logs n test line r keeps x = record {
@@ -139,9 +140,9 @@ wait-step : (logs : Logs) (n : ℕ) (p : List Op → Bool) (test : List ℕ → 
 wait-step logs n p test line r w (Write ops) is k h e = keep-waiting logs n test line r (λ q. rw is refl) (k e)
 wait-step logs n p test line r w (Safe value) is k h e = keep-waiting logs n test line r (λ q. rw is refl) (k e)
 wait-step logs n p test line r w (Split at left right) is k h e = keep-waiting logs n test line r (λ q. rw is refl) (k e)
-wait-step logs n p test line r w (Apply txn commit) is k h e = stop-waiting logs n test line r w (txn == n) (λ f q. rw (is, f) refl) k e
+wait-step logs n p test line r w (Apply txn commit without) is k h e = stop-waiting logs n test line r w (txn == n) (λ f q. rw (is, f) refl) k e
 wait-step logs n p test line r w (Abort txn) is k h e = stop-waiting logs n test line r w (txn == n) (λ f q. rw (is, f) refl) k e
-wait-step logs n p test line r w (Intent txn ops) is k h e = go (txn == n) (p ops) refl refl e
+wait-step logs n p test line r w (Intent txn sub ops) is k h e = go (txn == n) (p ops) refl refl e
   where
     begins : (q : List ℕ) (v : Bool) → txn == n ≡ true → at_key q ops ≡ true → wait_kind n (at_key q) v r.kind ≡ true
     begins q v f g = rw (is, f, g) refl
@@ -149,7 +150,7 @@ wait-step logs n p test line r w (Intent txn ops) is k h e = go (txn == n) (p op
     go : (b a : Bool) → txn == n ≡ b → p ops ≡ a → (if b && a then true else w) ≡ true → WaitsAt logs n test (λ k. line k ++ r ∷ [])
     go true true f g e =
         let same : txn ≡ n = eqb-true txn n f in
-        let found = h.found ops (is ∙ ap (λ m. Intent m ops) same) g in
+        let found = h.found sub ops (is ∙ ap (λ m. Intent m sub ops) same) g in
         record {
           key = found.0.key;
           passes = found.0.passes;
@@ -205,28 +206,20 @@ straggles-somewhere logs n c p test line before (r ∷ rs) w k h e =
 
 -- all operations of an intent are of the range, and there is one
 pub record OwnIn (header : Header) (r : Record) : Type 0 where
-  pub holds_one : (n : ℕ) (ops : List Op) → r.kind ≡ Intent n ops → list_any (λ op. holds header (hash_of op.key)) ops ≡ true
-  pub holds_all : (n : ℕ) (ops : List Op) → r.kind ≡ Intent n ops → list_all (λ op. holds header (hash_of op.key)) ops ≡ true
+  pub holds_one : (n sub : ℕ) (ops : List Op) → r.kind ≡ Intent n sub ops → list_any (λ op. holds header (hash_of op.key)) ops ≡ true
+  pub holds_all : (n sub : ℕ) (ops : List Op) → r.kind ≡ Intent n sub ops → list_all (λ op. holds header (hash_of op.key)) ops ≡ true
 
-key-passes : (k : List ℕ) (q : List ℕ → Bool) (ops : List Op) → at_key k ops ≡ true → q k ≡ true → list_any (λ op. q op.key) ops ≡ true
-key-passes k q [] e f = cc
-key-passes k q (op ∷ ops) e f = go (bytes_eq k op.key) refl (λ e. key-passes k q ops e f) e
-  where
-    go : (b : Bool) → bytes_eq k op.key ≡ b → (at_key k ops ≡ true → list_any (λ op. q op.key) ops ≡ true) → (b || at_key k ops) ≡ true → (q op.key || list_any (λ op. q op.key) ops) ≡ true
-    go true same ih e = rw (ap q (sym ((bytes_eq-Decides k op.key).0 same)) ∙ f) refl
-    go false same ih e = or_right (q op.key) _ (ih e)
-
-own-key : (logs : Logs) (n : ℕ) (r : Record) (ops : List Op) → OpsIn logs n r → r.kind ≡ Intent n ops → (k : List ℕ) → at_key k ops ≡ true → IsOwn logs n k
-own-key logs n r ops h is k at q e = h.all (λ op. q op.key) (rw is (rw (eq-eqb n n refl) (key-passes k q ops at e)))
+own-key : (logs : Logs) (n : ℕ) (r : Record) (sub : ℕ) (ops : List Op) → OpsIn logs n r → r.kind ≡ Intent n sub ops → (k : List ℕ) → at_key k ops ≡ true → IsOwn logs n k
+own-key logs n r sub ops h is k at q e = h.all (λ op. q op.key) (rw is (rw (eq-eqb n n refl) (key-passes k q ops at e)))
 
 intends-hash : (logs : Logs) (n h : ℕ) (rs : List Record) → Each (OpsIn logs n) rs → Each (Intends logs n (writes_at h) (λ k. hash_of k == h)) rs
 intends-hash logs n h [] e = tt
-intends-hash logs n h (r ∷ rs) e = (record { found = λ ops is f. (find-key (λ k. hash_of k == h) ops f, own-key logs n r ops e.0 is) }, intends-hash logs n h rs e.1)
+intends-hash logs n h (r ∷ rs) e = (record { found = λ sub ops is f. (find-key (λ k. hash_of k == h) ops f, own-key logs n r sub ops e.0 is) }, intends-hash logs n h rs e.1)
 
 intends-range : (logs : Logs) (n : ℕ) (header : Header) (rs : List Record) → Each (OpsIn logs n) rs → Each (OwnIn header) rs → Each (Intends logs n any_op (λ k. holds header (hash_of k))) rs
 intends-range logs n header [] e o = tt
 intends-range logs n header (r ∷ rs) e o =
-    (record { found = λ ops is f. (find-key (λ k. holds header (hash_of k)) ops (o.0.holds_one n ops is), own-key logs n r ops e.0 is) }, intends-range logs n header rs e.1 o.1)
+    (record { found = λ sub ops is f. (find-key (λ k. holds header (hash_of k)) ops (o.0.holds_one n sub ops is), own-key logs n r sub ops e.0 is) }, intends-range logs n header rs e.1 o.1)
 
 -- a hash of the range at which something is held
 record HeldAt (header : Header) (held : List Held) (n : ℕ) : Type 0 where
@@ -245,14 +238,6 @@ held-somewhere header (x ∷ held) n e = go (x.txn == n) (holds header x.hash) r
     go true true f g ih e = record { hash = x.hash; within = g; held_there = rw (f, eq-eqb x.hash x.hash refl) refl }
     go true false f g ih e = later (ih e)
     go false q f g ih e = later (ih e)
-
-any-elim : {X : Type 0} (f : X → Bool) (xs : List X) → list_any f xs ≡ true → (x : X) × (f x ≡ true)
-any-elim f [] e = cc
-any-elim f (x ∷ xs) e = go (f x) refl (any-elim f xs) e
-  where
-    go : (b : Bool) → f x ≡ b → (list_any f xs ≡ true → (x : _) × (f x ≡ true)) → (b || list_any f xs) ≡ true → (x : _) × (f x ≡ true)
-    go true g ih e = (x, g)
-    go false g ih e = ih e
 
 abbrev pub line_above : List AcceptedTablet → ℕ → List Record
 line_above before h = flat_map (λ b. b.records) (at_hash h before)
@@ -286,9 +271,9 @@ straggler-held logs before b rest all tree n c held start own = both _ _ forth b
         let there : is_held held n (hash_of k) ≡ true = start (hash_of k) s ∙ waits-wider n (at_key k) (writes_at (hash_of k)) false false (line_above before (hash_of k)) (key-hash (hash_of k) k refl) (λ e. e) w in
         held-waits n (hash_of k) b.header held (rw (there, s) refl)
 
-    forth : list_any (λ op. holds b.header (hash_of op.key) && straggles_at n c op.key (path_above (accepted_tablets logs) b op.key) b.records) (txn_ops logs n) ≡ true → straggles any_op n c (waits_from b.header held n) b.records ≡ true
+    forth : list_any (λ op. holds b.header (hash_of op.key) && straggles_at n c op.key (path_above (accepted_tablets logs) b op.key) b.records) (provisional_ops logs n) ≡ true → straggles any_op n c (waits_from b.header held n) b.records ≡ true
     forth e =
-        let x = any-elim (λ (op : Op). holds b.header (hash_of op.key) && straggles_at n c op.key (path_above (accepted_tablets logs) b op.key) b.records) (txn_ops logs n) e in
+        let x = any-elim (λ (op : Op). holds b.header (hash_of op.key) && straggles_at n c op.key (path_above (accepted_tablets logs) b op.key) b.records) (provisional_ops logs n) e in
         let parts : (holds b.header (hash_of x.0.key) ≡ true) × (straggles_at n c x.0.key (path_above (accepted_tablets logs) b x.0.key) b.records ≡ true) =
         and_parts (holds b.header (hash_of x.0.key)) (straggles_at n c x.0.key (path_above (accepted_tablets logs) b x.0.key) b.records) x.1 in
         straggles-wider n c (at_key x.0.key) any_op (waits_by n (at_key x.0.key) false (line_above before (hash_of x.0.key))) (waits_from b.header held n) b.records (key-any x.0.key) (held-at x.0.key parts.0)
@@ -311,7 +296,7 @@ straggler-held logs before b rest all tree n c held start own = both _ _ forth b
           waits = ap (waits_by n (at_key x.key) false) (append-nil (line_above before (hash_of x.key)) ∙ ap (line_above before) same) ∙ x.waits;
         }
 
-    back : straggles any_op n c (waits_from b.header held n) b.records ≡ true → list_any (λ op. holds b.header (hash_of op.key) && straggles_at n c op.key (path_above (accepted_tablets logs) b op.key) b.records) (txn_ops logs n) ≡ true
+    back : straggles any_op n c (waits_from b.header held n) b.records ≡ true → list_any (λ op. holds b.header (hash_of op.key) && straggles_at n c op.key (path_above (accepted_tablets logs) b op.key) b.records) (provisional_ops logs n) ≡ true
     back e =
         let x : StragglesAt logs n c (λ k. holds b.header (hash_of k)) (λ k. line_above before (hash_of k)) b.records =
         straggles-somewhere logs n c any_op (λ k. holds b.header (hash_of k)) (λ k. line_above before (hash_of k)) [] b.records (waits_from b.header held n) begins
@@ -332,9 +317,9 @@ nothing-kind : (n h : ℕ) (header : Header) (r : Record) (kind : Kind) → r.ki
 nothing-kind n h header r (Write ops) is e o = refl
 nothing-kind n h header r (Safe value) is e o = refl
 nothing-kind n h header r (Split at left right) is e o = refl
-nothing-kind n h header r (Apply txn commit) is e o = elim (txn == n) as (λ b. (if b then false else false) ≡ false) [ true ↦ refl | false ↦ refl ]
+nothing-kind n h header r (Apply txn commit without) is e o = elim (txn == n) as (λ b. (if b then false else false) ≡ false) [ true ↦ refl | false ↦ refl ]
 nothing-kind n h header r (Abort txn) is e o = elim (txn == n) as (λ b. (if b then false else false) ≡ false) [ true ↦ refl | false ↦ refl ]
-nothing-kind n h header r (Intent txn ops) is e o = rw (nothing-at header h ops e (o.holds_all txn ops is)) (elim (txn == n) as (λ b. (if b && false then true else false) ≡ false) [ true ↦ refl | false ↦ refl ])
+nothing-kind n h header r (Intent txn sub ops) is e o = rw (nothing-at header h ops e (o.holds_all txn sub ops is)) (elim (txn == n) as (λ b. (if b && false then true else false) ≡ false) [ true ↦ refl | false ↦ refl ])
 
 pub nothing-waits : (n h : ℕ) (header : Header) (rs : List Record) → holds header h ≡ false → Each (OwnIn header) rs → waits_by n (writes_at h) false rs ≡ false
 nothing-waits n h header [] e o = refl

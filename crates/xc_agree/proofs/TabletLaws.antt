@@ -17,24 +17,26 @@ use Rattle.xc_record.specs.declared.record.Logs.{Logs}
 use Rattle.xc_record.specs.Hash.{holds}
 use Rattle.xc_record.specs.Order.{Progress, accepted_from}
 use Rattle.xc_record.specs.Accepted.{AcceptedTablet, accepted_tablets, accepted_tablets_after, accepted_tablet_after}
+use Rattle.xc_record.specs.Commits.{undone}
 use Rattle.xc_record.specs.Agreement.{Disagreement, kind_at, straggler}
 use Rattle.xc_record.specs.Lists.{first_some, or_else}
 use Rattle.xc_record.proofs.AcceptedLaws.{Each, accepted_tablet_after-grown}
-use Rattle.xc_logs.proofs.ValidFacts.{IsWellFormed}
+use Rattle.xc_logs.proofs.ValidFacts.{IsWellFormed, headers_parts}
+use Rattle.xc_record.specs.Valid.{headers_of}
 use Rattle.xc_agree.specs.declared.run.Run.{Run}
 use Rattle.xc_agree.specs.declared.held.Held.{Held}
 use Rattle.xc_agree.specs.declared.cases.Case.{Case}
 use Rattle.xc_agree.specs.declared.look.Found.{Found}
 use Rattle.xc_agree.specs.declared.commits.Commit.{Commit}
 use Rattle.xc_agree.specs.Runs.{IsRun}
-use Rattle.xc_agree.specs.Slots.{time_of}
+use Rattle.xc_agree.specs.Slots.{time_of, undone_of}
 use Rattle.xc_agree.specs.Seen.{unseen, see, waits_from, is_in_slot, kind_at_end, IsLeast, IsEnd}
 use Rattle.xc_agree.specs.Held.{is_held, writes_at, waits_by, IsLeft, InSlots, seen_at_end}
 use Rattle.xc_agree.specs.Cases.{IsFirst, with_cases, case_of, held_from, left_of, items_of, line_through, AreLast, AreLeft, is_done, Drops, cases_of, of_tablets}
 use Rattle.xc_agree.proofs.RunLaws.{tablets-more, accepted-of}
 use Rattle.xc_agree.proofs.TallyLaws.{first-append}
 use Rattle.xc_agree.proofs.WaitLaws.{waits-append}
-use Rattle.xc_agree.proofs.EndLaws.{differs-all, late-all, aborted-all, straggles, any_op, stands, stands-all}
+use Rattle.xc_agree.proofs.EndLaws.{differs-all, undoes-all, late-all, aborted-all, straggles, any_op, stands, stands-all}
 use Rattle.xc_agree.proofs.TreeLaws.{IsTree, at_hash, EndsAt, Before, Within, above_root, above_child, valid-tree}
 use Rattle.xc_agree.proofs.StragglerLaws.{OwnIn, line_above, straggler-held, nothing-waits}
 use Rattle.xc_agree.proofs.SplitLaws.{around, count-after, get-middle, more, own-here}
@@ -43,18 +45,19 @@ use Rattle.std.proofs.Math.Bool.{and-false, and-true}
 
 -- ---- the kind at a tablet
 
-kind-seen : (n c : ℕ) (w : Bool) (start : Progress) (rs : List Record) → accepted_from start rs ≡ rs → stands c (fold (see n c) (unseen w) rs) ≡ straggles any_op n c w rs
-kind-seen n c true start rs e = stands-all n c (unseen true) start rs (record { below = refl; safe = omega arith; floor = omega arith }) e
-kind-seen n c false start rs e = stands-all n c (unseen false) start rs (record { below = refl; safe = omega arith; floor = omega arith }) e
+kind-seen : (n c : ℕ) (u : List ℕ) (w : Bool) (start : Progress) (rs : List Record) → accepted_from start rs ≡ rs → stands c (fold (see n c u) (unseen w) rs) ≡ straggles any_op n c w rs
+kind-seen n c u true start rs e = stands-all n c u (unseen true) start rs (record { below = refl; safe = omega arith; floor = omega arith }) e
+kind-seen n c u false start rs e = stands-all n c u (unseen false) start rs (record { below = refl; safe = omega arith; floor = omega arith }) e
 
-pub kind-here : (logs : Logs) (before : List AcceptedTablet) (b : AcceptedTablet) (rest : List AcceptedTablet) → accepted_tablets logs ≡ before ++ b ∷ rest → IsTree (before ++ b ∷ rest) → (n c : ℕ) (held : List Held)
+pub kind-here : (logs : Logs) (commits : List Commit) (before : List AcceptedTablet) (b : AcceptedTablet) (rest : List AcceptedTablet) → accepted_tablets logs ≡ before ++ b ∷ rest → IsTree (before ++ b ∷ rest) → (n c : ℕ) (held : List Held) → undone_of commits n ≡ undone logs n
     → ((h : ℕ) → holds b.header h ≡ true → is_held held n h ≡ waits_by n (writes_at h) false (line_above before h)) → Each (OwnIn b.header) b.records → accepted_from b.start b.records ≡ b.records
-    → kind_at_end c (seen_at_end b.header held b.records n c) ≡ kind_at logs n c b
+    → kind_at_end c (seen_at_end commits b.header held b.records n c) ≡ kind_at logs n c b
 unfolding kind_at
-kind-here logs before b rest all tree n c held start own order =
+kind-here logs commits before b rest all tree n c held undo start own order =
     let w : Bool = waits_from b.header held n in
-    let s : stands c (fold (see n c) (unseen w) b.records) ≡ straggler logs n c b = kind-seen n c w b.start b.records order ∙ sym (straggler-held logs before b rest all tree n c held start own) in
-    rw (differs-all n c (unseen w) b.records, late-all n c (unseen w) b.records, aborted-all n c (unseen w) b.records, s) refl
+    let u : List ℕ = undone_of commits n in
+    let s : stands c (fold (see n c (undone_of commits n)) (unseen w) b.records) ≡ straggler logs n c b = kind-seen n c u w b.start b.records order ∙ sym (straggler-held logs before b rest all tree n c held start own) in
+    rw (differs-all n c (undone_of commits n) (unseen w) b.records, undoes-all n c (undone_of commits n) (unseen w) b.records, late-all n c (undone_of commits n) (unseen w) b.records, aborted-all n c (undone_of commits n) (unseen w) b.records, s, undo) refl
 
 -- ---- what the parent held
 
@@ -149,49 +152,49 @@ lefts-more lefts after lasts left commits bs b a slots l drops = record {
     at_place i k x get last bound n h (High high) = absurd (none-some x (sym (slice_get_past (bs ++ b ∷ []) i (let k = length-append bs (b ∷ []) in omega arith)) ∙ get))
 
 -- the cases with those of the next tablet
-cases-next : (ts : List Tablet) (commits : List Commit) (bs : List AcceptedTablet) (b : AcceptedTablet) (rest : List AcceptedTablet) (lefts : List (Vec Held Global)) → accepted_tablets (of_tablets ts) ≡ bs ++ b ∷ rest → IsTree (bs ++ b ∷ rest)
+cases-next : (ts : List Tablet) (commits : List Commit) → ((n : ℕ) → undone_of commits n ≡ undone (of_tablets ts) n) → (bs : List AcceptedTablet) (b : AcceptedTablet) (rest : List AcceptedTablet) (lefts : List (Vec Held Global)) → accepted_tablets (of_tablets ts) ≡ bs ++ b ∷ rest → IsTree (bs ++ b ∷ rest)
     → (lasts : List ℕ) → AreLeft lefts lasts commits bs → Comes lasts bs b.header.parent → Each (OwnIn b.header) b.records → accepted_from b.start b.records ≡ b.records → (n : ℕ)
-    → cases_of (of_tablets ts) commits (bs ++ b ∷ []) n ≡ with_cases b.header.id (λ n. option_and_then (λ c. kind_at_end c (seen_at_end b.header (held_from lefts b.header.parent) b.records n c)) (time_of commits n)) (cases_of (of_tablets ts) commits bs) n
-cases-next ts commits bs b rest lefts all tree lasts a k own order n = go (time_of commits n) refl
+    → cases_of (of_tablets ts) commits (bs ++ b ∷ []) n ≡ with_cases b.header.id (λ n. option_and_then (λ c. kind_at_end c (seen_at_end commits b.header (held_from lefts b.header.parent) b.records n c)) (time_of commits n)) (cases_of (of_tablets ts) commits bs) n
+cases-next ts commits undo bs b rest lefts all tree lasts a k own order n = go (time_of commits n) refl
   where
     go : (o : Option ℕ) → time_of commits n ≡ o
         → option_and_then (λ c. first_some (λ b. option_map (case_of n b.header.id) (kind_at (of_tablets ts) n c b)) (bs ++ b ∷ [])) o
         ≡ or_else (option_and_then (λ c. first_some (λ b. option_map (case_of n b.header.id) (kind_at (of_tablets ts) n c b)) bs) o)
-        (option_map (case_of n b.header.id) (option_and_then (λ c. kind_at_end c (seen_at_end b.header (held_from lefts b.header.parent) b.records n c)) o))
+        (option_map (case_of n b.header.id) (option_and_then (λ c. kind_at_end c (seen_at_end commits b.header (held_from lefts b.header.parent) b.records n c)) o))
     go None e = refl
     go (Some c) e =
-        let same = kind-here (of_tablets ts) bs b rest all tree n c (held_from lefts b.header.parent) (λ h s. start-here lefts lasts commits bs b rest a tree n c h e s b.header.parent k refl) own order in
+        let same = kind-here (of_tablets ts) commits bs b rest all tree n c (held_from lefts b.header.parent) (undo n) (λ h s. start-here lefts lasts commits bs b rest a tree n c h e s b.header.parent k refl) own order in
         first-append (λ (b : AcceptedTablet). option_map (case_of n b.header.id) (kind_at (of_tablets ts) n c b)) bs (b ∷ [])
         ∙ ap (or_else (first_some (λ (b : AcceptedTablet). option_map (case_of n b.header.id) (kind_at (of_tablets ts) n c b)) bs)) (or-none (option_map (case_of n b.header.id) (kind_at (of_tablets ts) n c b)) ∙ ap (option_map (case_of n b.header.id)) (sym same))
 
 -- one tablet more
 pub tablet-more : (ts : List Tablet) (i : ℕ) (t : Tablet) (run : Run) (lasts : List ℕ) (commits : List Commit) (lefts after : List (Vec Held Global)) (left : Vec Held Global) (found : Option Found) (first next : Option Case)
-    → IsWellFormed (of_tablets ts) → i < length ts → t ≡ get_or ts i t → IsRun run (accepted_tablet_after (accepted_tablets_after [] (take i ts)) t) t → length lasts ≡ length ts → AreLast lasts ts → AreLeft lefts lasts commits (accepted_tablets_after [] (take i ts))
+    → IsWellFormed (of_tablets ts) → ((n : ℕ) → undone_of commits n ≡ undone (of_tablets ts) n) → i < length ts → t ≡ get_or ts i t → IsRun run (accepted_tablet_after (accepted_tablets_after [] (take i ts)) t) t → length lasts ≡ length ts → AreLast lasts ts → AreLeft lefts lasts commits (accepted_tablets_after [] (take i ts))
     → IsFirst first (cases_of (of_tablets ts) commits (accepted_tablets_after [] (take i ts)))
-    → IsEnd found commits (seen_at_end t.header (held_from lefts t.header.parent) (take run.walk.accepted t.records))
+    → IsEnd found commits (seen_at_end commits t.header (held_from lefts t.header.parent) (take run.walk.accepted t.records))
     → ((k : ℕ) → slice_get lasts i ≡ Some k → i < k → IsLeft left.items commits t.header (held_from lefts t.header.parent) (take run.walk.accepted t.records)) → InSlots commits left.items
     → ((cases : ℕ → Option Disagreement) (kinds : ℕ → Option AgreeKind) → IsFirst first cases → IsLeast found kinds → IsFirst next (with_cases t.header.id kinds cases)) → Drops (lefts ++ left ∷ []) after lasts t.header.parent i
     → AreLeft after lasts commits (accepted_tablets_after [] (take (i + 1) ts)) × IsFirst next (cases_of (of_tablets ts) commits (accepted_tablets_after [] (take (i + 1) ts)))
-tablet-more ts i t run lasts commits lefts after left found first next s below is r count last a f is_end is_left slots step drops =
+tablet-more ts i t run lasts commits lefts after left found first next s undo below is r count last a f is_end is_left slots step drops =
     let bs : List AcceptedTablet = accepted_tablets_after [] (take i ts) in
     let b : AcceptedTablet = accepted_tablet_after bs t in
     let rest : List AcceptedTablet = more (bs ++ b ∷ []) (drop (suc i) ts) in
     let split : accepted_tablets_after [] ts ≡ accepted_tablets_after [] (take i ts) ++ accepted_tablet_after (accepted_tablets_after [] (take i ts)) t ∷ more (bs ++ b ∷ []) (drop (suc i) ts) = around ts i t below is in
-    let tree : IsTree (bs ++ b ∷ rest) = subst IsTree split (valid-tree ts s.headers) in
+    let tree : IsTree (bs ++ b ∷ rest) = subst IsTree split (valid-tree ts (headers_parts (headers_of ts) s.headers).1) in
     let all : accepted_tablets (of_tablets ts) ≡ bs ++ b ∷ rest = accepted-of ts ∙ split in
     let own : Each (OwnIn b.header) b.records = own-here ts i run b t s below is r in
     let order : accepted_from b.start b.records ≡ b.records = (accepted_tablet_after-grown bs t).in_order in
     let place : length bs ≡ i = (let n = count-after [] (take i ts) in let m = length-take-le i ts (omega arith) in omega arith) in
     let comes : Comes lasts bs t.header.parent = record { room = omega (arith, count, place); last = λ q k p get. subst (λ m. m ≤ k) (sym place) (last i q k t (slice_get_read ts (length ts) i t refl below is) p get) } in
-    let ends : IsEnd found commits (seen_at_end b.header (held_from lefts b.header.parent) b.records) = subst (λ xs. IsEnd found commits (seen_at_end t.header (held_from lefts t.header.parent) xs)) (sym r.records) is_end in
+    let ends : IsEnd found commits (seen_at_end commits b.header (held_from lefts b.header.parent) b.records) = subst (λ xs. IsEnd found commits (seen_at_end commits t.header (held_from lefts t.header.parent) xs)) (sym r.records) is_end in
     let leaves : (k : ℕ) → slice_get lasts (length bs) ≡ Some k → length bs < k → IsLeft left.items commits b.header (held_from lefts b.header.parent) b.records =
     λ k get more. subst (λ xs. IsLeft left.items commits t.header (held_from lefts t.header.parent) xs) (sym r.records) (is_left k (ap (slice_get lasts) (sym place) ∙ get) (subst (λ m. m < k) place more)) in
     let one : accepted_tablets_after [] (take (i + 1) ts) ≡ accepted_tablets_after [] (take i ts) ++ accepted_tablet_after (accepted_tablets_after [] (take i ts)) t ∷ [] = tablets-more ts i t below is in
     let lefts_now : AreLeft after lasts commits (bs ++ b ∷ []) =
     lefts-more lefts after lasts left commits bs b a slots (λ k get more. left-next lefts lasts left commits bs b rest a comes tree own (leaves k get more)) (subst (Drops (lefts ++ left ∷ []) after lasts t.header.parent) (sym place) drops) in
     let first_now : IsFirst next (cases_of (of_tablets ts) commits (bs ++ b ∷ [])) =
-    first-same next _ (cases_of (of_tablets ts) commits (bs ++ b ∷ [])) (cases-next ts commits bs b rest lefts all tree lasts a comes own order)
-    (step (cases_of (of_tablets ts) commits bs) (λ n. option_and_then (λ c. kind_at_end c (seen_at_end b.header (held_from lefts b.header.parent) b.records n c)) (time_of commits n)) f ends) in
+    first-same next _ (cases_of (of_tablets ts) commits (bs ++ b ∷ [])) (cases-next ts commits undo bs b rest lefts all tree lasts a comes own order)
+    (step (cases_of (of_tablets ts) commits bs) (λ n. option_and_then (λ c. kind_at_end c (seen_at_end commits b.header (held_from lefts b.header.parent) b.records n c)) (time_of commits n)) f ends) in
     (subst (λ xs. AreLeft after lasts commits xs) (sym one) lefts_now, subst (λ xs. IsFirst next (cases_of (of_tablets ts) commits xs)) (sym one) first_now)
 
 -- before the first tablet
@@ -200,18 +203,18 @@ none-left lasts commits = record { count = refl; slots = λ i. refl; each = λ i
 
 -- the same, where what the tablets before left is seen as a slice
 pub tablet-next : (ts : List Tablet) (i : ℕ) (t : Tablet) (run : Run) (lasts : List ℕ) (commits : List Commit) (lefts now after : List (Vec Held Global)) (left : Vec Held Global) (found : Option Found) (first next : Option Case) (last : ℕ)
-    → now ≡ lefts → IsWellFormed (of_tablets ts) → i < length ts → t ≡ get_or ts i t → IsRun run (accepted_tablet_after (accepted_tablets_after [] (take i ts)) t) t → length lasts ≡ length ts → last ≡ get_or lasts i last → AreLast lasts ts
+    → now ≡ lefts → IsWellFormed (of_tablets ts) → ((n : ℕ) → undone_of commits n ≡ undone (of_tablets ts) n) → i < length ts → t ≡ get_or ts i t → IsRun run (accepted_tablet_after (accepted_tablets_after [] (take i ts)) t) t → length lasts ≡ length ts → last ≡ get_or lasts i last → AreLast lasts ts
     → AreLeft lefts lasts commits (accepted_tablets_after [] (take i ts)) → IsFirst first (cases_of (of_tablets ts) commits (accepted_tablets_after [] (take i ts)))
-    → (InSlots commits (held_from now t.header.parent) → IsEnd found commits (seen_at_end t.header (held_from now t.header.parent) (take run.walk.accepted t.records)))
+    → (InSlots commits (held_from now t.header.parent) → IsEnd found commits (seen_at_end commits t.header (held_from now t.header.parent) (take run.walk.accepted t.records)))
     → (InSlots commits (held_from now t.header.parent) → nat_lt i last ≡ true → IsLeft left.items commits t.header (held_from now t.header.parent) (take run.walk.accepted t.records))
     → (InSlots commits (held_from now t.header.parent) → InSlots commits left.items)
     → ((cases : ℕ → Option Disagreement) (kinds : ℕ → Option AgreeKind) → IsFirst first cases → IsLeast found kinds → IsFirst next (with_cases t.header.id kinds cases)) → Drops (lefts ++ left ∷ []) after lasts t.header.parent i
     → AreLeft after lasts commits (accepted_tablets_after [] (take (i + 1) ts)) × IsFirst next (cases_of (of_tablets ts) commits (accepted_tablets_after [] (take (i + 1) ts)))
-tablet-next ts i t run lasts commits lefts now after left found first next last same s below is r count at all a f is_end is_left slots step drops =
+tablet-next ts i t run lasts commits lefts now after left found first next last same s undo below is r count at all a f is_end is_left slots step drops =
     let k : InSlots commits (held_from now t.header.parent) = subst (λ xs. InSlots commits (held_from xs t.header.parent)) (sym same) (held-slots lefts lasts commits (accepted_tablets_after [] (take i ts)) t.header.parent a) in
     let get : slice_get lasts i ≡ Some last = slice_get_read lasts (length ts) i last (sym count) below at in
-    tablet-more ts i t run lasts commits lefts after left found first next s below is r count all a f
-    (subst (λ xs. IsEnd found commits (seen_at_end t.header (held_from xs t.header.parent) (take run.walk.accepted t.records))) same (is_end k))
+    tablet-more ts i t run lasts commits lefts after left found first next s undo below is r count all a f
+    (subst (λ xs. IsEnd found commits (seen_at_end commits t.header (held_from xs t.header.parent) (take run.walk.accepted t.records))) same (is_end k))
     (λ m e more. subst (λ xs. IsLeft left.items commits t.header (held_from xs t.header.parent) (take run.walk.accepted t.records)) same (is_left k (lt_true i last (subst (λ x. i < x) (same_Some _ _ (sym e ∙ get)) more))))
     (slots k) step drops
   where

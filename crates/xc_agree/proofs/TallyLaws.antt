@@ -8,12 +8,11 @@ use Rattle.std.specs.List.{filter_map, cons_option}
 use Rattle.xc_record.specs.declared.record.Kind.{Kind}
 use Rattle.xc_record.specs.declared.record.Kind.TheVariants.{Write, Intent, Apply, Abort, Safe, Split}
 use Rattle.xc_record.specs.declared.record.Record.{Record}
-use Rattle.xc_record.specs.Commits.{applies, applied_txn, insert_number, distinct, write_ops}
-use Rattle.xc_record.specs.Lists.{first_some, or_else}
-use Rattle.xc_record.proofs.NumberLaws.{has}
+use Rattle.xc_record.specs.Commits.{applies, rolls_back, applied_txn, write_ops}
+use Rattle.xc_record.specs.Lists.{first_some, or_else, has, insert_number, distinct}
 use Rattle.xc_agree.specs.declared.commits.Commit.{Commit}
-use Rattle.xc_agree.specs.Slots.{time_of}
-use Rattle.xc_agree.specs.Tally.{first_commit, commit_by, applies_in, writes, applied_in}
+use Rattle.xc_agree.specs.Slots.{time_of, without_of}
+use Rattle.xc_agree.specs.Tally.{first_commit, first_without, commit_by, applies_in, writes, applied_in}
 
 insert-longer : (n : ℕ) (ms : List ℕ) → length (insert_number n ms) ≤ length ms + 1
 insert-longer n [] = omega arith
@@ -28,9 +27,9 @@ first-append f [] ys = refl
 first-append f (x ∷ xs) ys = grind (arith, first-append f xs ys)
 
 applies-txn : (n : ℕ) (kind : Kind) (ms : List ℕ) → has n (cons_option (applied_txn kind) ms) ≡ (is_some (applies n kind) || has n ms)
-applies-txn n (Apply txn commit) ms = grind (arith, nat_tests)
+applies-txn n (Apply txn commit without) ms = grind (arith, nat_tests)
 applies-txn n (Write ops) ms = refl
-applies-txn n (Intent txn ops) ms = refl
+applies-txn n (Intent txn sub ops) ms = refl
 applies-txn n (Abort txn) ms = refl
 applies-txn n (Safe value) ms = refl
 applies-txn n (Split at left right) ms = refl
@@ -49,8 +48,8 @@ has-applied n (r ∷ rs) = applies-txn n r.kind (applied_in rs) ∙ ap (λ b. is
 -- each record writes or applies or neither
 kind-within : (kind : Kind) → length (cons_option (write_ops kind) []) + length (cons_option (commit_by kind) []) ≤ 1
 kind-within (Write ops) = omega arith
-kind-within (Intent txn ops) = omega arith
-kind-within (Apply txn commit) = omega arith
+kind-within (Intent txn sub ops) = omega arith
+kind-within (Apply txn commit without) = omega arith
 kind-within (Abort txn) = omega arith
 kind-within (Safe value) = omega arith
 kind-within (Split at left right) = omega arith
@@ -64,8 +63,8 @@ applies-append rs ss = filter_map-append (λ (r : Record). commit_by r.kind) rs 
 -- a transaction's first apply among the applies is its first record that applies it
 time-by : (kind : Kind) (n : ℕ) (cs : List Commit) → time_of (cons_option (commit_by kind) cs) n ≡ or_else (applies n kind) (time_of cs n)
 time-by (Write ops) n cs = refl
-time-by (Intent txn ops) n cs = refl
-time-by (Apply txn commit) n cs = refl
+time-by (Intent txn sub ops) n cs = refl
+time-by (Apply txn commit without) n cs = refl
 time-by (Abort txn) n cs = refl
 time-by (Safe value) n cs = refl
 time-by (Split at left right) n cs = refl
@@ -74,10 +73,22 @@ pub time-applies : (rs : List Record) (n : ℕ) → time_of (applies_in rs) n �
 time-applies [] n = refl
 time-applies (r ∷ rs) n = time-by r.kind n (applies_in rs) ∙ ap (or_else (applies n r.kind)) (time-applies rs n)
 
+without-by : (kind : Kind) (n : ℕ) (cs : List Commit) → without_of (cons_option (commit_by kind) cs) n ≡ or_else (rolls_back n kind) (without_of cs n)
+without-by (Write ops) n cs = refl
+without-by (Intent txn sub ops) n cs = refl
+without-by (Apply txn commit without) n cs = refl
+without-by (Abort txn) n cs = refl
+without-by (Safe value) n cs = refl
+without-by (Split at left right) n cs = refl
+
+pub without-applies : (rs : List Record) (n : ℕ) → without_of (applies_in rs) n ≡ first_without n rs
+without-applies [] n = refl
+without-applies (r ∷ rs) n = without-by r.kind n (applies_in rs) ∙ ap (or_else (rolls_back n r.kind)) (without-applies rs n)
+
 txns-by : (kind : Kind) (cs : List Commit) → map (λ c. c.txn) (cons_option (commit_by kind) cs) ≡ cons_option (applied_txn kind) (map (λ c. c.txn) cs)
 txns-by (Write ops) cs = refl
-txns-by (Intent txn ops) cs = refl
-txns-by (Apply txn commit) cs = refl
+txns-by (Intent txn sub ops) cs = refl
+txns-by (Apply txn commit without) cs = refl
 txns-by (Abort txn) cs = refl
 txns-by (Safe value) cs = refl
 txns-by (Split at left right) cs = refl

@@ -1,5 +1,5 @@
 -- Laws of the accepted tablets' headers: what stands above a tablet on the path of a hash ends with its parent.
-use Rattle.std.proofs.Common.{◌≡◌, ℕ, suc, ◌+◌, ◌≤◌, Bool, true, false, cond, List, [], ◌∷◌, ◌++◌, length, take, map, refl, ap, sym, ◌∙◌, subst, arith, append_assoc}
+use Rattle.std.proofs.Common.{◌≡◌, ℕ, suc, ◌+◌, ◌≤◌, Bool, true, false, cond, List, [], ◌∷◌, ◌++◌, length, take, map, refl, ap, sym, ◌∙◌, subst, arith}
 use Rattle.std.proofs.lemmas.Bool.Decides.{nat_tests}
 use Rattle.std.proofs.lemmas.List.{append-nil, map-append}
 use Rattle.std.proofs.lemmas.Option.{same_Some}
@@ -10,7 +10,8 @@ use Rattle.xc_record.specs.declared.record.Tablet.{Tablet}
 use Rattle.xc_record.specs.Hash.{holds}
 use Rattle.xc_record.specs.Headers.{headers_fit}
 use Rattle.xc_record.specs.Valid.{headers_of}
-use Rattle.xc_record.specs.Accepted.{AcceptedTablet, accepted_tablets_after, accepted_tablet_after}
+use Rattle.xc_record.specs.Accepted.{AcceptedTablet, accepted_tablets_after}
+use Rattle.xc_record.proofs.AcceptedLaws.{headers-after}
 use Rattle.xc_record.proofs.HeaderLaws.{Line, line_end, Numbered, headers_fit-all}
 
 abbrev pub at_hash : ℕ → List AcceptedTablet → List AcceptedTablet
@@ -23,11 +24,6 @@ headers bs = map (λ b. b.header) bs
 pub record IsTree (bs : List AcceptedTablet) : Type 0 where
   pub numbered : Numbered 0 (headers bs)
   pub lines : (h : ℕ) → Line None (headers (at_hash h bs))
-
-headers-after : (before : List AcceptedTablet) (ts : List Tablet) → headers (accepted_tablets_after before ts) ≡ headers before ++ headers_of ts
-headers-after before [] = sym (append-nil (headers before))
-headers-after before (t ∷ ts) =
-    headers-after (before ++ accepted_tablet_after before t ∷ []) ts ∙ ap (λ hs. hs ++ headers_of ts) (map-append (λ (b : AcceptedTablet). b.header) before (accepted_tablet_after before t ∷ [])) ∙ append_assoc (headers before) (t.header ∷ []) (headers_of ts)
 
 headers-at_hash : (h : ℕ) (bs : List AcceptedTablet) → headers (at_hash h bs) ≡ filter (λ x. holds x h) (headers bs)
 headers-at_hash h [] = refl

@@ -3,7 +3,7 @@ use Rattle.std.proofs.Common.{◌≡◌, ℕ, ◌+◌, ◌-◌, Bool, true, fals
 use Rattle.std.proofs.lemmas.Bool.Decides.{nat_tests}
 use Rattle.std.proofs.lemmas.Bool.{eqb-true, false≢true}
 use Rattle.std.proofs.lemmas.List.{append-nil, drop_all}
-use Rattle.std.specs.Prelude.{Option, Some, None, ◌&&◌, ◌==◌, nat_le, if◌then◌else◌, fold, is_some, option_and_then, not}
+use Rattle.std.specs.Prelude.{Option, Some, None, ◌&&◌, ◌==◌, nat_le, if◌then◌else◌, fold, is_some, option_and_then}
 use Rattle.std.specs.Option.{option_map_or}
 use Rattle.std.proofs.Math.Bool.{and_assoc}
 use Rattle.xc_record.specs.declared.record.Kind.{Kind}
@@ -16,8 +16,8 @@ use Rattle.xc_record.specs.Lists.{or_else}
 use Rattle.xc_agree.specs.declared.held.Held.{Held}
 use Rattle.xc_agree.specs.declared.look.Look.{Look}
 use Rattle.xc_agree.specs.declared.commits.Commit.{Commit}
-use Rattle.xc_agree.specs.Slots.{time_of}
-use Rattle.xc_agree.specs.Seen.{Seen, see, see_kind, settles, passes, unseen, waits_from, since_in, IsLook}
+use Rattle.xc_agree.specs.Slots.{time_of, undone_of}
+use Rattle.xc_agree.specs.Seen.{Seen, see, see_kind, settles, settles_as, passes, unseen, waits_from, since_in, IsLook}
 use Rattle.xc_agree.specs.Held.{is_held, writes_at, intends, intends_since, is_start, wait_kind, waits_by, IsLeft, seen_at_end}
 use Rattle.xc_agree.proofs.HeldLaws.{since-snoc}
 
@@ -40,14 +40,14 @@ still-begin n h false false k = record { place = refl; below = refl; waits = ref
 empty-since : (n h : ℕ) (done : List Record) → intends_since n h (Some (length done + 1)) done ≡ false
 empty-since n h done = ap (intends n h) (drop_all (length done + 1 - 1) done (omega arith))
 
-step-waits : (n c h : ℕ) (held : Bool) (s : Seen) (done : List Record) (r : Record) (time : ℕ) (kind : Kind) → r.kind ≡ kind → Still n h held s done
-    → wait_kind n (writes_at h) (waits_by n (writes_at h) held done) kind ≡ ((held && is_start (see_kind n c s time kind).since) || intends_since n h (see_kind n c s time kind).since (done ++ r ∷ []))
-step-waits n c h held s done r time (Write ops) e k = grind (arith, k.waits, since-snoc n h s.since done r)
-step-waits n c h held s done r time (Safe value) e k = grind (arith, k.waits, since-snoc n h s.since done r)
-step-waits n c h held s done r time (Split at left right) e k = grind (arith, k.waits, since-snoc n h s.since done r)
-step-waits n c h held s done r time (Apply txn commit) e k = grind (arith, k.waits, since-snoc n h s.since done r)
-step-waits n c h held s done r time (Abort txn) e k = grind (arith, k.waits, since-snoc n h s.since done r)
-step-waits n c h held s done r time (Intent txn ops) e k = go (txn == n) refl s.since refl
+step-waits : (n c : ℕ) (u : List ℕ) (h : ℕ) (held : Bool) (s : Seen) (done : List Record) (r : Record) (time : ℕ) (kind : Kind) → r.kind ≡ kind → Still n h held s done
+    → wait_kind n (writes_at h) (waits_by n (writes_at h) held done) kind ≡ ((held && is_start (see_kind n c u s time kind).since) || intends_since n h (see_kind n c u s time kind).since (done ++ r ∷ []))
+step-waits n c u h held s done r time (Write ops) e k = grind (arith, k.waits, since-snoc n h s.since done r)
+step-waits n c u h held s done r time (Safe value) e k = grind (arith, k.waits, since-snoc n h s.since done r)
+step-waits n c u h held s done r time (Split at left right) e k = grind (arith, k.waits, since-snoc n h s.since done r)
+step-waits n c u h held s done r time (Apply txn commit without) e k = grind (arith, k.waits, since-snoc n h s.since done r)
+step-waits n c u h held s done r time (Abort txn) e k = grind (arith, k.waits, since-snoc n h s.since done r)
+step-waits n c u h held s done r time (Intent txn sub ops) e k = go (txn == n) refl s.since refl
   where
     go : (b : Bool) → txn == n ≡ b → (o : Option ℕ) → s.since ≡ o
         → (if b && writes_at h ops then true else waits_by n (writes_at h) held done)
@@ -68,40 +68,40 @@ below-or : (k : ℕ) (o : Option ℕ) → Below k o → Below (k + 1) (or_else o
 below-or k None h = grind (arith, nat_tests)
 below-or k (Some x) h = grind (arith, nat_tests)
 
-pub below-see : (n c : ℕ) (s : Seen) (time : ℕ) (kind : Kind) → Below s.place s.since → Below (see_kind n c s time kind).place (see_kind n c s time kind).since
-below-see n c s time (Write ops) h = below-later s.place s.since h
-below-see n c s time (Safe value) h = below-later s.place s.since h
-below-see n c s time (Split at left right) h = below-later s.place s.since h
-below-see n c s time (Apply txn commit) h =
-    elim (txn == n) as (λ b. Below (if b then record (settles c s) { differs = s.differs || not (commit == c) } else passes s).place (if b then record (settles c s) { differs = s.differs || not (commit == c) } else passes s).since)
+pub below-see : (n c : ℕ) (u : List ℕ) (s : Seen) (time : ℕ) (kind : Kind) → Below s.place s.since → Below (see_kind n c u s time kind).place (see_kind n c u s time kind).since
+below-see n c u s time (Write ops) h = below-later s.place s.since h
+below-see n c u s time (Safe value) h = below-later s.place s.since h
+below-see n c u s time (Split at left right) h = below-later s.place s.since h
+below-see n c u s time (Apply txn commit without) h =
+    elim (txn == n) as (λ b. Below (if b then settles_as c u s commit without else passes s).place (if b then settles_as c u s commit without else passes s).since)
     [ true ↦ refl | false ↦ below-later s.place s.since h ]
-below-see n c s time (Abort txn) h =
+below-see n c u s time (Abort txn) h =
     elim (txn == n) as (λ b. Below (if b then record (settles c s) { aborted = true } else passes s).place (if b then record (settles c s) { aborted = true } else passes s).since)
     [ true ↦ refl | false ↦ below-later s.place s.since h ]
-below-see n c s time (Intent txn ops) h =
+below-see n c u s time (Intent txn sub ops) h =
     elim (txn == n) as (λ b. Below (if b then record s { place = s.place + 1; since = or_else s.since (Some (s.place + 1)); late = s.late || nat_le c time } else passes s).place
     (if b then record s { place = s.place + 1; since = or_else s.since (Some (s.place + 1)); late = s.late || nat_le c time } else passes s).since)
     [ true ↦ below-or s.place s.since h | false ↦ below-later s.place s.since h ]
 
-pub place-see : (n c : ℕ) (s : Seen) (time : ℕ) (kind : Kind) → (see_kind n c s time kind).place ≡ s.place + 1
-place-see n c s time (Write ops) = refl
-place-see n c s time (Safe value) = refl
-place-see n c s time (Split at left right) = refl
-place-see n c s time (Apply txn commit) = elim (txn == n) as (λ b. (if b then record (settles c s) { differs = s.differs || not (commit == c) } else passes s).place ≡ s.place + 1) [ true ↦ refl | false ↦ refl ]
-place-see n c s time (Abort txn) = elim (txn == n) as (λ b. (if b then record (settles c s) { aborted = true } else passes s).place ≡ s.place + 1) [ true ↦ refl | false ↦ refl ]
-place-see n c s time (Intent txn ops) =
+pub place-see : (n c : ℕ) (u : List ℕ) (s : Seen) (time : ℕ) (kind : Kind) → (see_kind n c u s time kind).place ≡ s.place + 1
+place-see n c u s time (Write ops) = refl
+place-see n c u s time (Safe value) = refl
+place-see n c u s time (Split at left right) = refl
+place-see n c u s time (Apply txn commit without) = elim (txn == n) as (λ b. (if b then settles_as c u s commit without else passes s).place ≡ s.place + 1) [ true ↦ refl | false ↦ refl ]
+place-see n c u s time (Abort txn) = elim (txn == n) as (λ b. (if b then record (settles c s) { aborted = true } else passes s).place ≡ s.place + 1) [ true ↦ refl | false ↦ refl ]
+place-see n c u s time (Intent txn sub ops) =
     elim (txn == n) as (λ b. (if b then record s { place = s.place + 1; since = or_else s.since (Some (s.place + 1)); late = s.late || nat_le c time } else passes s).place ≡ s.place + 1) [ true ↦ refl | false ↦ refl ]
 
-still-step : (n c h : ℕ) (held : Bool) (s : Seen) (done : List Record) (r : Record) → Still n h held s done → Still n h held (see n c s r) (done ++ r ∷ [])
-still-step n c h held s done r k = record {
-  place = place-see n c s r.time r.kind ∙ ap (λ x. x + 1) k.place ∙ sym (length-append done (r ∷ []));
-  below = below-see n c s r.time r.kind k.below;
-  waits = waits-append n (writes_at h) held done (r ∷ []) ∙ step-waits n c h held s done r r.time r.kind refl k;
+still-step : (n c : ℕ) (u : List ℕ) (h : ℕ) (held : Bool) (s : Seen) (done : List Record) (r : Record) → Still n h held s done → Still n h held (see n c u s r) (done ++ r ∷ [])
+still-step n c u h held s done r k = record {
+  place = place-see n c u s r.time r.kind ∙ ap (λ x. x + 1) k.place ∙ sym (length-append done (r ∷ []));
+  below = below-see n c u s r.time r.kind k.below;
+  waits = waits-append n (writes_at h) held done (r ∷ []) ∙ step-waits n c u h held s done r r.time r.kind refl k;
 }
 
-still-all : (n c h : ℕ) (held : Bool) (s : Seen) (done rs : List Record) → Still n h held s done → Still n h held (fold (see n c) s rs) (done ++ rs)
-still-all n c h held s done [] k = rw append-nil k
-still-all n c h held s done (r ∷ rs) k = subst (λ xs. Still n h held (fold (see n c) (see n c s r) rs) xs) (append_assoc done (r ∷ []) rs) (still-all n c h held (see n c s r) (done ++ r ∷ []) rs (still-step n c h held s done r k))
+still-all : (n c : ℕ) (u : List ℕ) (h : ℕ) (held : Bool) (s : Seen) (done rs : List Record) → Still n h held s done → Still n h held (fold (see n c u) s rs) (done ++ rs)
+still-all n c u h held s done [] k = rw append-nil k
+still-all n c u h held s done (r ∷ rs) k = subst (λ xs. Still n h held (fold (see n c u) (see n c u s r) rs) xs) (append_assoc done (r ∷ []) rs) (still-all n c u h held (see n c u s r) (done ++ r ∷ []) rs (still-step n c u h held s done r k))
 
 -- what is held waits
 pub held-waits : (n h : ℕ) (header : Header) (held : List Held) → (is_held held n h && holds header h) ≡ true → waits_from header held n ≡ true
@@ -114,7 +114,7 @@ held-waits n h header (x ∷ held) e = go (held-waits n h header held) (x.txn ==
     go ih false q f e = ih e
 
 -- what a tablet holds at its end
-pub left-at-end : (look : Look) (commits : List Commit) (header : Header) (held left : List Held) (rs : List Record) → IsLook look commits (seen_at_end header held rs)
+pub left-at-end : (look : Look) (commits : List Commit) (header : Header) (held left : List Held) (rs : List Record) → IsLook look commits (seen_at_end commits header held rs)
     → ((n h : ℕ) → is_held left n h ≡ ((is_held held n h && (holds header h && is_start (since_in commits look n))) || intends_since n h (since_in commits look n) rs)) → IsLeft left commits header held rs
 left-at-end look commits header held left rs k is n h = is n h ∙ go (time_of commits n) refl
   where
@@ -124,10 +124,10 @@ left-at-end look commits header held left rs k is n h = is n h ∙ go (time_of c
     go : (o : Option ℕ) → time_of commits n ≡ o → ((is_held held n h && (holds header h && is_start (since_in commits look n))) || intends_since n h (since_in commits look n) rs)
         ≡ (is_some o && waits_by n (writes_at h) (is_held held n h && holds header h) rs)
     go None e =
-        let since : since_in commits look n ≡ None = k.since n ∙ ap (option_and_then (λ c. (seen_at_end header held rs n c).since)) e in
+        let since : since_in commits look n ≡ None = k.since n ∙ ap (option_and_then (λ c. (seen_at_end commits header held rs n c).since)) e in
         rw since (and-false (is_held held n h) (holds header h))
     go (Some c) e =
-        let since : since_in commits look n ≡ (seen_at_end header held rs n c).since = k.since n ∙ ap (option_and_then (λ c. (seen_at_end header held rs n c).since)) e in
-        let still : Still n h (is_held held n h && holds header h) (seen_at_end header held rs n c) rs =
-        still-all n c h (is_held held n h && holds header h) (unseen (waits_from header held n)) [] rs (still-begin n h (is_held held n h && holds header h) (waits_from header held n) (held-waits n h header held)) in
-        rw since (ap (λ b. b || intends_since n h (seen_at_end header held rs n c).since rs) (sym (and_assoc (is_held held n h) (holds header h) (is_start (seen_at_end header held rs n c).since))) ∙ sym still.waits)
+        let since : since_in commits look n ≡ (seen_at_end commits header held rs n c).since = k.since n ∙ ap (option_and_then (λ c. (seen_at_end commits header held rs n c).since)) e in
+        let still : Still n h (is_held held n h && holds header h) (seen_at_end commits header held rs n c) rs =
+        still-all n c (undone_of commits n) h (is_held held n h && holds header h) (unseen (waits_from header held n)) [] rs (still-begin n h (is_held held n h && holds header h) (waits_from header held n) (held-waits n h header held)) in
+        rw since (ap (λ b. b || intends_since n h (seen_at_end commits header held rs n c).since rs) (sym (and_assoc (is_held held n h) (holds header h) (is_start (seen_at_end commits header held rs n c).since))) ∙ sym still.waits)

@@ -17,7 +17,7 @@ use Rattle.xc_record.specs.declared.record.Record.{Record}
 use Rattle.xc_record.specs.declared.record.Header.{Header}
 use Rattle.xc_record.specs.Hash.{hash_of, holds}
 use Rattle.xc_agree.specs.declared.commits.Commit.{Commit}
-use Rattle.xc_agree.specs.Slots.{time_of}
+use Rattle.xc_agree.specs.Slots.{time_of, undone_of}
 use Rattle.xc_agree.specs.Seen.{Seen, see, unseen, waits_from, is_in_slot, since_in}
 use Rattle.xc_agree.specs.declared.held.Held.{Held}
 use Rattle.xc_agree.specs.declared.look.Look.{Look}
@@ -29,7 +29,7 @@ abbrev pub writes_at : ℕ → List Op → Bool
 writes_at h ops = list_any (λ op. hash_of op.key == h) ops
 
 abbrev pub intends_kind : ℕ → ℕ → Kind → Bool
-intends_kind n h (Intent txn ops) = txn == n && writes_at h ops
+intends_kind n h (Intent txn sub ops) = txn == n && writes_at h ops
 intends_kind n h _ = false
 
 abbrev pub intends : ℕ → ℕ → List Record → Bool
@@ -48,8 +48,8 @@ is_since place since = option_map_or (λ first. nat_le first place) since false
 -- whether the transaction waits after a record of this kind, by an operation among those that the test passes
 abbrev pub wait_kind : ℕ → (List Op → Bool) → Bool → Kind → Bool
 wait_kind n p w (Write ops) = w
-wait_kind n p w (Intent txn ops) = if txn == n && p ops then true else w
-wait_kind n p w (Apply txn commit) = if txn == n then false else w
+wait_kind n p w (Intent txn sub ops) = if txn == n && p ops then true else w
+wait_kind n p w (Apply txn commit without) = if txn == n then false else w
 wait_kind n p w (Abort txn) = if txn == n then false else w
 wait_kind n p w (Safe value) = w
 wait_kind n p w (Split at left right) = w
@@ -67,8 +67,8 @@ abbrev pub InSlots : List Commit → List Held → Type 0
 InSlots commits held = list_all (λ x. is_in_slot commits x.txn x.slot) held ≡ true
 
 -- what is seen of the transaction at a tablet's end
-abbrev pub seen_at_end : Header → List Held → List Record → ℕ → ℕ → Seen
-seen_at_end header held rs n c = fold (see n c) (unseen (waits_from header held n)) rs
+abbrev pub seen_at_end : List Commit → Header → List Held → List Record → ℕ → ℕ → Seen
+seen_at_end commits header held rs n c = fold (see n c (undone_of commits n)) (unseen (waits_from header held n)) rs
 
 -- the held that are in the header's range and wait from before the first record, in their slots
 pub record StaysHeld (still : List Held) (commits : List Commit) (look : Look) (header : Header) (held : List Held) : Type 0 where

@@ -1,24 +1,20 @@
 -- Words on how far the records of the tablets are accepted.
---     halt_at h      the number of the record and its break
 --     start_from runs parent      where a tablet of this parent begins, after the runs of the tablets before it
 --     IsRun run b t      the run says what the accepted tablet b of the tablet t says
 --     IsRuns runs bs ts      the same, one for each tablet
 --     end_from run      the end that the run says
 use Rattle.std.specs.Prelude.{◌≡◌, ℕ, true, false, List, [], ◌∷◌, Option, Some, None, ◌&&◌, if◌then◌else◌, slice_get, length, take, option_map}
 use Rattle.std.specs.Option.{option_map_or}
-use Rattle.xc_record.specs.declared.record.Break.{Break}
 use Rattle.xc_record.specs.declared.record.Tablet.{Tablet}
 use Rattle.xc_record.specs.Order.{Progress}
 use Rattle.xc_record.specs.Accepted.{AcceptedTablet, root_start, halt_from}
 use Rattle.xc_agree.specs.declared.audit.End.{End}
 use Rattle.xc_agree.specs.declared.audit.EndState.{EndState}
 use Rattle.xc_agree.specs.declared.audit.EndState.TheVariants.{Open, Split, Halt as Halted, Unreached}
-use Rattle.xc_agree.specs.declared.run.Halt.{Halt}
+use Rattle.xc_order.specs.declared.walk.Halt.{Halt}
+use Rattle.xc_order.specs.Walks.{halt_at}
 use Rattle.xc_agree.specs.declared.run.Start.{Start}
 use Rattle.xc_agree.specs.declared.run.Run.{Run}
-
-abbrev pub halt_at : Halt → ℕ × Break
-halt_at h = (h.number, h.kind)
 
 abbrev pub child_from : Run → Start
 child_from run = record {

@@ -1,31 +1,31 @@
 -- What one transaction does on one tablet, record by record.
 --     Seen      what was seen so far: how many records, the place and the value of the last safe record, the place at which the
 --               transaction began to wait, and which cases of disagreement stand
---     see n commit s r      the same after the record r, for the transaction n, which commits at `commit`
+--     see n commit undone s r      the same after the record r, for the transaction n, which commits at `commit` without the subtransactions `undone`
 --     kind_seen s      the first kind of the cases that stand
 --     IsLeast found kinds      found has the least transaction with a kind, and that kind
 --     since_at look slot, since_in commits look n      the place since which the slot, or the transaction, waits by the look
 --     is_in_slot commits txn slot      the transaction commits, and is in the slot
 --     IsIdle look commits      nothing waits by the look, which has a slot for each commit
 --     IsLook look commits seen      the look has of each transaction what is seen of it
-use Rattle.std.specs.Prelude.{◌≡◌, ℕ, ◌+◌, ◌<◌, Bool, true, false, List, [], ◌∷◌, Option, Some, None, ◌&&◌, ◌||◌, ◌==◌, not, nat_le, nat_lt, if◌then◌else◌, MatchOption, option_and_then, is_some, slice_get, length}
+use Rattle.std.specs.Prelude.{◌≡◌, ℕ, ◌+◌, ◌<◌, Bool, true, false, List, [], ◌∷◌, Option, Some, None, ◌&&◌, ◌||◌, ◌==◌, not, nat_le, nat_lt, bytes_eq, if◌then◌else◌, MatchOption, option_and_then, is_some, slice_get, length}
 use Rattle.std.specs.List.{list_any, list_all}
 use Rattle.std.specs.Option.{option_map_or}
 use Rattle.xc_record.specs.declared.record.AgreeKind.{AgreeKind}
-use Rattle.xc_record.specs.declared.record.AgreeKind.TheVariants.{CommitDiffers, LateIntent, Aborted, Straggler}
+use Rattle.xc_record.specs.declared.record.AgreeKind.TheVariants.{CommitDiffers, RollbackDiffers, LateIntent, Aborted, Straggler}
 use Rattle.xc_record.specs.declared.record.Kind.{Kind}
 use Rattle.xc_record.specs.declared.record.Kind.TheVariants.{Write, Intent, Apply, Abort, Safe, Split}
 use Rattle.xc_record.specs.declared.record.Record.{Record}
 use Rattle.xc_record.specs.declared.record.Header.{Header}
 use Rattle.xc_record.specs.Hash.{holds}
-use Rattle.xc_record.specs.Agreement.{first_kind}
+use Rattle.xc_record.specs.Agreement.{first_kind, rank}
 use Rattle.xc_agree.specs.declared.held.Held.{Held}
 use Rattle.xc_record.specs.Lists.{or_else}
 use Rattle.xc_agree.specs.declared.look.Found.{Found}
 use Rattle.xc_agree.specs.declared.look.Look.{Look}
 use Rattle.xc_agree.specs.declared.look.Waiter.{Waiter}
 use Rattle.xc_agree.specs.declared.commits.Commit.{Commit}
-use Rattle.xc_agree.specs.Slots.{time_of, slot_of}
+use Rattle.xc_agree.specs.Slots.{time_of, undone_of, slot_of}
 
 pub record Seen : Type 0 where
   pub place : ℕ
@@ -34,6 +34,7 @@ pub record Seen : Type 0 where
   -- 0 where it waits since before the first record
   pub since : Option ℕ
   pub differs : Bool
+  pub undoes : Bool
   pub late : Bool
   pub aborted : Bool
   pub straggles : Bool
@@ -41,7 +42,7 @@ pub record Seen : Type 0 where
 -- before the first record
 abbrev pub unseen : Bool → Seen
 unseen waits =
-    record { place = 0; safe = 0; floor = 0; since = if waits then Some 0 else None; differs = false; late = false; aborted = false; straggles = false }
+    record { place = 0; safe = 0; floor = 0; since = if waits then Some 0 else None; differs = false; undoes = false; late = false; aborted = false; straggles = false }
 
 -- the transaction waits, and waited at a safe record of value at or above the commit: the last one shows it, since their values don't fall
 abbrev pub pends : ℕ → Seen → Bool
@@ -53,33 +54,33 @@ passes s = record s { place = s.place + 1 }
 abbrev pub settles : ℕ → Seen → Seen
 settles commit s = record s { place = s.place + 1; since = None; straggles = s.straggles || pends commit s }
 
-abbrev pub see_kind : ℕ → ℕ → Seen → ℕ → Kind → Seen
-see_kind n commit s time (Write ops) = passes s
-see_kind n commit s time (Intent txn ops) =
+-- an apply with this commit, without these subtransactions
+abbrev pub settles_as : ℕ → List ℕ → Seen → ℕ → List ℕ → Seen
+settles_as commit undone s c without =
+    record (settles commit s) { differs = s.differs || not (c == commit); undoes = s.undoes || not (bytes_eq without undone) }
+
+abbrev pub see_kind : ℕ → ℕ → List ℕ → Seen → ℕ → Kind → Seen
+see_kind n commit undone s time (Write ops) = passes s
+see_kind n commit undone s time (Intent txn sub ops) =
     if txn == n then record s { place = s.place + 1; since = or_else s.since (Some (s.place + 1)); late = s.late || nat_le commit time } else passes s
-see_kind n commit s time (Apply txn c) = if txn == n then record (settles commit s) { differs = s.differs || not (c == commit) } else passes s
-see_kind n commit s time (Abort txn) = if txn == n then record (settles commit s) { aborted = true } else passes s
-see_kind n commit s time (Safe value) = record s { place = s.place + 1; safe = s.place + 1; floor = value }
-see_kind n commit s time (Split at left right) = passes s
+see_kind n commit undone s time (Apply txn c without) = if txn == n then settles_as commit undone s c without else passes s
+see_kind n commit undone s time (Abort txn) = if txn == n then record (settles commit s) { aborted = true } else passes s
+see_kind n commit undone s time (Safe value) = record s { place = s.place + 1; safe = s.place + 1; floor = value }
+see_kind n commit undone s time (Split at left right) = passes s
 
-abbrev pub see : ℕ → ℕ → Seen → Record → Seen
-see n commit s r = see_kind n commit s r.time r.kind
+abbrev pub see : ℕ → ℕ → List ℕ → Seen → Record → Seen
+see n commit undone s r = see_kind n commit undone s r.time r.kind
 
-abbrev pub kind_of : Bool → Bool → Bool → Bool → Option AgreeKind
-kind_of differs late aborted straggles = first_kind ((differs, CommitDiffers) ∷ (late, LateIntent) ∷ (aborted, Aborted) ∷ (straggles, Straggler) ∷ [])
+abbrev pub kind_of : Bool → Bool → Bool → Bool → Bool → Option AgreeKind
+kind_of differs undoes late aborted straggles =
+    first_kind ((differs, CommitDiffers) ∷ (undoes, RollbackDiffers) ∷ (late, LateIntent) ∷ (aborted, Aborted) ∷ (straggles, Straggler) ∷ [])
 
 abbrev pub kind_seen : Seen → Option AgreeKind
-kind_seen s = kind_of s.differs s.late s.aborted s.straggles
+kind_seen s = kind_of s.differs s.undoes s.late s.aborted s.straggles
 
 -- at the end, where what waits may pend
 abbrev pub kind_at_end : ℕ → Seen → Option AgreeKind
-kind_at_end commit s = kind_of s.differs s.late s.aborted (s.straggles || pends commit s)
-
-abbrev pub rank : AgreeKind → ℕ
-rank CommitDiffers = 0
-rank LateIntent = 1
-rank Aborted = 2
-rank Straggler = 3
+kind_at_end commit s = kind_of s.differs s.undoes s.late s.aborted (s.straggles || pends commit s)
 
 abbrev pub earlier : AgreeKind → Option AgreeKind → AgreeKind
 earlier kind None = kind
@@ -156,7 +157,7 @@ pub record IsLook (look : Look) (commits : List Commit) (seen : ℕ → ℕ → 
 
 -- the look after a record of this time and kind
 abbrev pub Takes : Look → Look → List Commit → ℕ → Kind → Type 0
-Takes old new commits time kind = (seen : ℕ → ℕ → Seen) → IsLook old commits seen → IsLook new commits (λ n c. see_kind n c (seen n c) time kind)
+Takes old new commits time kind = (seen : ℕ → ℕ → Seen) → IsLook old commits seen → IsLook new commits (λ n c. see_kind n c (undone_of commits n) (seen n c) time kind)
 
 -- the transaction waits by what was held, at a hash of the range
 abbrev pub waits_from : Header → List Held → ℕ → Bool
@@ -168,7 +169,7 @@ IsEnd found commits seen = IsLeast found (λ n. option_and_then (λ c. kind_at_e
 
 -- as at a tablet's end, where the transaction was tried there
 abbrev pub kind_tried : Bool → ℕ → Seen → Option AgreeKind
-kind_tried tried commit s = kind_of s.differs s.late s.aborted (s.straggles || (tried && pends commit s))
+kind_tried tried commit s = kind_of s.differs s.undoes s.late s.aborted (s.straggles || (tried && pends commit s))
 
 abbrev pub is_among : ℕ → List ℕ → Bool
 is_among n ns = list_any (λ m. m == n) ns

@@ -75,7 +75,7 @@ pub fn judge_tablet(
     requires bound { length t.now.records < 2 ^ 32 }
     ensures idle { OnOk result (IsIdle look.old commits.now → InSlots commits.now (held_from lefts.now t.now.header.parent) → IsIdle look.new commits.now) }
     ensures found { IfOk result (λ j. IsIdle look.old commits.now → InSlots commits.now (held_from lefts.now t.now.header.parent)
-        → IsEnd j.found commits.now (seen_at_end t.now.header (held_from lefts.now t.now.header.parent) (take run.now.walk.accepted t.now.records))) }
+        → IsEnd j.found commits.now (seen_at_end commits.now t.now.header (held_from lefts.now t.now.header.parent) (take run.now.walk.accepted t.now.records))) }
     ensures left { IfOk result (λ j. IsIdle look.old commits.now → InSlots commits.now (held_from lefts.now t.now.header.parent) → (has_children ≡ true)
         → IsLeft j.left.items commits.now t.now.header (held_from lefts.now t.now.header.parent) (take run.now.walk.accepted t.now.records)) }
     ensures slots { IfOk result (λ j. InSlots commits.now (held_from lefts.now t.now.header.parent) → InSlots commits.now j.left.items) }

@@ -1,16 +1,19 @@
 // The commits of the transactions that were applied.
-ghost use Rattle.std.specs.Prelude.{◌≡◌, ◌<◌, ◌↔◌, ℕ, Some, IfOk, IsTrue, length, map, slice_get};
-ghost use Rattle.xc_record.specs.Commits.{distinct};
-ghost use Rattle.xc_agree.specs.Slots.{slot_of, time_of};
+ghost use Rattle.std.specs.Prelude.{◌≡◌, ◌<◌, ◌↔◌, ℕ, Some, IfOk, IsTrue, length, map, option_map, slice_get};
+ghost use Rattle.xc_record.specs.Lists.{distinct};
+ghost use Rattle.xc_agree.specs.Slots.{slot_of, time_of, without_of};
 
 use std::alloc::AllocError;
 use std::marker::Model;
+use xc_record::Subs;
 
 /// A transaction that was applied, and its commit: that of its first apply.
-#[derive(Clone, Copy, PartialEq, Eq, Debug)]
+#[derive(Drop, Debug)]
 pub struct Commit {
     pub txn: u32,
     pub time: u64,
+    /// Its subtransactions that were rolled back.
+    pub without: Subs,
 }
 
 /// The transactions that were applied, in the order of their numbers.
@@ -35,6 +38,7 @@ impl Commits {
     /// The commits by some applies, in whose order the first of a transaction is the one that counts.
     pub fn of_applies(applies: Vec<Commit>) -> Result<Commits, AllocError>
         ensures times { IfOk result (λ commits. (n : ℕ) → time_of commits n ≡ time_of applies.items n) }
+        ensures undone { IfOk result (λ commits. (n : ℕ) → without_of commits n ≡ without_of applies.items n) }
         ensures count { IfOk result (λ commits. length commits ≡ length (distinct (map (λ c. c.txn) applies.items))) }
     {
         let mut items = applies;
@@ -51,18 +55,21 @@ impl Commits {
     }
 
     /// The transaction in this slot.
-    pub fn at(&self, slot: usize) -> Commit
+    pub fn at(&self, slot: usize) -> &Commit
         requires { slot < length self.now }
-        ensures { slice_get self.now slot ≡ Some result }
+        ensures { slice_get self.now slot ≡ Some result.now }
     {
-        self.items[slot]
+        &self.items[slot]
     }
 
-    /// The transaction in this slot, if there is such a slot.
-    pub fn get(&self, slot: usize) -> Option<Commit>
-        ensures { result ≡ slice_get self.now slot }
+    /// The commit time of the transaction in this slot, if there is such a slot.
+    pub fn time(&self, slot: usize) -> Option<u64>
+        ensures { result ≡ option_map (λ c. c.time) (slice_get self.now slot) }
     {
-        self.items.get(slot).copied()
+        match self.items.get(slot) {
+            Some(commit) => Some(commit.time),
+            None => None,
+        }
     }
 
     // Whether the transaction is in this slot.

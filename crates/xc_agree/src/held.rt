@@ -8,7 +8,7 @@ ghost use Rattle.xc_agree.specs.Held.{is_held, writes_at, intends_kind, intends_
 use crate::commits::Commits;
 use crate::look::{Look, Waiter};
 use std::alloc::{AllocError, Global};
-use xc_record::{Header, Kind, Op, Record, hash};
+use xc_record::{Header, Kind, Ops, Record, hash_bytes};
 
 /// An operation of a transaction that commits waits at a key of this hash.
 #[derive(Clone, Copy, PartialEq, Eq, Debug)]
@@ -51,15 +51,15 @@ fn hold_still(
     Ok(still)
 }
 
-fn hold_ops(held: &mut Vec<Held>, waiter: Waiter, ops: &[Op]) -> Result<(), AllocError>
+fn hold_ops(held: &mut Vec<Held>, waiter: Waiter, ops: &Ops) -> Result<(), AllocError>
     ensures held { OnOk result ((n h : ℕ) → is_held held.new.items n h ≡ (is_held held.old.items n h || (waiter.txn == n && writes_at h ops.now))) }
     ensures slots { OnOk result ((commits : List Commit) → (is_in_slot commits waiter.txn waiter.slot ≡ true) → InSlots commits held.old.items → InSlots commits held.new.items) }
 {
-    for op in ops {
+    for op in ops.iter() {
         held.push(Held {
             txn: waiter.txn,
             slot: waiter.slot,
-            hash: hash(&op.key),
+            hash: hash_bytes(op.key_bytes()),
         })?;
     }
     Ok(())
@@ -77,12 +77,12 @@ fn hold_record(
     ensures held { OnOk result ((n h : ℕ) → is_held held.new.items n h ≡ (is_held held.old.items n h || (is_since place (since_in commits.now look.now n) && intends_kind n h r.now.kind))) }
     ensures slots { OnOk result (InSlots commits.now held.old.items → InSlots commits.now held.new.items) }
 {
-    if let Kind::Intent { txn, ops } = &r.kind {
+    if let Kind::Intent { txn, ops, .. } = &r.kind {
         if let Some(slot) = commits.slot(*txn, *near) {
             *near = slot;
             if look.waits_since(slot, place) {
                 let waiter = Waiter { txn: *txn, slot };
-                hold_ops(held, waiter, ops.as_slice())?;
+                hold_ops(held, waiter, ops)?;
             }
         }
     }

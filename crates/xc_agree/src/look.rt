@@ -5,15 +5,16 @@ ghost use Rattle.xc_record.specs.declared.record.AgreeKind.TheVariants.{Straggle
 ghost use Rattle.xc_record.specs.declared.record.Kind.TheVariants.{Intent, Apply, Abort, Safe};
 ghost use Rattle.xc_agree.specs.declared.commits.Commit.{Commit};
 ghost use Rattle.xc_record.specs.declared.record.Op.{Op};
+ghost use Rattle.xc_record.specs.Agreement.{rank};
 ghost use Rattle.xc_record.specs.Lists.{or_else};
-ghost use Rattle.xc_agree.specs.Slots.{slot_of, time_of};
+ghost use Rattle.xc_agree.specs.Slots.{slot_of, time_of, without_of, undone_of};
 ghost use Rattle.xc_agree.specs.Held.{is_start, is_since, InSlots};
-ghost use Rattle.xc_agree.specs.Seen.{Takes, Began, IsEnd, waits_from, unseen, Seen, rank, IsLeast, with_kind, see, waits_at, since_at, is_slot_of, pends_at, is_in_slot, AreInSlots, IsIdle, IsLook, IsLeastWith, KeepsPlace};
+ghost use Rattle.xc_agree.specs.Seen.{Takes, Began, IsEnd, waits_from, unseen, Seen, IsLeast, with_kind, see, waits_at, since_at, is_slot_of, pends_at, is_in_slot, AreInSlots, IsIdle, IsLook, IsLeastWith, KeepsPlace};
 
-use crate::commits::Commits;
+use crate::commits::{Commit, Commits};
 use crate::held::Held;
 use std::alloc::{AllocError, Global};
-use xc_record::{AgreeKind, Header, Kind, Record};
+use xc_record::{AgreeKind, Header, Kind, Record, Subs};
 
 /// The least transaction with a case, and its first kind.
 #[derive(Clone, Copy, PartialEq, Eq, Debug)]
@@ -27,9 +28,10 @@ fn rank(kind: AgreeKind) -> u8
 {
     match kind {
         AgreeKind::CommitDiffers => 0,
-        AgreeKind::LateIntent => 1,
-        AgreeKind::Aborted => 2,
-        AgreeKind::Straggler => 3,
+        AgreeKind::RollbackDiffers => 1,
+        AgreeKind::LateIntent => 2,
+        AgreeKind::Aborted => 3,
+        AgreeKind::Straggler => 4,
     }
 }
 
@@ -172,10 +174,10 @@ impl Look {
     fn straggler(&self, commits: &Commits, found: Option<Found>, waiter: Waiter) -> Option<Found>
         ensures { (c : Commit) → (slice_get commits.now waiter.slot ≡ Some c) → IsLeastWith found (pends_at c.time self.now waiter.slot) waiter.txn Straggler result }
     {
-        match commits.get(waiter.slot) {
+        match commits.time(waiter.slot) {
             None => found,
             Some(commit) => {
-                let pends = self.pends(waiter.slot, commit.time);
+                let pends = self.pends(waiter.slot, commit);
                 least_if(found, pends, waiter.txn, AgreeKind::Straggler)
             }
         }
@@ -240,25 +242,26 @@ impl Look {
     }
 
     // The slot of the transaction and its commit, if it has one.
-    fn find(&mut self, commits: &Commits, txn: u32) -> Option<(usize, u64)>
+    fn find<'a>(&mut self, commits: &'a Commits, txn: u32) -> Option<(usize, &'a Commit)>
         ensures slot { option_map (λ p. p.0) result ≡ slot_of commits.now txn }
-        ensures time { option_map (λ p. p.1) result ≡ time_of commits.now txn }
+        ensures time { option_map (λ p. p.1.now.time) result ≡ time_of commits.now txn }
+        ensures undone { option_map (λ p. p.1.now.without) result ≡ without_of commits.now txn }
         ensures same { self.new ≡ record self.old { near = self.new.near } }
     {
         let slot = commits.slot(txn, self.near)?;
         self.near = slot;
-        Some((slot, commits.at(slot).time))
+        Some((slot, commits.at(slot)))
     }
 
     fn take_intent(&mut self, commits: &Commits, txn: u32, time: u64) -> Result<(), AllocError>
         requires { self.old.place + 1 < 2 ^ 32 }
         ensures place { OnOk result (self.new.place ≡ self.old.place + 1) }
-        ensures taken { OnOk result ((ops : List Op) → Takes self.old self.new commits.now time (Intent txn ops)) }
+        ensures taken { OnOk result ((sub : ℕ) (ops : List Op) → Takes self.old self.new commits.now time (Intent txn sub ops)) }
     {
         match self.find(commits, txn) {
             None => self.place += 1,
             Some((slot, commit)) => {
-                self.found = least_if(self.found, commit <= time, txn, AgreeKind::LateIntent);
+                self.found = least_if(self.found, commit.time <= time, txn, AgreeKind::LateIntent);
                 self.wait(txn, slot, self.place + 1)?;
                 self.place += 1;
             }
@@ -266,16 +269,19 @@ impl Look {
         Ok(())
     }
 
-    fn take_apply(&mut self, commits: &Commits, txn: u32, named: u64)
+    fn take_apply(&mut self, commits: &Commits, txn: u32, named: u64, without: &Subs)
         requires { self.old.place + 1 < 2 ^ 32 }
         ensures place { self.new.place ≡ self.old.place + 1 }
-        ensures taken { (time : ℕ) → Takes self.old self.new commits.now time (Apply txn named) }
+        ensures taken { (time : ℕ) → Takes self.old self.new commits.now time (Apply txn named without.now) }
     {
         match self.find(commits, txn) {
             None => self.place += 1,
             Some((slot, commit)) => {
-                self.found = least_if(self.found, named != commit, txn, AgreeKind::CommitDiffers);
-                self.settle(txn, slot, commit);
+                let differs = named != commit.time;
+                let undoes = !without.is_same(&commit.without);
+                let found = least_if(self.found, differs, txn, AgreeKind::CommitDiffers);
+                self.found = least_if(found, undoes, txn, AgreeKind::RollbackDiffers);
+                self.settle(txn, slot, commit.time);
                 self.place += 1;
             }
         }
@@ -290,7 +296,7 @@ impl Look {
             None => self.place += 1,
             Some((slot, commit)) => {
                 self.found = least(self.found, txn, AgreeKind::Aborted);
-                self.settle(txn, slot, commit);
+                self.settle(txn, slot, commit.time);
                 self.place += 1;
             }
         }
@@ -313,7 +319,11 @@ impl Look {
     {
         match &r.kind {
             Kind::Intent { txn, .. } => self.take_intent(commits, *txn, r.time.get())?,
-            Kind::Apply { txn, commit } => self.take_apply(commits, *txn, commit.get()),
+            Kind::Apply {
+                txn,
+                commit,
+                without,
+            } => self.take_apply(commits, *txn, commit.get(), without),
             Kind::Abort { txn } => self.take_abort(commits, *txn),
             Kind::Safe { value } => self.take_safe(value.get()),
             Kind::Write { .. } | Kind::Split { .. } => self.place += 1,
@@ -324,7 +334,7 @@ impl Look {
     /// Takes all records.
     pub fn take_all(&mut self, commits: &Commits, records: &[Record]) -> Result<(), AllocError>
         requires { self.old.place + length records.now < 2 ^ 32 }
-        ensures { OnOk result ((seen : ℕ → ℕ → Seen) → IsLook self.old commits.now seen → IsLook self.new commits.now (λ n c. fold (see n c) (seen n c) records.now)) }
+        ensures { OnOk result ((seen : ℕ → ℕ → Seen) → IsLook self.old commits.now seen → IsLook self.new commits.now (λ n c. fold (see n c (undone_of commits.now n)) (seen n c) records.now)) }
     {
         for r in records {
             self.take(commits, r)?;

@@ -1,60 +1,13 @@
 // How far each tablet's records are accepted.
-ghost use Rattle.std.specs.Prelude.{◌≡◌, ◌+◌, Option, Some, None, fold, length, option_map};
+ghost use Rattle.std.specs.Prelude.{◌≡◌, None, IfOk, [], fold, length, option_map, if◌then◌else◌};
 ghost use Rattle.xc_record.specs.Order.{after, accepted_from};
-ghost use Rattle.xc_record.specs.Accepted.{halt_from};
-ghost use Rattle.xc_record.specs.declared.record.Tablet.{Tablet};
-ghost use Rattle.xc_record.specs.Accepted.{accepted_tablets_after, AcceptedTablet};
-ghost use Rattle.std.specs.Prelude.{IfOk, List, [], if◌then◌else◌, take};
-ghost use Rattle.xc_agree.specs.Runs.{halt_at, start_from, IsRuns};
+ghost use Rattle.xc_record.specs.Accepted.{halt_from, accepted_tablets_after};
+ghost use Rattle.xc_order.specs.Walks.{halt_at};
+ghost use Rattle.xc_agree.specs.Runs.{start_from, IsRuns};
 
 use std::alloc::{AllocError, Global};
-use xc_order::Order;
-use xc_record::{Break, Record, Tablet};
-
-/// How far the records of one tablet are accepted.
-#[derive(Clone, Copy, PartialEq, Eq, Debug)]
-pub struct Walk {
-    /// The order after the accepted records.
-    pub order: Order,
-    /// The number of accepted records.
-    pub accepted: usize,
-    /// The next record, where it breaks the order.
-    pub halt: Option<Halt>,
-}
-
-/// A record that breaks the order of its tablet.
-#[derive(Clone, Copy, PartialEq, Eq, Debug)]
-pub struct Halt {
-    /// From 1.
-    pub number: usize,
-    pub kind: Break,
-}
-
-// The records up to the first that breaks the order.
-pub fn walk_records(start: Order, records: &[Record]) -> Walk
-    ensures accepted { result.accepted ≡ length (accepted_from start records.now) }
-    ensures order { result.order ≡ fold after start (accepted_from start records.now) }
-    ensures halt { option_map halt_at result.halt ≡ halt_from start 1 records.now }
-{
-    let mut order = start;
-    for (i, r) in records.iter().enumerate() {
-        if let Err(violated) = order.take(r) {
-            return Walk {
-                order,
-                accepted: i,
-                halt: Some(Halt {
-                    number: i + 1,
-                    kind: violated,
-                }),
-            };
-        }
-    }
-    Walk {
-        order,
-        accepted: records.len(),
-        halt: None,
-    }
-}
+use xc_order::{Order, Walk, walk_records};
+use xc_record::{Record, Tablet};
 
 /// Where a tablet begins: whether it is reached, and after what.
 #[derive(Clone, Copy, PartialEq, Eq, Debug)]

@@ -3,7 +3,9 @@ ghost use Rattle.std.specs.Prelude.{◌≡◌, ◌==◌, ℕ, IfOk, IsTrue, [], 
 ghost use Rattle.std.specs.Option.{option_map_or};
 ghost use Rattle.xc_record.specs.Accepted.{accepted_tablets_after};
 ghost use Rattle.xc_record.specs.Valid.{is_valid};
+ghost use Rattle.xc_record.specs.Commits.{undone};
 ghost use Rattle.xc_agree.specs.Runs.{IsRuns};
+ghost use Rattle.xc_agree.specs.Slots.{undone_of};
 ghost use Rattle.xc_agree.specs.Cases.{IsFirst, AreLast, Drops, cases_of, of_tablets};
 
 use crate::cases::{Case, first_of, judge_tablet};
@@ -66,6 +68,7 @@ pub fn first_case(
 ) -> Result<Option<Case>, AllocError>
     requires runs { IsRuns runs.now (accepted_tablets_after [] tablets.now) tablets.now }
     requires valid { IsTrue (is_valid (of_tablets tablets.now)) }
+    requires undone { (n : ℕ) → undone_of commits.now n ≡ undone (of_tablets tablets.now) n }
     ensures { IfOk result (λ first. IsFirst first (cases_of (of_tablets tablets.now) commits.now (accepted_tablets_after [] tablets.now))) }
 {
     let lasts = last_children(alloc, tablets)?;

@@ -35,9 +35,14 @@ impl Applies {
     {
         match &r.kind {
             Kind::Write { .. } => self.writes += 1,
-            Kind::Apply { txn, commit } => self.items.push(Commit {
+            Kind::Apply {
+                txn,
+                commit,
+                without,
+            } => self.items.push(Commit {
                 txn: *txn,
                 time: commit.get(),
+                without: without.copied(),
             })?,
             _ => {}
         }

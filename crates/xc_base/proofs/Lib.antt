@@ -1,6 +1,4 @@
-pub mod Reading
-pub mod Gets
-pub mod Runs
 pub mod Giving
 pub mod NameLemmas
+pub mod EscapeLaws
 pub mod WordLaws

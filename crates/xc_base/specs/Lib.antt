@@ -1,9 +1,8 @@
 pub mod Padded
 pub mod Names
+pub mod Escapes
 pub mod Causes
 pub mod Told
 pub mod Calls
 pub mod Status
-pub mod Streams
-pub mod Ran
 pub mod Words

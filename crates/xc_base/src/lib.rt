@@ -1,5 +1,5 @@
-//! What every crate stands on: streams that count their faults, bytes read and written whole, the names of rows, and
-//! numbers in decimal.
+//! What every crate stands on: streams that count their faults, bytes read and written whole, the names of rows with
+//! their words, and numbers in decimal.
 #![tactic(auto)]
 
 mod bytes;
@@ -11,15 +11,17 @@ mod quiet;
 mod status;
 mod streams;
 mod whole;
+mod word;
 
 pub use bytes::Bytes;
 pub use memory::{MemorySink, MemorySource};
-pub use name::{BadName, KEY_BYTES, Key, VALUE_BYTES, Value, is_key, is_value};
+pub use name::{BadName, KEY_BYTES, Key, VALUE_BYTES, Value, is_key, is_plain, is_value};
 pub use number::{NumberFail, read_number};
 pub use quiet::{QuietSink, QuietSource};
-pub use status::{Status, Stop};
+pub use status::Status;
 pub use streams::{Failed, NoMemory, Sink, SinkFail, Source};
 pub use whole::{ReadAllFail, read_all, write_all};
+pub use word::{escape, read_key, read_value, what_is_read_is_the_word, words_are_read_back};
 
 #[cfg(test)]
 mod tests {
@@ -61,25 +63,76 @@ mod tests {
         ] {
             assert!(rt; Key::new(name.as_bytes()).err() == key, "{name}");
             assert!(rt; Value::new(name.as_bytes()).err() == value, "{name}");
-            assert!(rt; is_key(name.as_bytes()) == key.is_none(), "{name}");
-            assert!(rt; is_value(name.as_bytes()) == value.is_none(), "{name}");
-            if is_key(name.as_bytes()) {
-                assert!(rt;
-                    Key::of(name.as_bytes()).bytes() == name.as_bytes(),
-                    "{name}"
-                );
+            assert!(rt; is_key(name.as_bytes()) == !matches!(key, Some(BadName::Length(_))));
+            assert!(rt; is_value(name.as_bytes()) == !matches!(value, Some(BadName::Length(_))));
+            if let Ok(key) = Key::any(name.as_bytes()) {
+                assert!(rt; key.bytes() == name.as_bytes(), "{name}");
+                assert!(rt; key.plain() == Key::new(name.as_bytes()).is_ok(), "{name}");
             }
-            if is_value(name.as_bytes()) {
-                assert!(rt;
-                    Value::of(name.as_bytes()).bytes() == name.as_bytes(),
-                    "{name}"
-                );
+            if let Ok(value) = Value::any(name.as_bytes()) {
+                assert!(rt; value.bytes() == name.as_bytes(), "{name}");
+                assert!(rt; value.plain() == is_plain(name.as_bytes()), "{name}");
             }
         }
         assert!(rt;
             Key::new(b"order/10").ok() < Key::new(b"order/2").ok(),
             "by bytes"
         );
+    }
+
+    #[test]
+    fn each_byte_is_read_back_from_its_word(rt: HostRuntime) {
+        for byte in 0..=255u8 {
+            let mut word = Bytes::new(rt.alloc());
+            assert!(rt; escape(&[byte], &mut word) == Ok(()));
+            assert!(rt;
+                word.len() == if is_plain(&[byte]) { 1 } else { 3 },
+                "{byte}"
+            );
+            assert!(rt;
+                read_key(word.as_slice()).ok() == Key::any(&[byte]).ok(),
+                "{byte}"
+            );
+            assert!(rt;
+                read_value(word.as_slice()).ok() == Value::any(&[byte]).ok(),
+                "{byte}"
+            );
+        }
+    }
+
+    #[test]
+    fn words_are_refused_by_place_and_then_by_length(rt: HostRuntime) {
+        for (word, want) in [
+            ("a%20b", Ok("a b")),
+            ("%3D%25", Ok("=%")),
+            ("", Err(BadName::Length(0))),
+            (
+                "%20%20%20%20%20%20%20%20%20%20%20%20%20%20%20%20abcdefghijklmnop",
+                Ok("                abcdefghijklmnop"),
+            ),
+            (
+                "%20%20%20%20%20%20%20%20%20%20%20%20%20%20%20%20abcdefghijklmnopq",
+                Err(BadName::Length(33)),
+            ),
+            (
+                "abcdefghijklmnopqrstuvwxyzABCDEFG",
+                Err(BadName::Length(33)),
+            ),
+            ("abcdefghijklmnopqrstuvwxyzABCDEF%", Err(BadName::Byte(32))),
+            ("a%20%2", Err(BadName::Byte(4))),
+            ("a%3d", Err(BadName::Byte(1))),
+            ("a%61", Err(BadName::Byte(1))),
+            ("a%20 ", Err(BadName::Byte(4))),
+            ("a=", Err(BadName::Byte(1))),
+        ] {
+            match (read_key(word.as_bytes()), want) {
+                (Ok(key), Ok(bytes)) => {
+                    assert!(rt; key.bytes() == bytes.as_bytes(), "{word}");
+                }
+                (Err(bad), Err(known)) => assert!(rt; bad == known, "{word}"),
+                _ => assert!(rt; false, "{word}"),
+            }
+        }
     }
 
     // What five bytes give, with these limit and failing call: how many bytes, or how it failed.

@@ -1,10 +1,11 @@
 // Keys and values. Their bytes lie inline, so that an operation takes no memory of its own.
-ghost use Rattle.std.specs.Prelude.{◌≡◌, IsTrue, IfOk, true, not, bytes_eq, Some, refl};
+ghost use Rattle.std.specs.Prelude.{◌≡◌, IsTrue, IfOk, true, not, length, bytes_eq, Some, refl};
 ghost use Rattle.std.specs.Cmp.{partial_equiv_from_equiv};
 ghost use Rattle.std.specs.Cmp.Lexicographic.{slice_cmp, nat_list_eq_equiv, nat_list_cmp_total, texts_ties, texts_po};
 ghost use Rattle.std.specs.Ordering.{nat_cmp};
 ghost use Rattle.std.specs.Result.{result_err};
-ghost use Rattle.xc_base.specs.Names.{is_key, is_value, is_name, in_alphabet, name_fault, key_fault, value_fault};
+ghost use Rattle.xc_base.specs.Names.{within, are_bytes, is_plain, is_key, is_value, in_alphabet, name_fault, key_fault, value_fault, length_fault};
+ghost use Rattle.xc_base.specs.Escapes.{wrong_place, escaped, unescaped, word_fault};
 ghost use Rattle.std.specs.List.{position_or_len, list_all};
 
 use std::cmp::Ordering;
@@ -16,7 +17,7 @@ pub const KEY_BYTES: usize = 32;
 /// The most bytes of a value.
 pub const VALUE_BYTES: usize = 64;
 
-/// A key: 1 to 32 bytes, each a letter, a digit or one of `_ . - / :`. Keys are ordered by their bytes.
+/// A key: 1 to 32 bytes. Keys are ordered by their bytes.
 #[derive(Clone, Copy, Debug)]
 pub struct Key {
     len: u8,
@@ -45,9 +46,10 @@ impl Model for Key {
 /// Why bytes are no key or no value.
 #[derive(Clone, Copy, PartialEq, Eq, Debug)]
 pub enum BadName {
-    /// The length, where it is out of the limits. It is looked at first.
+    /// The number of bytes, where it is out of the limits. Of bytes it is looked at first, of a word last.
     Length(usize),
-    /// The place of the first byte outside the alphabet, counted from 0.
+    /// The place of the first byte outside the alphabet, counted from 0; of a word, the first place where neither a byte of
+    /// the alphabet nor the escape of another byte begins.
     Byte(usize),
 }
 
@@ -62,7 +64,8 @@ static ALPHABET: [u8; 256] = *b"\
     ,,,,,,,,,,,,,,,,,,,,,,,,,,,,,,,,\
     ,,,,,,,,,,,,,,,,,,,,,,,,,,,,,,,,";
 
-fn in_alphabet(byte: u8) -> bool
+#[inline]
+pub(crate) fn in_alphabet(byte: u8) -> bool
     ensures { result ≡ in_alphabet byte }
 {
     ALPHABET[byte as usize] != b','
@@ -80,34 +83,42 @@ fn first_bad(bytes: &[u8]) -> usize
     bytes.len()
 }
 
-fn all_in_alphabet(bytes: &[u8]) -> bool
-    ensures { result ≡ list_all in_alphabet bytes.now }
+/// Whether all bytes are plain: each a letter, a digit or one of `_ . - / :`.
+pub fn is_plain(bytes: &[u8]) -> bool
+    ensures { result ≡ is_plain bytes.now }
 {
     bytes.iter().all(|byte| in_alphabet(*byte))
 }
 
-// Whether bytes are a name of at most so many.
-fn is_name(bytes: &[u8], most: usize) -> bool
-    ensures { result ≡ is_name most bytes.now }
+// What a slice of bytes holds is bytes.
+#[inline]
+pub(crate) fn are_bytes(bytes: &[u8])
+    ensures { are_bytes bytes.now ≡ true }
 {
-    bytes.len() <= most && all_in_alphabet(bytes)
+    let _bytes = bytes;
 }
 
-/// Whether bytes are a key.
+/// Whether bytes are a key, which their number alone decides.
+#[inline]
 pub fn is_key(bytes: &[u8]) -> bool
-    ensures { result ≡ is_key bytes.now }
+    ensures key { result ≡ is_key bytes.now }
+    ensures length { result ≡ within 1 32 (length bytes.now) }
 {
-    !bytes.is_empty() && is_name(bytes, KEY_BYTES)
+    are_bytes(bytes);
+    !bytes.is_empty() && bytes.len() <= KEY_BYTES
 }
 
-/// Whether bytes are a value.
+/// Whether bytes are a value, which their number alone decides.
+#[inline]
 pub fn is_value(bytes: &[u8]) -> bool
-    ensures { result ≡ is_value bytes.now }
+    ensures value { result ≡ is_value bytes.now }
+    ensures length { result ≡ within 0 64 (length bytes.now) }
 {
-    is_name(bytes, VALUE_BYTES)
+    are_bytes(bytes);
+    bytes.len() <= VALUE_BYTES
 }
 
-// Whether bytes are a name of a length within the limits, and else what is wrong with them.
+// Whether bytes are plain and of a length within the limits, and else what is wrong with them.
 fn check_name(bytes: &[u8], least: usize, most: usize) -> Result<(), BadName>
     ensures { result_err result ≡ name_fault least most bytes.now }
 {
@@ -122,7 +133,7 @@ fn check_name(bytes: &[u8], least: usize, most: usize) -> Result<(), BadName>
 }
 
 impl Key {
-    /// The key of these bytes. `Length` comes exactly where there are none or more than 32, and else `Byte` exactly
+    /// The key of these plain bytes. `Length` comes exactly where there are none or more than 32, and else `Byte` exactly
     /// where a byte is outside the alphabet.
     pub fn new(bytes: &[u8]) -> Result<Key, BadName>
         ensures key { IfOk result (λ key. key ≡ bytes.now) }
@@ -130,6 +141,24 @@ impl Key {
     {
         check_name(bytes, 1, KEY_BYTES)?;
         Ok(Key::of(bytes))
+    }
+
+    /// The key of any bytes. `Length` comes exactly where [`Key::new`] answers it, and `Byte` never.
+    pub fn any(bytes: &[u8]) -> Result<Key, BadName>
+        ensures key { IfOk result (λ key. key ≡ bytes.now) }
+        ensures fault { result_err result ≡ length_fault 1 32 bytes.now }
+    {
+        if !is_key(bytes) {
+            return Err(BadName::Length(bytes.len()));
+        }
+        Ok(Key::of(bytes))
+    }
+
+    /// Whether all bytes are plain: each a letter, a digit or one of `_ . - / :`.
+    pub fn plain(&self) -> bool
+        ensures { result ≡ is_plain self.now }
+    {
+        is_plain(self.bytes())
     }
 
     /// The key of these bytes, where [`is_key`] says that they are one.
@@ -192,7 +221,7 @@ impl Ord for Key {
     }
 }
 
-/// A value: 0 to 64 bytes of the same alphabet as a key's.
+/// A value: 0 to 64 bytes.
 #[derive(Clone, Copy, PartialEq, Eq, Debug)]
 pub struct Value {
     len: u8,
@@ -219,7 +248,7 @@ impl Model for Value {
 }
 
 impl Value {
-    /// The value of these bytes. `Length` comes exactly where there are more than 64, and else `Byte` exactly where a
+    /// The value of these plain bytes. `Length` comes exactly where there are more than 64, and else `Byte` exactly where a
     /// byte is outside the alphabet.
     pub fn new(bytes: &[u8]) -> Result<Value, BadName>
         ensures value { IfOk result (λ value. value ≡ bytes.now) }
@@ -227,6 +256,24 @@ impl Value {
     {
         check_name(bytes, 0, VALUE_BYTES)?;
         Ok(Value::of(bytes))
+    }
+
+    /// The value of any bytes. `Length` comes exactly where [`Value::new`] answers it, and `Byte` never.
+    pub fn any(bytes: &[u8]) -> Result<Value, BadName>
+        ensures value { IfOk result (λ value. value ≡ bytes.now) }
+        ensures fault { result_err result ≡ length_fault 0 64 bytes.now }
+    {
+        if !is_value(bytes) {
+            return Err(BadName::Length(bytes.len()));
+        }
+        Ok(Value::of(bytes))
+    }
+
+    /// Whether all bytes are plain: each a letter, a digit or one of `_ . - / :`.
+    pub fn plain(&self) -> bool
+        ensures { result ≡ is_plain self.now }
+    {
+        is_plain(self.bytes())
     }
 
     /// The value of these bytes, where [`is_value`] says that they are one.

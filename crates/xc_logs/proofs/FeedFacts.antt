@@ -1,11 +1,11 @@
 -- Well-formed logs make a feed, and their records keep their headers.
 use Rattle.std.proofs.Common.{◌≡◌, ℕ, zero, suc, ◌+◌, ◌-◌, ◌<◌, ◌≤◌, Bool, true, false, List, [], ◌∷◌, length, get_or, inl, inr, take, drop, map, refl, sym, ap, ◌∙◌, subst, add-zero, zero-add, arith}
 use Rattle.std.specs.Prelude.{Option, Some, None, ◌⊎◌, IsTrue, IsSome, is_some, slice_get, slice_index, sum_by, ◌&&◌, ◌==◌, nat_le, if◌then◌else◌, option_map}
+use Rattle.std.specs.Bool.{beq}
 use Rattle.std.specs.Option.{option_map_or}
 use Rattle.std.proofs.lemmas.List.{length-map}
 use Rattle.std.proofs.lemmas.List.Sums.{get_or-le-sum_by}
 use Rattle.std.proofs.lemmas.Option.{slice_get_cases}
-use Rattle.xc_base.specs.Names.{is_key, is_value}
 use Rattle.xc_record.specs.Accepted.{records}
 use Rattle.xc_record.proofs.HeaderLists.{get_of_headers}
 use Rattle.std.specs.List.{list_all}
@@ -18,17 +18,20 @@ use Rattle.xc_record.specs.declared.record.Op.{Op}
 use Rattle.xc_record.specs.declared.record.Record.{Record}
 use Rattle.xc_record.specs.declared.record.Tablet.{Tablet}
 use Rattle.xc_record.specs.declared.record.Logs.{Logs}
-use Rattle.xc_record.specs.Hash.{hash_of, holds}
 use Rattle.xc_record.specs.Order.{is_split}
-use Rattle.xc_record.specs.Headers.{children, headers_fit}
-use Rattle.xc_record.specs.Valid.{is_valid, headers_of, tablet_fits, record_fits, kind_fits, op_fits, ops_fit, ends_fit, is_time, is_txn}
-use Rattle.xc_logs.specs.Feed.{IsFeed, KeepHeader, counts_of, fetched, ops_keep, kind_keeps, keep_from}
-use Rattle.xc_logs.proofs.ValidFacts.{valid_parts}
+use Rattle.xc_record.specs.Headers.{children, are_headers}
+use Rattle.xc_record.specs.Valid.{is_valid, headers_of, tablet_fits, record_fits, kind_fits, op_fits, ops_fit, ops_keep, keeps_header, ends_fit, is_time, is_txn}
+use Rattle.xc_logs.specs.Feed.{IsFeed, KeepHeader, counts_of, fetched, kind_keeps, keep_from}
+use Rattle.xc_logs.proofs.ValidFacts.{valid_parts, headers_parts}
 use Rattle.xc_record.proofs.ListLaws.{all-at}
 use Rattle.xc_record.proofs.HeaderLaws.{Numbered-at, headers_fit-all}
 use Rattle.xc_record.proofs.OpsLaws.{ops-hold}
 
 -- ---- records that fit keep the header
+
+beq-same : (b : Bool) → beq b b ≡ true
+beq-same true = refl
+beq-same false = refl
 
 ops_fit-keep : (header : Header) (ops : List Op) → ops_fit header ops ≡ true → ops_keep header ops ≡ true
 ops_fit-keep header ops e =
@@ -36,23 +39,19 @@ ops_fit-keep header ops e =
     let few = and_parts (nat_le (length ops) 64) (list_all (op_fits header) ops) some.1 in
     and_from _ _ few.0 (ops-hold header ops few.1)
 
--- a record that is no split, and doesn't end the tablet
-plain_keeps : (header : Header) (pair : Option (Header × Header)) (ends : Bool) (kind : Kind) → ends ≡ false → is_split kind ≡ false → kind_fits header pair kind ≡ true → kind_keeps header pair ends kind ≡ true
-plain_keeps header pair ends (Write ops) e s fit = rw e (ops_fit-keep header ops fit)
-plain_keeps header pair ends (Intent txn ops) e s fit = rw e (ops_fit-keep header ops (and_parts (is_txn txn) (ops_fit header ops) fit).1)
-plain_keeps header pair ends (Apply txn commit) e s fit = rw e refl
-plain_keeps header pair ends (Abort txn) e s fit = rw e refl
-plain_keeps header pair ends (Safe value) e s fit = rw e refl
-plain_keeps header pair ends (Split at left right) e s fit = cc
+fit_keeps : (header : Header) (pair : Option (Header × Header)) (kind : Kind) → kind_fits header pair kind ≡ true → keeps_header header pair kind ≡ true
+fit_keeps header pair (Write ops) fit = ops_fit-keep header ops fit
+fit_keeps header pair (Intent txn sub ops) fit =
+    let rest = and_parts (is_txn txn) (nat_le sub 64 && ops_fit header ops) fit in
+    ops_fit-keep header ops (and_parts (nat_le sub 64) (ops_fit header ops) rest.1).1
+fit_keeps header pair (Apply txn commit without) fit = refl
+fit_keeps header pair (Abort txn) fit = refl
+fit_keeps header pair (Safe value) fit = refl
+fit_keeps header pair (Split at left right) fit = fit
 
--- the split that ends it
-split_keeps : (header : Header) (pair : Option (Header × Header)) (ends : Bool) (kind : Kind) → ends ≡ true → is_split kind ≡ true → kind_fits header pair kind ≡ true → kind_keeps header pair ends kind ≡ true
-split_keeps header pair ends (Write ops) e s fit = cc
-split_keeps header pair ends (Intent txn ops) e s fit = cc
-split_keeps header pair ends (Apply txn commit) e s fit = cc
-split_keeps header pair ends (Abort txn) e s fit = cc
-split_keeps header pair ends (Safe value) e s fit = cc
-split_keeps header pair ends (Split at left right) e s fit = rw e fit
+-- a split that ends the tablet, or another record that doesn't
+keeps : (header : Header) (pair : Option (Header × Header)) (ends : Bool) (kind : Kind) → is_split kind ≡ ends → kind_fits header pair kind ≡ true → kind_keeps header pair ends kind ≡ true
+keeps header pair ends kind same fit = and_from _ _ (rw same (beq-same ends)) (fit_keeps header pair kind fit)
 
 no_end : (has : Bool) (number count : ℕ) (rs : List Record) → number + suc (length rs) ≡ count + 1 → ends_fit has rs ≡ true → number == count && has ≡ false
 no_end true number count [] size e = cc
@@ -79,12 +78,12 @@ keeps_all header pair count number (r ∷ rs) size fit ends = go (is_split r.kin
     go true is last later =
         let end = and_parts (is_some pair) (length rs == 0) last in
         let none : length rs ≡ 0 = eqb-true (length rs) 0 end.1 in
-        and_from _ _ (split_keeps header pair _ r.kind (and_from _ _ (eq-eqb number count (omega arith)) end.0) is kind) (keep_none header pair count (number + 1) rs none)
-    go false is rest later = and_from _ _ (plain_keeps header pair _ r.kind (no_end (is_some pair) number count rs size rest) is kind) (later rest)
+        and_from _ _ (keeps header pair _ r.kind (is ∙ sym (and_from _ _ (eq-eqb number count (omega arith)) end.0)) kind) (keep_none header pair count (number + 1) rs none)
+    go false is rest later = and_from _ _ (keeps header pair _ r.kind (is ∙ sym (no_end (is_some pair) number count rs size rest)) kind) (later rest)
 
 -- ---- the rest and the front of records that keep the header
 
-keep_from-drop : (header : Header) (pair : Option (Header × Header)) (count number k : ℕ) (rs : List Record) → keep_from header pair count number rs ≡ true → keep_from header pair count (number + k) (drop k rs) ≡ true
+pub keep_from-drop : (header : Header) (pair : Option (Header × Header)) (count number k : ℕ) (rs : List Record) → keep_from header pair count number rs ≡ true → keep_from header pair count (number + k) (drop k rs) ≡ true
 keep_from-drop header pair count number zero rs e = subst (λ n. keep_from header pair count n rs ≡ true) (sym (add-zero number)) e
 keep_from-drop header pair count number (suc k) [] e = refl
 keep_from-drop header pair count number (suc k) (r ∷ rs) e =
@@ -92,7 +91,7 @@ keep_from-drop header pair count number (suc k) (r ∷ rs) e =
     let on : number + 1 + k ≡ number + suc k = omega arith in
     subst (λ n. keep_from header pair count n (drop k rs) ≡ true) on (keep_from-drop header pair count (number + 1) k rs parts.1)
 
-keep_from-take : (header : Header) (pair : Option (Header × Header)) (count number k : ℕ) (rs : List Record) → keep_from header pair count number rs ≡ true → keep_from header pair count number (take k rs) ≡ true
+pub keep_from-take : (header : Header) (pair : Option (Header × Header)) (count number k : ℕ) (rs : List Record) → keep_from header pair count number rs ≡ true → keep_from header pair count number (take k rs) ≡ true
 keep_from-take header pair count number zero rs e = refl
 keep_from-take header pair count number (suc k) [] e = refl
 keep_from-take header pair count number (suc k) (r ∷ rs) e =
@@ -101,8 +100,8 @@ keep_from-take header pair count number (suc k) (r ∷ rs) e =
 
 -- ---- a tablet by its number
 
-number_is : (hs : List Header) (i : ℕ) (h : Header) → headers_fit hs ≡ true → slice_get hs i ≡ Some h → h.id ≡ i
-number_is hs i h e there = Numbered-at 0 hs i h (headers_fit-all hs e).1.numbered there ∙ zero-add i
+number_is : (hs : List Header) (i : ℕ) (h : Header) → are_headers hs ≡ true → slice_get hs i ≡ Some h → h.id ≡ i
+number_is hs i h e there = Numbered-at 0 hs i h (headers_fit-all hs (headers_parts hs e).1).1.numbered there ∙ zero-add i
 
 count_at : (ts : List Tablet) (i : ℕ) (t : Tablet) → slice_get ts i ≡ Some t → slice_index (map (λ (t : Tablet). length t.records) ts) i ≡ length t.records
 count_at [] i t there = cc

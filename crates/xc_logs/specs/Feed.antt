@@ -1,21 +1,19 @@
 -- What a feed of records tells, and what it gives. Tablets are numbered from 0, their records from 1.
 --     fetched records from max      the records from the number `from` on, at most `max` of them
 --     fetched_count count from max      how many these are, where there are `count` in all
---     kind_keeps header pair ends kind      a record keeps its tablet's header: its keys hash into the range, it has at most 64
---                       operations, and it is a split, which names the children `pair`, exactly where it `ends` a tablet with children
+--     kind_keeps header pair ends kind      a record keeps its tablet's header, and is a split exactly where it `ends` a tablet with
+--                       children, which are `pair`
 --     KeepHeader headers counts id from records      the records from the number `from` on keep the header of the tablet
 --     IsFeed headers counts logs      what holds of each feed's headers, of its numbers of records, and of its logs where it tells them
-use Rattle.std.specs.Prelude.{◌≡◌, ℕ, ◌+◌, ◌-◌, ◌^◌, ◌<◌, ◌≤◌, ◌==◌, ◌&&◌, Bool, true, nat_le, not, min, List, [], ◌∷◌, length, map, take, drop, slice_get, slice_index, Option, is_some, IsSome, IfSome, IsTrue}
-use Rattle.std.specs.List.{list_all}
+use Rattle.std.specs.Prelude.{◌≡◌, ℕ, ◌+◌, ◌-◌, ◌^◌, ◌<◌, ◌≤◌, ◌==◌, ◌&&◌, Bool, true, min, List, [], ◌∷◌, length, map, take, drop, slice_get, slice_index, Option, is_some, IsSome, IfSome, IsTrue}
+use Rattle.std.specs.Bool.{beq}
 use Rattle.xc_record.specs.declared.record.Header.{Header}
 use Rattle.xc_record.specs.declared.record.Kind.{Kind}
-use Rattle.xc_record.specs.declared.record.Kind.TheVariants.{Write, Intent, Apply, Abort, Safe, Split}
-use Rattle.xc_record.specs.declared.record.Op.{Op}
 use Rattle.xc_record.specs.declared.record.Record.{Record}
 use Rattle.xc_record.specs.declared.record.Logs.{Logs}
-use Rattle.xc_record.specs.Hash.{hash_of, holds}
-use Rattle.xc_record.specs.Headers.{headers_fit, children}
-use Rattle.xc_record.specs.Valid.{is_valid, headers_of, split_fits}
+use Rattle.xc_record.specs.Order.{is_split}
+use Rattle.xc_record.specs.Headers.{are_headers, children}
+use Rattle.xc_record.specs.Valid.{is_valid, headers_of, keeps_header}
 
 abbrev pub fetched : List Record → ℕ → ℕ → List Record
 fetched records from max = take max (drop (from - 1) records)
@@ -23,16 +21,8 @@ fetched records from max = take max (drop (from - 1) records)
 abbrev pub fetched_count : ℕ → ℕ → ℕ → ℕ
 fetched_count count from max = min max (count - (from - 1))
 
-abbrev pub ops_keep : Header → List Op → Bool
-ops_keep header ops = nat_le (length ops) 64 && list_all (λ op. holds header (hash_of op.key)) ops
-
 abbrev pub kind_keeps : Header → Option (Header × Header) → Bool → Kind → Bool
-kind_keeps header pair ends (Write ops) = not ends && ops_keep header ops
-kind_keeps header pair ends (Intent txn ops) = not ends && ops_keep header ops
-kind_keeps header pair ends (Apply txn commit) = not ends
-kind_keeps header pair ends (Abort txn) = not ends
-kind_keeps header pair ends (Safe value) = not ends
-kind_keeps header pair ends (Split at left right) = ends && split_fits pair at left right
+kind_keeps header pair ends kind = beq (is_split kind) ends && keeps_header header pair kind
 
 -- the records from this number on, of `count` in all, keep the header
 abbrev pub keep_from : Header → Option (Header × Header) → ℕ → ℕ → List Record → Bool
@@ -53,7 +43,7 @@ pub record AreOf (logs : Logs) (headers : List Header) (counts : List ℕ) : Typ
   pub counts_are : counts ≡ counts_of logs
 
 pub record IsFeed (headers : List Header) (counts : List ℕ) (logs : Option Logs) : Type 0 where
-  pub fit : IsTrue (headers_fit headers)
+  pub fit : IsTrue (are_headers headers)
   pub each : length counts ≡ length headers
   pub small : (id : ℕ) → slice_index counts id ≤ 2 ^ 20
   pub parents : (id : ℕ) → id < length headers → IsSome (children headers id) → 1 ≤ slice_index counts id

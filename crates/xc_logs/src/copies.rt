@@ -3,7 +3,7 @@ ghost use Rattle.std.specs.Prelude.{◌≡◌, ◌≤◌, IfOk};
 ghost use Rattle.xc_logs.specs.Feed.{fetched};
 
 use std::alloc::{AllocError, Global};
-use xc_record::{Kind, Op, Ops, Record, Records};
+use xc_record::{Kind, Record, Records};
 
 // The records from the number `from` on, at most `max` of them.
 pub(crate) fn part(records: &[Record], from: u64, max: u64) -> &[Record]
@@ -31,15 +31,21 @@ fn copy_of(alloc: Global, rec: &Record) -> Result<Record, AllocError>
 {
     let kind = match &rec.kind {
         Kind::Write { ops } => Kind::Write {
-            ops: copied_ops(alloc, ops.as_slice())?,
+            ops: ops.clone_in(alloc)?,
         },
-        Kind::Intent { txn, ops } => Kind::Intent {
+        Kind::Intent { txn, sub, ops } => Kind::Intent {
             txn: *txn,
-            ops: copied_ops(alloc, ops.as_slice())?,
+            sub: *sub,
+            ops: ops.clone_in(alloc)?,
         },
-        Kind::Apply { txn, commit } => Kind::Apply {
+        Kind::Apply {
+            txn,
+            commit,
+            without,
+        } => Kind::Apply {
             txn: *txn,
             commit: *commit,
+            without: without.copied(),
         },
         Kind::Abort { txn } => Kind::Abort { txn: *txn },
         Kind::Safe { value } => Kind::Safe { value: *value },
@@ -53,10 +59,4 @@ fn copy_of(alloc: Global, rec: &Record) -> Result<Record, AllocError>
         time: rec.time,
         kind,
     })
-}
-
-fn copied_ops(alloc: Global, ops: &[Op]) -> Result<Ops, AllocError>
-    ensures { IfOk result (λ copy. copy ≡ ops.now) }
-{
-    Ok(Ops::from_vec(Vec::from_slice(alloc, ops)?))
 }

@@ -32,7 +32,8 @@ pub trait Feed {
     ghost faults: { Self → ℕ };
 
     /// Gives the records of a tablet from the number `from` on, at most `max` of them: none exactly past the end. They are
-    /// those of the logs, where these are told. `Failed` comes only where the count of faults rose.
+    /// those of the logs, where these are told. `Failed` comes only where the count of faults rose, and with any other
+    /// answer the count is as before.
     fn fetch(&mut self, alloc: Global, id: u32, from: u64, max: u64) -> Result<Records, FeedFail>
         requires tablet { id < length (headers self.old) }
         requires from_first { 1 ≤ from }
@@ -44,8 +45,9 @@ pub trait Feed {
         ensures same_counts { counts self.new ≡ counts self.old }
         ensures same_logs { logs self.new ≡ logs self.old }
         ensures later { faults self.old ≤ faults self.new }
-        ensures failed { IsErrOf result FeedFail.Failed → Rose (faults self.old) (faults self.new) };
+        ensures failed { IsErrOf result FeedFail.Failed → Rose (faults self.old) (faults self.new) }
+        ensures quiet { ¬ IsErrOf result FeedFail.Failed → faults self.new ≡ faults self.old };
 
-    /// The headers fit, a tablet has at most 2^20 records, one with children has some, and the logs agree with both.
+    /// There are at most 64 headers, which fit, a tablet has at most 2^20 records, one with children has some, and the logs agree with both.
     ghost shape: { (feed : Self) → IsFeed (headers feed) (counts feed) (logs feed) };
 }

@@ -1,19 +1,18 @@
 -- One more record of a tablet.
 use Rattle.std.proofs.Common.{◌≡◌, ℕ, ◌<◌, List, [], ◌∷◌, ◌++◌, ap, sym, ◌∙◌, append_assoc, append-nil}
-use Rattle.std.specs.List.{filter}
 use Rattle.xc_model.proofs.StableSort.{Each}
-use Rattle.xc_record.specs.Path.{Event, Put, Hold, Apply, Abort, Safe, Version, Waiting, waiting}
-use Rattle.xc_model.specs.Kept.{is_of, kept_from, Kept, step, steps}
-use Rattle.xc_model.proofs.Paths.{ordered, IsNumbered, shown}
-use Rattle.xc_model.proofs.ApplyPath.{ordered-put, ordered-hold, ordered-apply, ordered-abort, ordered-safe, waiting-put, waiting-hold, waiting-apply, waiting-abort, waiting-safe}
-use Rattle.xc_model.proofs.Keep.{kept_from-put_after, kept_from-add_all}
+use Rattle.xc_record.specs.Path.{Event, Put, Hold, Apply, Abort, Safe, Version, Waiting, versions, waiting}
+use Rattle.xc_record.specs.Kept.{kept_from, Kept, step, steps}
+use Rattle.xc_model.proofs.Paths.{IsNumbered, shown}
+use Rattle.xc_model.proofs.ApplyPath.{taken_of, versions-put, versions-hold, versions-apply, versions-abort, versions-safe, waiting-put, waiting-hold, waiting-apply, waiting-abort, waiting-safe}
+use Rattle.xc_model.proofs.Keep.{kept_from-add, kept_from-add_all}
 use Rattle.xc_record.proofs.ListLaws.{Each-append}
 
 -- what an event adds commits after the cutoff
 abbrev pub AddsAfter : ℕ → Event → Type 0
 AddsAfter u (Put time v) = u < time
-AddsAfter u (Hold n time v) = Unit {0}
-AddsAfter u (Apply n c) = u < c
+AddsAfter u (Hold n sub time v) = Unit {0}
+AddsAfter u (Apply n c without) = u < c
 AddsAfter u (Abort n) = Unit {0}
 AddsAfter u (Safe v) = Unit {0}
 
@@ -23,11 +22,11 @@ kept vs ws hs gs e f = ap (λ (w : List Version). let x : Kept = record { versio
 pub shown-push : (u : ℕ) (es : List Event) (e : Event) → Each IsNumbered es → AddsAfter u e → shown u (es ++ e ∷ []) ≡ step e (shown u es)
 shown-push u es (Put time v) g h =
     let x : Version = record { commit = time; txn = 0; value = v } in
-    kept _ _ _ _ (ap (kept_from u) (ordered-put es time v) ∙ kept_from-put_after u x (ordered es) h) (waiting-put es time v)
-shown-push u es (Hold n time v) g h = kept _ _ _ _ (ap (kept_from u) (ordered-hold es n time v)) (waiting-hold es n time v)
-shown-push u es (Apply n c) g h = kept _ _ _ _ (ap (kept_from u) (ordered-apply n c es g) ∙ kept_from-add_all u c (filter (is_of n) (waiting es)) (ordered es) h) (waiting-apply es n c)
-shown-push u es (Abort n) g h = kept _ _ _ _ (ap (kept_from u) (ordered-abort es n)) (waiting-abort es n)
-shown-push u es (Safe v) g h = kept _ _ _ _ (ap (kept_from u) (ordered-safe es v)) (waiting-safe es v)
+    kept _ _ _ _ (ap (kept_from u) (versions-put es time v) ∙ kept_from-add u x (versions es) h) (waiting-put es time v)
+shown-push u es (Hold n sub time v) g h = kept _ _ _ _ (ap (kept_from u) (versions-hold es n sub time v)) (waiting-hold es n sub time v)
+shown-push u es (Apply n c without) g h = kept _ _ _ _ (ap (kept_from u) (versions-apply n c without es g) ∙ kept_from-add_all u c (taken_of n without (waiting es)) (versions es) h) (waiting-apply es n c without)
+shown-push u es (Abort n) g h = kept _ _ _ _ (ap (kept_from u) (versions-abort es n)) (waiting-abort es n)
+shown-push u es (Safe v) g h = kept _ _ _ _ (ap (kept_from u) (versions-safe es v)) (waiting-safe es v)
 
 pub shown-append : (u : ℕ) (es fs : List Event) → Each IsNumbered es → Each IsNumbered fs → Each (AddsAfter u) fs → shown u (es ++ fs) ≡ steps fs (shown u es)
 shown-append u es [] g q h = ap (shown u) (append-nil es)

@@ -1,11 +1,13 @@
 -- One more record of a source tablet keeps a target tablet standing.
 use Rattle.xc_model.proofs.FromCases.{numbered-above}
-use Rattle.std.proofs.Common.{◌≡◌, ◌≢◌, ◌==◌, ℕ, zero, suc, ◌+◌, ◌<◌, ◌≤◌, max, Bool, true, false, cond, List, [], ◌∷◌, ◌++◌, map, take, drop, length, Option, Some, None, refl, ap, sym, ◌∙◌, arith, subst, zero-add, ◌⊎◌, inl, inr, ⊎_elim}
-use Rattle.std.specs.Prelude.{fold, ◌&&◌, nat_le, slice_get, slice_index, slice_index_or, slice_set, if◌then◌else◌}
+use Rattle.std.proofs.Common.{◌≡◌, ◌≢◌, ◌==◌, ℕ, zero, suc, ◌+◌, ◌<◌, ◌≤◌, max, Bool, true, false, cond, List, [], ◌∷◌, ◌++◌, take, drop, length, Option, Some, None, refl, ap, sym, ◌∙◌, arith, subst, ◌⊎◌, inl, inr, ⊎_elim}
+use Rattle.std.specs.Prelude.{fold, ◌&&◌, ◌||◌, ◌-◌, option_map, nat_le, slice_get, slice_index, slice_set, if◌then◌else◌}
 use Rattle.std.specs.Option.{option_map_or}
 use Rattle.std.proofs.lemmas.Bool.{cases_Bool, cases_eq, and_parts, eqb-true, eq-eqb, true≢false}
 use Rattle.std.proofs.lemmas.List.{get_or-set_same, get_or-set_other, length-set, length-append, length-map, nil_from_length}
-use Rattle.std.proofs.lemmas.Option.{same_Some, none-some, slice_get_within}
+use Rattle.std.proofs.lemmas.Option.{same_Some, slice_get_within, slice_get-map}
+use Rattle.std.proofs.Math.Seq.{drop-nil}
+use Rattle.std.proofs.lemmas.List.Sums.{fold-append}
 use Rattle.xc_record.specs.declared.record.Kind.{Kind}
 use Rattle.xc_record.specs.declared.record.Kind.TheVariants as log
 use Rattle.xc_record.specs.declared.record.Header.{Header}
@@ -17,44 +19,33 @@ use Rattle.xc_record.specs.Order.{Progress, is_split, accepted_from}
 use Rattle.xc_record.specs.Order.{after as step_order}
 use Rattle.xc_record.specs.Accepted.{AcceptedTablet, accepted_tablets, accepted}
 use Rattle.xc_record.specs.Path.{record_events}
-use Rattle.xc_record.specs.SafeTime.{place, floor_after, last_safe_in, is_closed_in, is_closed as closed_at, safe_time, StartsAfter, IsPlaces}
+use Rattle.xc_record.specs.SafeTime.{place, order_at, last_safe_in, is_closed_in, is_closed as closed_at, is_started, safe_time, StartsAfter, IsPlaces}
 use Rattle.xc_record.specs.Valid.{headers_of, kind_fits, split_fits}
 use Rattle.xc_record.specs.Headers.{children}
 use Rattle.xc_record.proofs.HeaderLaws.{Numbered}
 use Rattle.xc_record.proofs.AcceptedLaws.{IsGrown, accepted_tablets-grown}
-use Rattle.xc_model.specs.Kept.{steps}
-use Rattle.xc_model.specs.Stands.{TargetTablet, in_range, kept_at, is_started, KeepsTablet, StandsFor, closed_after, safe_after, TakesIn, has_started}
+use Rattle.xc_record.specs.Kept.{steps}
+use Rattle.xc_model.specs.Floors.{Floors, FloorFor, has_closed, starts, has_started, floors_after}
+use Rattle.xc_model.specs.Stands.{TargetTablet, in_range, kept_at, given_at, StandsFor, TakesIn, TakesAll, past}
 use Rattle.xc_model.specs.Laws.{DeliveriesKeepStanding, BatchesKeepStanding}
 use Rattle.xc_model.proofs.StableSort.{Each, Exists}
-use Rattle.xc_model.proofs.Placed.{Placed, placed, more, floor_by, is_closed, safe, TabletsOf, Stands, after_record}
-use Rattle.xc_model.proofs.Chain.{Goes, order_after-parts}
-use Rattle.xc_model.proofs.Cover.{floor_after-append}
-use Rattle.xc_model.proofs.KeyRead.{goes-back}
-use Rattle.xc_model.proofs.Tree.{each-itself, each-at, ends-placed, Below, below-from}
-use Rattle.xc_model.proofs.SafeTime.{Begins, begins-from, begins-goes, floor-step}
-use Rattle.xc_model.proofs.ValidLogs.{IsBelow}
+use Rattle.xc_model.proofs.Along.{owns, floor_by}
+use Rattle.xc_model.proofs.Elements.{each-itself, each-at}
+use Rattle.xc_model.proofs.Tree.{get-tablet, closed-of}
+use Rattle.xc_model.proofs.ValidLogs.{KindNumbered}
 use Rattle.xc_record.specs.declared.rules.Next.TheVariants.{RootAt}
-use Rattle.xc_model.proofs.KeptSafe.{StartsFrom, starts-from}
-use Rattle.xc_model.proofs.FromRules.{heads, children-found}
-use Rattle.xc_model.proofs.FromValid.{rules-suffice, accepted-ends, accepted-numbered, kinds-fit, headers-fit, there-get}
+use Rattle.xc_model.proofs.FromRules.{children-found}
+use Rattle.xc_model.proofs.FromValid.{rules-suffice, kinds-fit, headers-fit, there-get}
 use Rattle.xc_model.proofs.Children.{IsOne, children-only}
 use Rattle.xc_model.proofs.SplitEnd.{last-split, no-split-end}
-use Rattle.xc_model.proofs.Bridge.{at_place, safe-time, legal-places, each-placed, each-unplaced, get-tablet, closed-of, given-shown}
-use Rattle.xc_model.proofs.DeliverRecord.{delivers, is-open, applied-is, applied-more}
-use Rattle.xc_model.proofs.FloorLaw.{get-id, closed-kept, heads-logs}
+use Rattle.xc_model.proofs.DeliverRecord.{is-open, applied-is, applied-more, within-more, given-more}
+use Rattle.xc_model.proofs.FloorLaw.{closed-kept}
+use Rattle.xc_model.proofs.Batches.{headers-kept, count-kept, others-kept, closed-by}
+use Rattle.xc_model.proofs.Parents.{get-id, heads, heads-logs, length-logs, UnderParent, get-under, each-numbered}
+use Rattle.xc_record.proofs.SafeLaws.{floor-take, safe_time-rises}
 use Rattle.xc_record.proofs.ListLaws.{Each-weaker}
-use Rattle.xc_model.proofs.Sorts.{exists-at}
 
 -- ---- lists
-
-placed-append : (cs bs : List AcceptedTablet) (ps : List ℕ) → placed (cs ++ bs) ps ≡ placed cs ps ++ placed bs ps
-placed-append [] bs ps = refl
-placed-append (c ∷ cs) bs ps = ap (λ w. at_place ps c ∷ w) (placed-append cs bs ps)
-
-placed-other : (s n : ℕ) (bs : List AcceptedTablet) (ps : List ℕ) → Each (λ d. d.header.id ≢ s) bs → placed bs (slice_set ps s n) ≡ placed bs ps
-placed-other s n [] ps h = refl
-placed-other s n (b ∷ bs) ps h =
-    ap (λ (p : ℕ). let x : Placed = record { tablet = b; place = p } in x ∷ placed bs (slice_set ps s n)) (get_or-set_other ps s b.header.id n 0 h.0) ∙ ap (λ w. at_place ps b ∷ w) (placed-other s n bs ps h.1)
 
 numbered-mid : (n : ℕ) (before : List AcceptedTablet) (b : AcceptedTablet) (after : List AcceptedTablet) → Numbered n (heads (before ++ b ∷ after)) → b.header.id ≡ n + length before
 numbered-mid n [] b after m = (let q = m.0 in omega arith)
@@ -66,9 +57,6 @@ apart-ids n (d ∷ before) b after m =
     let rest = apart-ids (n + 1) before b after m.1 in
     let high : b.header.id ≡ n + 1 + length before = numbered-mid (n + 1) before b after m.1 in
     (((λ e. let q = m.0 in let z : ⊥ = omega arith in z), rest.0), rest.1)
-
-pub get-is : (bs : List AcceptedTablet) (i : ℕ) (b : AcceptedTablet) → Numbered 0 (heads bs) → slice_get bs i ≡ Some b → b.header.id ≡ i
-get-is bs i b m e = get-id 0 bs i b m e ∙ zero-add i
 
 same-header : (hs : List Header) (h l : Header) → Numbered 0 hs → Exists (λ d. d ≡ h) hs → Exists (λ d. d ≡ l) hs → h.id ≡ l.id → h ≡ l
 same-header hs h l m i j e = same_Some h l (sym (there-get hs h m i) ∙ ap (slice_get hs) e ∙ there-get hs l m j)
@@ -83,8 +71,8 @@ exists-header (b ∷ bs) d i = ⊎_elim (λ e. inl (ap (λ (w : AcceptedTablet).
 
 split-kind : (k : Kind) → is_split k ≡ true → (a : ℕ) × ((left : ℕ) × ((right : ℕ) × (k ≡ log.Split a left right)))
 split-kind (log.Write ops) e = cc
-split-kind (log.Intent n ops) e = cc
-split-kind (log.Apply n c) e = cc
+split-kind (log.Intent n sub ops) e = cc
+split-kind (log.Apply n c without) e = cc
 split-kind (log.Abort n) e = cc
 split-kind (log.Safe v) e = cc
 split-kind (log.Split a left right) e = (a, (left, (right, refl)))
@@ -108,94 +96,65 @@ parent-is : (q : Option ℕ) (s : ℕ) → (q ≡ Some s) ⊎ (q ≡ Some s → 
 parent-is None s = inr (λ e. cc)
 parent-is (Some p) s = ⊎_elim (λ e. inl (ap Some e)) (λ n. inr (λ e. n (let w : p ≡ s = cc in w))) (cases_eq p s)
 
-as-split : (c : Bool) → cond c true false ≡ c
-as-split true = refl
-as-split false = refl
+-- ---- what is kept of the source tablets becomes
 
--- ---- what the parts of a target tablet become
-
-closed-other : (s : ℕ) (kind : Kind) (closed : List Bool) (i : ℕ) → i ≢ s → slice_index_or (closed_after s kind closed) i false ≡ slice_index_or closed i false
-closed-other s (log.Write ops) closed i h = refl
-closed-other s (log.Intent n ops) closed i h = refl
-closed-other s (log.Apply n c) closed i h = refl
-closed-other s (log.Abort n) closed i h = refl
-closed-other s (log.Safe v) closed i h = refl
-closed-other s (log.Split at left right) closed i h = get_or-set_other closed s i true false h
-
-closed-mine : (s : ℕ) (kind : Kind) (closed : List Bool) → s < length closed → slice_index_or (closed_after s kind closed) s false ≡ cond (is_split kind) true (slice_index_or closed s false)
-closed-mine s (log.Write ops) closed h = refl
-closed-mine s (log.Intent n ops) closed h = refl
-closed-mine s (log.Apply n c) closed h = refl
-closed-mine s (log.Abort n) closed h = refl
-closed-mine s (log.Safe v) closed h = refl
-closed-mine s (log.Split at left right) closed h = get_or-set_same closed s true false h
-
-closed-count : (s : ℕ) (kind : Kind) (closed : List Bool) → length (closed_after s kind closed) ≡ length closed
-closed-count s (log.Write ops) closed = refl
-closed-count s (log.Intent n ops) closed = refl
-closed-count s (log.Apply n c) closed = refl
-closed-count s (log.Abort n) closed = refl
-closed-count s (log.Safe v) closed = refl
-closed-count s (log.Split at left right) closed = length-set closed s true
-
-safe-count : (s : ℕ) (kind : Kind) (safe : List ℕ) → length (safe_after s kind safe) ≡ length safe
-safe-count s (log.Write ops) safe = refl
-safe-count s (log.Intent n ops) safe = refl
-safe-count s (log.Apply n c) safe = refl
-safe-count s (log.Abort n) safe = refl
-safe-count s (log.Safe v) safe = length-set safe s (max (slice_index safe s) v)
-safe-count s (log.Split at left right) safe = length-set (slice_set safe left (slice_index safe s)) right (slice_index safe s) ∙ length-set safe left (slice_index safe s)
+safe-count : (s : ℕ) (kind : Kind) (f : Floors) → length (floors_after s kind f).safe ≡ length f.safe
+safe-count s (log.Write ops) f = refl
+safe-count s (log.Intent n sub ops) f = refl
+safe-count s (log.Apply n c without) f = refl
+safe-count s (log.Abort n) f = refl
+safe-count s (log.Safe v) f = length-set f.safe s (max (slice_index f.safe s) v)
+safe-count s (log.Split at left right) f = length-set (slice_set f.safe left (slice_index f.safe s)) right (slice_index f.safe s) ∙ length-set f.safe left (slice_index f.safe s)
 
 -- where no split comes, only the tablet's own value changes
-safe-other : (s : ℕ) (kind : Kind) (safe : List ℕ) (i : ℕ) → is_split kind ≡ false → i ≢ s → slice_index (safe_after s kind safe) i ≡ slice_index safe i
-safe-other s (log.Write ops) safe i n h = refl
-safe-other s (log.Intent m ops) safe i n h = refl
-safe-other s (log.Apply m c) safe i n h = refl
-safe-other s (log.Abort m) safe i n h = refl
-safe-other s (log.Safe v) safe i n h = get_or-set_other safe s i (max (slice_index safe s) v) 0 h
-safe-other s (log.Split at left right) safe i n h = cc
+safe-other : (s : ℕ) (kind : Kind) (f : Floors) (i : ℕ) → is_split kind ≡ false → i ≢ s → slice_index (floors_after s kind f).safe i ≡ slice_index f.safe i
+safe-other s (log.Write ops) f i n h = refl
+safe-other s (log.Intent m sub ops) f i n h = refl
+safe-other s (log.Apply m c without) f i n h = refl
+safe-other s (log.Abort m) f i n h = refl
+safe-other s (log.Safe v) f i n h = get_or-set_other f.safe s i (max (slice_index f.safe s) v) 0 h
+safe-other s (log.Split at left right) f i n h = cc
 
 -- a split changes the values of the two children alone
-safe-apart : (s left right : ℕ) (safe : List ℕ) (i : ℕ) → i ≢ left → i ≢ right → slice_index (slice_set (slice_set safe left (slice_index safe s)) right (slice_index safe s)) i ≡ slice_index safe i
-safe-apart s left right safe i a b = get_or-set_other (slice_set safe left (slice_index safe s)) right i (slice_index safe s) 0 b ∙ get_or-set_other safe left i (slice_index safe s) 0 a
+safe-apart : (value left right : ℕ) (safe : List ℕ) (i : ℕ) → i ≢ left → i ≢ right → slice_index (slice_set (slice_set safe left value) right value) i ≡ slice_index safe i
+safe-apart value left right safe i a b = get_or-set_other (slice_set safe left value) right i value 0 b ∙ get_or-set_other safe left i value 0 a
 
-safe-child : (s left right : ℕ) (safe : List ℕ) (i : ℕ) → i < length safe → (i ≡ left) ⊎ (i ≡ right) → slice_index (slice_set (slice_set safe left (slice_index safe s)) right (slice_index safe s)) i ≡ slice_index safe s
-safe-child s left right safe i h e =
-    let v = slice_index safe s in
-    let one = slice_set safe left v in
-    let right-is : i ≡ right → slice_index (slice_set one right v) i ≡ v = λ q. subst (λ (w : ℕ). slice_index (slice_set one w v) i ≡ v) q (get_or-set_same one i v 0 (let l : length one ≡ length safe = length-set safe left v in omega arith)) in
+safe-child : (value left right : ℕ) (safe : List ℕ) (i : ℕ) → i < length safe → (i ≡ left) ⊎ (i ≡ right) → slice_index (slice_set (slice_set safe left value) right value) i ≡ value
+safe-child value left right safe i h e =
+    let one = slice_set safe left value in
+    let right-is : i ≡ right → slice_index (slice_set one right value) i ≡ value = λ q. subst (λ (w : ℕ). slice_index (slice_set one w value) i ≡ value) q (get_or-set_same one i value 0 (let l : length one ≡ length safe = length-set safe left value in omega arith)) in
     ⊎_elim right-is
-    (λ n. ⊎_elim (λ q. get_or-set_other one right i v 0 n ∙ subst (λ (w : ℕ). slice_index (slice_set safe w v) i ≡ v) q (get_or-set_same safe i v 0 h)) (λ q. right-is q) e) (cases_eq i right)
+    (λ n. ⊎_elim (λ q. get_or-set_other one right i value 0 n ∙ subst (λ (w : ℕ). slice_index (slice_set safe w value) i ≡ value) q (get_or-set_same safe i value 0 h)) (λ q. right-is q) e) (cases_eq i right)
 
 -- the tablet's own value follows its last safe value
-safe-mine : (s : ℕ) (kind : Kind) (safe : List ℕ) (f : ℕ) → s < length safe → slice_index safe s ≡ f → f ≤ floor_by f kind → ((at left right : ℕ) → kind ≡ log.Split at left right → (s ≢ left) × (s ≢ right)) → slice_index (safe_after s kind safe) s ≡ floor_by f kind
-safe-mine s (log.Write ops) safe f l e h n = e
-safe-mine s (log.Intent m ops) safe f l e h n = e
-safe-mine s (log.Apply m c) safe f l e h n = e
-safe-mine s (log.Abort m) safe f l e h n = e
-safe-mine s (log.Safe v) safe f l e h n = get_or-set_same safe s (max (slice_index safe s) v) 0 l ∙ (let q : f ≤ v = h in omega arith)
-safe-mine s (log.Split at left right) safe f l e h n = let k = n at left right refl in safe-apart s left right safe s k.0 k.1 ∙ e
+safe-mine : (s : ℕ) (kind : Kind) (f : Floors) (value : ℕ) → s < length f.safe → slice_index f.safe s ≡ value → value ≤ floor_by value kind → ((at left right : ℕ) → kind ≡ log.Split at left right → (s ≢ left) × (s ≢ right)) → slice_index (floors_after s kind f).safe s ≡ floor_by value kind
+safe-mine s (log.Write ops) f value l e h n = e
+safe-mine s (log.Intent m sub ops) f value l e h n = e
+safe-mine s (log.Apply m c without) f value l e h n = e
+safe-mine s (log.Abort m) f value l e h n = e
+safe-mine s (log.Safe v) f value l e h n = get_or-set_same f.safe s (max (slice_index f.safe s) v) 0 l ∙ (let q : value ≤ v = h in omega arith)
+safe-mine s (log.Split at left right) f value l e h n = let k = n at left right refl in safe-apart (slice_index f.safe s) left right f.safe s k.0 k.1 ∙ e
 
 -- ---- a record of the tablet b, between those before and after it
 
 module _ (logs : Logs) (u : ℕ) (x y : TargetTablet) (before after : List AcceptedTablet) (b : AcceptedTablet) (front rest : List Record) (r : Record) (st : StandsFor logs u x) (is : accepted_tablets logs ≡ before ++ b ∷ after)
     (recs : b.records ≡ front ++ r ∷ rest) (at : length front ≡ slice_index x.places b.header.id) (up : is_started logs x.places b.header.parent ≡ true) (tk : TakesIn b.header.id r x y) where
   numbered : Numbered 0 (heads (before ++ b ∷ after))
-  numbered = subst (λ w. Numbered 0 (heads w)) is (accepted-numbered logs st.valid)
+  numbered = subst (λ w. Numbered 0 (heads w)) is (each-numbered logs st.valid)
 
   apart : Each (λ d. d.header.id ≢ b.header.id) before × Each (λ d. d.header.id ≢ b.header.id) after
   apart = apart-ids 0 before b after numbered
 
-  count : length x.headers ≡ length (before ++ b ∷ after)
-  count = ap length (st.headers ∙ sym (heads-logs logs st.valid)) ∙ length-map (accepted_tablets logs) (λ (d : AcceptedTablet). d.header) ∙ ap length is
+  count : length x.floors.headers ≡ length (before ++ b ∷ after)
+  count = ap length (st.floors.headers ∙ sym (heads-logs logs)) ∙ length-map (accepted_tablets logs) (λ (d : AcceptedTablet). d.header) ∙ ap length is
 
-  below-count : b.header.id < length x.headers
+  below-count : b.header.id < length x.floors.headers
   below-count = let q : b.header.id ≡ 0 + length before = numbered-mid 0 before b after numbered in let w = length-append before (b ∷ after) in let c = count in omega arith
 
   below-places : b.header.id < length x.places
   below-places =
       let q : length x.places ≡ length logs.tablets = st.places.count in
-      let w : length x.headers ≡ length logs.tablets = ap length st.headers ∙ length-map logs.tablets (λ (t : Tablet). t.header) in
+      let w : length x.floors.headers ≡ length logs.tablets = ap length st.floors.headers ∙ length-map logs.tablets (λ (t : Tablet). t.header) in
       let c = below-count in omega arith
 
   place-mine : slice_index y.places b.header.id ≡ slice_index x.places b.header.id + 1
@@ -204,19 +163,9 @@ module _ (logs : Logs) (u : ℕ) (x y : TargetTablet) (before after : List Accep
   place-other : (i : ℕ) → i ≢ b.header.id → slice_index y.places i ≡ slice_index x.places i
   place-other i h = ap (λ w. slice_index w i) tk.places ∙ get_or-set_other x.places b.header.id i (slice_index x.places b.header.id + 1) 0 h
 
-  placed-old : placed (accepted_tablets logs) x.places ≡ placed before x.places ++ at_place x.places b ∷ placed after x.places
-  placed-old = ap (λ w. placed w x.places) is ∙ placed-append before (b ∷ after) x.places
-
-  placed-new : placed (accepted_tablets logs) y.places ≡ placed before x.places ++ more (at_place x.places b) ∷ placed after x.places
-  placed-new =
-      ap (λ w. placed w y.places) is ∙ placed-append before (b ∷ after) y.places
-      ∙ ap (λ w. w ++ at_place y.places b ∷ placed after y.places) (ap (placed before) tk.places ∙ placed-other b.header.id (slice_index x.places b.header.id + 1) before x.places apart.0)
-      ∙ ap (λ (p : ℕ). placed before x.places ++ (let z : Placed = record { tablet = b; place = p } in z) ∷ placed after y.places) place-mine
-      ∙ ap (λ w. placed before x.places ++ more (at_place x.places b) ∷ w) (ap (placed after) tk.places ∙ placed-other b.header.id (slice_index x.places b.header.id + 1) after x.places apart.1)
-
   -- b was open
   was-open : is_closed_in x.places b ≡ false
-  was-open = is-open (at_place x.places b) front rest r recs at
+  was-open = is-open x.places b front rest r recs at
 
   there : Exists (λ d. d ≡ b) (accepted_tablets logs)
   there = subst (Exists (λ d. d ≡ b)) (sym is) (mid before)
@@ -226,10 +175,10 @@ module _ (logs : Logs) (u : ℕ) (x y : TargetTablet) (before after : List Accep
       mid (d ∷ ds) = inr (mid ds)
 
   closed-b : closed_at logs x.places b.header.id ≡ false
-  closed-b = closed-of logs x.places b (accepted-numbered logs st.valid) there ∙ was-open
+  closed-b = closed-of logs x.places b (each-numbered logs st.valid) there ∙ was-open
 
   get-b : slice_get (accepted_tablets logs) b.header.id ≡ Some b
-  get-b = get-tablet (accepted_tablets logs) b (accepted-numbered logs st.valid) there
+  get-b = get-tablet (accepted_tablets logs) b (each-numbered logs st.valid) there
 
   closed-elsewhere : (p : ℕ) → p ≢ b.header.id → closed_at logs y.places p ≡ closed_at logs x.places p
   unfolding closed_at
@@ -237,61 +186,62 @@ module _ (logs : Logs) (u : ℕ) (x y : TargetTablet) (before after : List Accep
     where
       go : (o : Option AcceptedTablet) → slice_get (accepted_tablets logs) p ≡ o → option_map_or (is_closed_in y.places) o false ≡ option_map_or (is_closed_in x.places) o false
       go None e = refl
-      go (Some d) e = ap (λ n. (n == length d.records) && d.end.split) (place-other d.header.id (λ q. h (sym (get-is (accepted_tablets logs) p d (accepted-numbered logs st.valid) e) ∙ q)))
+      go (Some d) e = ap (λ n. (n == length d.records) && d.end.split) (place-other d.header.id (λ q. h (sym (get-id logs p d st.valid e) ∙ q)))
 
-  -- what the proofs show of x
-  within : ℕ → Bool
-  within h = nat_le x.lo h && nat_le h x.hi
-
-  stands-old : Stands within u (placed before x.places ++ at_place x.places b ∷ placed after x.places) (kept_at x)
-  unfolding within
-  stands-old = subst (λ w. Stands within u w (kept_at x)) placed-old (record {
-    legal = legal-places logs x.places st.valid st.places;
-    cutoff = (let q : u ≤ safe_time logs x.places = st.covered in let e = safe-time logs x.places in omega arith);
-    shows = λ k q. st.keys k q ∙ given-shown logs u x.places k;
-  })
-
-  parents : Each (λ z. b.header.parent ≡ Some z.tablet.header.id → is_closed z ≡ true) (placed before x.places ++ at_place x.places b ∷ placed after x.places)
-  parents = subst (Each (λ (z : Placed). b.header.parent ≡ Some z.tablet.header.id → is_closed z ≡ true)) placed-old
-      (each-placed (λ z. b.header.parent ≡ Some z.tablet.header.id → is_closed z ≡ true) (accepted_tablets logs) x.places
-      (each-itself (λ d. b.header.parent ≡ Some d.header.id → is_closed_in x.places d ≡ true) (accepted_tablets logs) (λ d i e. sym (closed-of logs x.places d (accepted-numbered logs st.valid) i) ∙ subst (λ w. is_started logs x.places w ≡ true) e up)))
-
-  header-b : slice_get x.headers b.header.id ≡ Some b.header
-  header-b = subst (λ w. slice_get w b.header.id ≡ Some b.header) (heads-logs logs st.valid ∙ sym st.headers) (there-get (heads (accepted_tablets logs)) b.header (accepted-numbered logs st.valid) (exists-head (accepted_tablets logs) there))
+  header-b : slice_get x.floors.headers b.header.id ≡ Some b.header
+  header-b = subst (λ w. slice_get w b.header.id ≡ Some b.header) (heads-logs logs ∙ sym st.floors.headers) (there-get (heads (accepted_tablets logs)) b.header (each-numbered logs st.valid) (exists-head (accepted_tablets logs) there))
     where
       exists-head : (ds : List AcceptedTablet) → Exists (λ d. d ≡ b) ds → Exists (λ h. h ≡ b.header) (heads ds)
       exists-head [] i = absurd i
       exists-head (d ∷ ds) i = ⊎_elim (λ e. inl (ap (λ (w : AcceptedTablet). w.header) e)) (λ j. inr (exists-head ds j)) i
 
-  effect : (k : List ℕ) → within (hash_of k) ≡ true → kept_at y k ≡ after_record b.header r (kept_at x) k
-  unfolding within
+  effect : (k : List ℕ) → in_range x k ≡ true → kept_at y k ≡ cond (owns (hash_of k) b.header) (steps (record_events k r) (kept_at x k)) (kept_at x k)
   effect k q = tk.keys k q ∙ ap (λ o. if option_map_or (λ h. holds h (hash_of k)) o false then steps (record_events k r) (kept_at x k) else kept_at x k) header-b
 
-  tablets-of : TabletsOf logs.tablets (placed before x.places ++ at_place x.places b ∷ placed after x.places)
-  tablets-of = ap (map (λ (z : Placed). z.tablet)) (sym placed-old) ∙ ends-placed (accepted_tablets logs) x.places ∙ accepted-ends logs st.valid
+  kind-numbered : KindNumbered r.kind
+  kind-numbered = mid front (subst (Each (λ r. KindNumbered r.kind)) recs (each-at (λ e. Each (λ r. KindNumbered r.kind) e.records) (accepted_tablets logs) b (rules-suffice logs st.valid).numbered there))
+    where
+      mid : (fs : List Record) → Each (λ r. KindNumbered r.kind) (fs ++ r ∷ rest) → KindNumbered r.kind
+      mid [] h = h.0
+      mid (f ∷ fs) h = mid fs h.1
 
-  stands-new : Stands within u (placed (accepted_tablets logs) y.places) (kept_at y)
-  stands-new = subst (λ w. Stands within u w (kept_at y)) (sym placed-new)
-      (delivers logs.tablets within u (placed before x.places) (placed after x.places) (at_place x.places b) front rest r (kept_at x) (kept_at y) (rules-suffice logs st.valid) tablets-of recs at parents effect stands-old)
+  given : (k : List ℕ) → given_at logs u y.places k ≡ cond (owns (hash_of k) b.header) (steps (record_events k r) (given_at logs u x.places k)) (given_at logs u x.places k)
+  given k = given-more logs x.places y.places u before after b front rest r st.valid st.places st.covered is recs at there kind-numbered place-mine
+      (Each-weaker (λ d. d.header.id ≢ b.header.id) (λ d. place y.places d ≡ place x.places d) (λ d n. place-other d.header.id n) before apart.0)
+      (Each-weaker (λ d. d.header.id ≢ b.header.id) (λ d. place y.places d ≡ place x.places d) (λ d n. place-other d.header.id n) after apart.1) k
 
   -- ---- the places
 
-  starts-new : (d : AcceptedTablet) (q : Option ℕ) → Exists (λ e. e ≡ d) (accepted_tablets logs) → d.header.parent ≡ q → StartsAfter logs x.places d q → StartsAfter logs y.places d q
-  starts-new d None i e s = tt
-  starts-new d (Some p) i e s = λ c.
-      let before-c : closed_at logs x.places p ≡ false = ⊎_elim (λ same. ap (closed_at logs x.places) same ∙ closed-b) (λ n. sym (closed-elsewhere p n) ∙ c) (cases_eq p b.header.id) in
+  -- what was started stays so
+  started-before : (q : Option ℕ) → is_started logs y.places q ≡ false → is_started logs x.places q ≡ false
+  started-before None e = e
+  started-before (Some p) e = ⊎_elim (λ same. ap (closed_at logs x.places) same ∙ closed-b) (λ n. sym (closed-elsewhere p n) ∙ e) (cases_eq p b.header.id)
+
+  starts-new : (d : AcceptedTablet) → Exists (λ e. e ≡ d) (accepted_tablets logs) → StartsAfter logs x.places d → StartsAfter logs y.places d
+  starts-new d i s c =
       ⊎_elim
       (λ same.
-      let is-b : d ≡ b = same_Some d b (sym (get-tablet (accepted_tablets logs) d (accepted-numbered logs st.valid) i) ∙ ap (slice_get (accepted_tablets logs)) same ∙ get-b) in
-      let up-d : is_started logs x.places d.header.parent ≡ true = subst (λ (w : AcceptedTablet). is_started logs x.places w.header.parent ≡ true) (sym is-b) up in
-      absurd (true≢false (sym (subst (λ w. is_started logs x.places w ≡ true) e up-d) ∙ before-c)))
-      (λ n. place-other d.header.id n ∙ s before-c) (cases_eq d.header.id b.header.id)
+      let is-b : d ≡ b = same_Some d b (sym (get-tablet (accepted_tablets logs) d (each-numbered logs st.valid) i) ∙ ap (slice_get (accepted_tablets logs)) same ∙ get-b) in
+      absurd (true≢false (sym (subst (λ (w : AcceptedTablet). is_started logs x.places w.header.parent ≡ true) (sym is-b) up) ∙ started-before d.header.parent c)))
+      (λ n. place-other d.header.id n ∙ s (started-before d.header.parent c)) (cases_eq d.header.id b.header.id)
+
+  within-new : (d : AcceptedTablet) → Exists (λ e. e ≡ d) (accepted_tablets logs) → place x.places d ≤ length d.records → place y.places d ≤ length d.records
+  within-new d i w =
+      ⊎_elim
+      (λ same.
+      let is-b : d ≡ b = same_Some d b (sym (get-tablet (accepted_tablets logs) d (each-numbered logs st.valid) i) ∙ ap (slice_get (accepted_tablets logs)) same ∙ get-b) in
+      subst (λ (w : AcceptedTablet). place y.places w ≤ length w.records) (sym is-b) (let a = place-mine in let c = within-more x.places b front rest r recs at in omega arith))
+      (λ n. let q = place-other d.header.id n in omega arith) (cases_eq d.header.id b.header.id)
+
+  -- no place falls
+  rises-each : (i : ℕ) → slice_index x.places i ≤ slice_index y.places i
+  rises-each i = ⊎_elim (λ e. subst (λ (n : ℕ). slice_index x.places n ≤ slice_index y.places n) (sym e) (let q = place-mine in omega arith)) (λ n. let q = place-other i n in omega arith) (cases_eq i b.header.id)
 
   places-new : IsPlaces logs y.places
   places-new = record {
     count = ap length tk.places ∙ length-set x.places b.header.id (slice_index x.places b.header.id + 1) ∙ st.places.count;
-    within = each-unplaced (λ z. z.place ≤ length z.tablet.records) (accepted_tablets logs) y.places stands-new.legal.within;
-    starts = each-itself (λ d. StartsAfter logs y.places d d.header.parent) (accepted_tablets logs) (λ d i. starts-new d d.header.parent i refl (each-at (λ d. StartsAfter logs x.places d d.header.parent) (accepted_tablets logs) d st.places.starts i));
+    within = each-itself (λ d. place y.places d ≤ length d.records) (accepted_tablets logs) (λ d i. within-new d i (each-at (λ d. place x.places d ≤ length d.records) (accepted_tablets logs) d st.places.within i));
+    starts = each-itself (StartsAfter logs y.places) (accepted_tablets logs) (λ d i. starts-new d i (each-at (StartsAfter logs x.places) (accepted_tablets logs) d st.places.starts i));
   }
 
   -- ---- the tablets
@@ -323,28 +273,22 @@ module _ (logs : Logs) (u : ℕ) (x y : TargetTablet) (before after : List Accep
           ap (λ o. o && b.end.split) e ∙ open_ ∙ sym f)
           (λ n. ap (λ o. o && b.end.split) n ∙ sym f) (cases_Bool (slice_index y.places b.header.id == length b.records))
 
-  keeps-b : KeepsTablet logs x b
-  keeps-b = each-at (KeepsTablet logs x) (accepted_tablets logs) b st.tablets there
+  keeps-b : FloorFor logs x.places x.floors b
+  keeps-b = each-at (FloorFor logs x.places x.floors) (accepted_tablets logs) b st.floors.each there
 
   applied-front : take (slice_index x.places b.header.id) b.records ≡ front
-  applied-front = applied-is (at_place x.places b) front rest r recs at
+  applied-front = applied-is x.places b front rest r recs at
 
-  old-safe : last_safe_in x.places b ≡ floor_after b.start.floor front
-  old-safe = ap (floor_after b.start.floor) applied-front
+  old-safe : last_safe_in x.places b ≡ (fold step_order b.start front).floor
+  old-safe = ap (λ rs. (fold step_order b.start rs).floor) applied-front
 
   new-safe : last_safe_in y.places b ≡ floor_by (last_safe_in x.places b) r.kind
   new-safe =
-      ap (λ n. floor_after b.start.floor (take n b.records)) place-mine ∙ ap (floor_after b.start.floor) (applied-more (at_place x.places b) front rest r recs at)
-      ∙ floor_after-append b.start.floor front (r ∷ []) ∙ ap (λ f. floor_by f r.kind) (sym old-safe)
-
-  begins : Begins b
-  begins = each-at Begins (accepted_tablets logs) b (subst (Each Begins) (sym (accepted-ends logs st.valid)) (begins-from [] logs.tablets tt)) there
+      ap (λ n. (order_at b n).floor) place-mine ∙ ap (λ rs. (fold step_order b.start rs).floor) (applied-more x.places b front rest r recs at)
+      ∙ ap (λ (p : Progress). p.floor) (fold-append step_order b.start front (r ∷ [])) ∙ ap (λ f. floor_by f r.kind) (sym old-safe)
 
   rises : last_safe_in x.places b ≤ floor_by (last_safe_in x.places b) r.kind
-  rises =
-      let goes : Goes b.start.floor begins.from.last (front ++ r ∷ rest) = subst (Goes b.start.floor begins.from.last) recs (begins-goes b begins) in
-      let next = goes-back b.start.floor begins.from.last front (r ∷ rest) goes in
-      subst (λ (f : ℕ). f ≤ floor_by f r.kind) (sym old-safe) (floor-step (floor_after b.start.floor front) r.time r.kind next.1)
+  rises = subst (λ (n : ℕ). last_safe_in x.places b ≤ n) (ap (λ n. (order_at b n).floor) (sym place-mine) ∙ new-safe) (floor-take b.start (place x.places b) (place x.places b + 1) b.records grown.in_order (omega arith))
 
   -- ---- the children that a split names
 
@@ -352,10 +296,10 @@ module _ (logs : Logs) (u : ℕ) (x y : TargetTablet) (before after : List Accep
   headers = headers_of logs.tablets
 
   numbered-headers : Numbered 0 (headers_of logs.tablets)
-  numbered-headers = subst (Numbered 0) (heads-logs logs st.valid) (accepted-numbered logs st.valid)
+  numbered-headers = subst (Numbered 0) (heads-logs logs) (each-numbered logs st.valid)
 
   header-there : (d : AcceptedTablet) → Exists (λ e. e ≡ d) (accepted_tablets logs) → Exists (λ h. h ≡ d.header) (headers_of logs.tablets)
-  header-there d i = subst (Exists (λ h. h ≡ d.header)) (heads-logs logs st.valid) (exists-header (accepted_tablets logs) d i)
+  header-there d i = subst (Exists (λ h. h ≡ d.header)) (heads-logs logs) (exists-header (accepted_tablets logs) d i)
 
   fits-b : kind_fits b.header (children (headers_of logs.tablets) b.header.id) r.kind ≡ true
   fits-b = each-mid front (subst (Each (λ r. kind_fits b.header (children (headers_of logs.tablets) b.header.id) r.kind ≡ true)) recs (each-at (λ e. Each (λ r. kind_fits e.header (children (headers_of logs.tablets) e.header.id) r.kind ≡ true) e.records) (accepted_tablets logs) b (kinds-fit logs st.valid) there))
@@ -372,28 +316,31 @@ module _ (logs : Logs) (u : ℕ) (x y : TargetTablet) (before after : List Accep
   child-parent left right n d i e =
       let c = children-found [] (RootAt 0) (headers_of logs.tablets) b.header.id n.l n.r tt (headers-fit logs st.valid) n.are in
       ⊎_elim
-      (λ q. ap (λ (w : Header). w.parent) (same-header (headers_of logs.tablets) d.header n.l numbered-headers (header-there d i) c.left_there (q ∙ n.is_left)) ∙ c.left.0)
-      (λ q. ap (λ (w : Header). w.parent) (same-header (headers_of logs.tablets) d.header n.r numbered-headers (header-there d i) c.right_there (q ∙ n.is_right)) ∙ c.right.0) e
-
-  below-b : Below b
-  below-b = each-at Below (accepted_tablets logs) b (subst (Each Below) (sym (accepted-ends logs st.valid)) (below-from [] logs.tablets (rules-suffice logs st.valid).grows tt)) there
+      (λ q. ap (λ (w : Header). w.parent) (same-header (headers_of logs.tablets) d.header n.l numbered-headers (header-there d i) c.left_there (q ∙ n.is_left)) ∙ c.left)
+      (λ q. ap (λ (w : Header). w.parent) (same-header (headers_of logs.tablets) d.header n.r numbered-headers (header-there d i) c.right_there (q ∙ n.is_right)) ∙ c.right) e
 
   not-own-child : b.header.parent ≡ Some b.header.id → ⊥
-  not-own-child e = let q : b.header.id < b.header.id = subst (λ w. IsBelow w b.header.id) e below-b in let z : ⊥ = omega arith in z
+  not-own-child e = let q : b.header.id < b.header.id = (get-under logs b.header.id b st.valid get-b b.header.id e).below in let z : ⊥ = omega arith in z
 
   not-child : (a left right : ℕ) → r.kind ≡ log.Split a left right → (b.header.id ≢ left) × (b.header.id ≢ right)
   not-child a left right e = ((λ q. not-own-child (child-parent left right (named a left right e) b there (inl q))), (λ q. not-own-child (child-parent left right (named a left right e) b there (inr q))))
 
-  below-closed : b.header.id < length x.closed
-  below-closed = let q : length x.closed ≡ length x.headers = st.counts.0 in let w = below-count in omega arith
+  below-closed : b.header.id < length x.floors.closed
+  below-closed = let q : length x.floors.closed ≡ length x.floors.headers = st.floors.closed in let w = below-count in omega arith
 
-  below-safe : b.header.id < length x.safe
-  below-safe = let q : length x.safe ≡ length x.headers = st.counts.1 in let w = below-count in omega arith
+  below-safe : b.header.id < length x.floors.safe
+  below-safe = let q : length x.floors.safe ≡ length x.floors.headers = st.floors.safe in let w = below-count in omega arith
 
-  keeps-mine : KeepsTablet logs y b
+  now-has : (i : ℕ) → has_closed y.floors i ≡ has_closed (floors_after b.header.id r.kind x.floors) i
+  now-has i = ap (λ (f : Floors). has_closed f i) tk.floors
+
+  now-value : (i : ℕ) → slice_index y.floors.safe i ≡ slice_index (floors_after b.header.id r.kind x.floors).safe i
+  now-value i = ap (λ (f : Floors). slice_index f.safe i) tk.floors
+
+  keeps-mine : FloorFor logs y.places y.floors b
   keeps-mine = record {
-    closed = ap (λ w. slice_index_or w b.header.id false) tk.closed ∙ closed-mine b.header.id r.kind x.closed below-closed ∙ ap (cond (is_split r.kind) true) (keeps-b.closed ∙ was-open) ∙ as-split (is_split r.kind) ∙ sym now-closed;
-    safe = λ _. ap (λ w. slice_index w b.header.id) tk.safe ∙ safe-mine b.header.id r.kind x.safe (last_safe_in x.places b) below-safe (keeps-b.safe up) rises not-child ∙ sym new-safe;
+    closed = now-has b.header.id ∙ closed-by b.header.id r.kind x.floors below-closed ∙ ap (λ c. c || is_split r.kind) (keeps-b.closed ∙ was-open) ∙ sym now-closed;
+    safe = λ _. now-value b.header.id ∙ safe-mine b.header.id r.kind x.floors (last_safe_in x.places b) below-safe (keeps-b.safe up) rises not-child ∙ sym new-safe;
   }
 
   -- ---- another tablet
@@ -403,91 +350,93 @@ module _ (logs : Logs) (u : ℕ) (x y : TargetTablet) (before after : List Accep
   started-elsewhere (Some p) n = closed-elsewhere p (λ e. n (ap Some e))
 
   closed-now : closed_at logs y.places b.header.id ≡ is_split r.kind
-  closed-now = closed-of logs y.places b (accepted-numbered logs st.valid) there ∙ now-closed
+  closed-now = closed-of logs y.places b (each-numbered logs st.valid) there ∙ now-closed
 
   started-same : is_split r.kind ≡ false → (q : Option ℕ) → is_started logs y.places q ≡ is_started logs x.places q
   started-same f None = refl
   started-same f (Some p) = ⊎_elim (λ e. ap (closed_at logs y.places) e ∙ closed-now ∙ f ∙ sym (ap (closed_at logs x.places) e ∙ closed-b)) (λ n. closed-elsewhere p n) (cases_eq p b.header.id)
 
   safe-same : (d : AcceptedTablet) → d.header.id ≢ b.header.id → last_safe_in y.places d ≡ last_safe_in x.places d
-  safe-same d n = ap (λ p. floor_after d.start.floor (take p d.records)) (place-other d.header.id n)
+  safe-same d n = ap (λ p. (order_at d p).floor) (place-other d.header.id n)
 
   -- a child of b begins where b ends
   child-floor : (d : AcceptedTablet) → Exists (λ e. e ≡ d) (accepted_tablets logs) → d.header.parent ≡ Some b.header.id → d.start.floor ≡ b.end.floor
   child-floor d i e =
-      let from : StartsFrom (accepted_tablets logs) d = each-at (StartsFrom (accepted_tablets logs)) (accepted_tablets logs) d (subst (λ w. Each (StartsFrom w) w) (sym (accepted-ends logs st.valid)) (starts-from [] logs.tablets (rules-suffice logs st.valid).grows tt)) i in
-      ⊎_elim (λ n. absurd (none-some b.header.id (sym n ∙ e)))
-      (λ j. let found = pick (λ w. (Some w.header.id ≡ d.header.parent) × ((w.header.id < d.header.id) × (w.end.floor ≡ d.start.floor))) (accepted_tablets logs) j in
-      let id : found.0.header.id ≡ b.header.id = same_Some found.0.header.id b.header.id (found.1.1.0 ∙ e) in
-      let same : found.0 ≡ b = same_Some found.0 b (sym (get-tablet (accepted_tablets logs) found.0 (accepted-numbered logs st.valid) found.1.0) ∙ ap (slice_get (accepted_tablets logs)) id ∙ get-b) in
-      sym found.1.1.1.1 ∙ ap (λ (w : AcceptedTablet). w.end.floor) same) from
+      let under : UnderParent (accepted_tablets logs) b.header.id d = get-under logs d.header.id d st.valid (get-tablet (accepted_tablets logs) d (each-numbered logs st.valid) i) b.header.id e in
+      sym under.floor ∙ ap (λ (w : AcceptedTablet). w.end.floor) (same_Some under.parent b (sym under.there ∙ get-b))
 
   end-floor : is_split r.kind ≡ true → b.end.floor ≡ last_safe_in x.places b
   end-floor t =
       let last = last-split b.start front rest r in-order t in
       let kind = split-kind r.kind t in
-      ap (λ (w : Progress). w.floor) grown.end ∙ (order_after-parts b.start b.records).0 ∙ ap (floor_after b.start.floor) (recs ∙ ap (λ w. front ++ r ∷ w) last.0) ∙ floor_after-append b.start.floor front (r ∷ [])
-      ∙ ap (floor_by (floor_after b.start.floor front)) kind.1.1.1 ∙ sym old-safe
+      ap (λ (w : Progress). w.floor) (end-is ∙ ap (λ w. fold step_order b.start (front ++ r ∷ w)) last.0 ∙ fold-append step_order b.start front (r ∷ []))
+      ∙ ap (floor_by (fold step_order b.start front).floor) kind.1.1.1 ∙ sym old-safe
 
   first-safe : (d : AcceptedTablet) → Exists (λ e. e ≡ d) (accepted_tablets logs) → d.header.parent ≡ Some b.header.id → last_safe_in x.places d ≡ d.start.floor
   first-safe d i e =
-      let zero : place x.places d ≡ 0 = subst (StartsAfter logs x.places d) e (each-at (λ d. StartsAfter logs x.places d d.header.parent) (accepted_tablets logs) d st.places.starts i) closed-b in
-      ap (λ n. floor_after d.start.floor (take n d.records)) zero
+      let zero : place x.places d ≡ 0 = each-at (StartsAfter logs x.places) (accepted_tablets logs) d st.places.starts i (ap (is_started logs x.places) e ∙ closed-b) in
+      ap (λ n. (order_at d n).floor) zero
 
-  safe-after-split : (a left right : ℕ) → r.kind ≡ log.Split a left right → y.safe ≡ slice_set (slice_set x.safe left (slice_index x.safe b.header.id)) right (slice_index x.safe b.header.id)
-  safe-after-split a left right e = tk.safe ∙ ap (λ k. safe_after b.header.id k x.safe) e
+  value-after-split : (a left right : ℕ) → r.kind ≡ log.Split a left right → (i : ℕ) → slice_index y.floors.safe i ≡ slice_index (slice_set (slice_set x.floors.safe left (slice_index x.floors.safe b.header.id)) right (slice_index x.floors.safe b.header.id)) i
+  value-after-split a left right e i = now-value i ∙ ap (λ k. slice_index (floors_after b.header.id k x.floors).safe i) e
 
-  below-each : (d : AcceptedTablet) → Exists (λ e. e ≡ d) (accepted_tablets logs) → d.header.id < length x.safe
+  below-each : (d : AcceptedTablet) → Exists (λ e. e ≡ d) (accepted_tablets logs) → d.header.id < length x.floors.safe
   below-each d i =
-      let q : length x.safe ≡ length x.headers = st.counts.1 in
-      let w : d.header.id < length (accepted_tablets logs) = slice_get_within (accepted_tablets logs) d.header.id d (get-tablet (accepted_tablets logs) d (accepted-numbered logs st.valid) i) in
-      let c : length x.headers ≡ length (accepted_tablets logs) = count ∙ ap length (sym is) in omega arith
+      let q : length x.floors.safe ≡ length x.floors.headers = st.floors.safe in
+      let w : d.header.id < length (accepted_tablets logs) = slice_get_within (accepted_tablets logs) d.header.id d (get-tablet (accepted_tablets logs) d (each-numbered logs st.valid) i) in
+      let c : length x.floors.headers ≡ length (accepted_tablets logs) = count ∙ ap length (sym is) in omega arith
 
   one-of : (left right : ℕ) (n : Named (headers_of logs.tablets) b.header.id left right) (d : AcceptedTablet) → Exists (λ e. e ≡ d) (accepted_tablets logs) → d.header.parent ≡ Some b.header.id → (d.header.id ≡ left) ⊎ (d.header.id ≡ right)
   one-of left right n d i e =
       let each : Each (IsOne b.header.id n.l n.r) (headers_of logs.tablets) = children-only [] (RootAt 0) (headers_of logs.tablets) b.header.id n.l n.r tt (headers-fit logs st.valid) n.are in
       ⊎_elim (λ q. inl (q ∙ sym n.is_left)) (λ q. inr (q ∙ sym n.is_right)) (each-at (IsOne b.header.id n.l n.r) (headers_of logs.tablets) d.header each (header-there d i) e)
 
-  safe-else : (d : AcceptedTablet) → Exists (λ e. e ≡ d) (accepted_tablets logs) → d.header.id ≢ b.header.id → KeepsTablet logs x d → is_started logs y.places d.header.parent ≡ true → slice_index y.safe d.header.id ≡ last_safe_in y.places d
-  safe-else d i n k started = ⊎_elim split (λ f. ap (λ w. slice_index w d.header.id) tk.safe ∙ safe-other b.header.id r.kind x.safe d.header.id f n ∙ k.safe (sym (started-same f d.header.parent) ∙ started) ∙ sym (safe-same d n)) (cases_Bool (is_split r.kind))
+  safe-else : (d : AcceptedTablet) → Exists (λ e. e ≡ d) (accepted_tablets logs) → d.header.id ≢ b.header.id → FloorFor logs x.places x.floors d → is_started logs y.places d.header.parent ≡ true → slice_index y.floors.safe d.header.id ≡ last_safe_in y.places d
+  safe-else d i n k started = ⊎_elim split (λ f. now-value d.header.id ∙ safe-other b.header.id r.kind x.floors d.header.id f n ∙ k.safe (sym (started-same f d.header.parent) ∙ started) ∙ sym (safe-same d n)) (cases_Bool (is_split r.kind))
     where
-      split : is_split r.kind ≡ true → slice_index y.safe d.header.id ≡ last_safe_in y.places d
+      split : is_split r.kind ≡ true → slice_index y.floors.safe d.header.id ≡ last_safe_in y.places d
       split t =
           let kind = split-kind r.kind t in
           let left = kind.1.0 in
           let right = kind.1.1.0 in
           let names = named kind.0 left right kind.1.1.1 in
-          let set = ap (λ w. slice_index w d.header.id) (safe-after-split kind.0 left right kind.1.1.1) in
+          let set = value-after-split kind.0 left right kind.1.1.1 d.header.id in
+          let value = slice_index x.floors.safe b.header.id in
           ⊎_elim
-          (λ e. set ∙ safe-child b.header.id left right x.safe d.header.id (below-each d i) (one-of left right names d i e) ∙ keeps-b.safe up ∙ sym (end-floor t) ∙ sym (child-floor d i e) ∙ sym (first-safe d i e) ∙ sym (safe-same d n))
-          (λ e. set ∙ safe-apart b.header.id left right x.safe d.header.id (λ q. e (child-parent left right names d i (inl q))) (λ q. e (child-parent left right names d i (inr q))) ∙ k.safe (sym (started-elsewhere d.header.parent e) ∙ started) ∙ sym (safe-same d n))
+          (λ e. set ∙ safe-child value left right x.floors.safe d.header.id (below-each d i) (one-of left right names d i e) ∙ keeps-b.safe up ∙ sym (end-floor t) ∙ sym (child-floor d i e) ∙ sym (first-safe d i e) ∙ sym (safe-same d n))
+          (λ e. set ∙ safe-apart value left right x.floors.safe d.header.id (λ q. e (child-parent left right names d i (inl q))) (λ q. e (child-parent left right names d i (inr q))) ∙ k.safe (sym (started-elsewhere d.header.parent e) ∙ started) ∙ sym (safe-same d n))
           (parent-is d.header.parent b.header.id)
 
-  keeps-else : (d : AcceptedTablet) → Exists (λ e. e ≡ d) (accepted_tablets logs) → d.header.id ≢ b.header.id → KeepsTablet logs x d → KeepsTablet logs y d
+  keeps-else : (d : AcceptedTablet) → Exists (λ e. e ≡ d) (accepted_tablets logs) → d.header.id ≢ b.header.id → FloorFor logs x.places x.floors d → FloorFor logs y.places y.floors d
   keeps-else d i n k = record {
-    closed = ap (λ w. slice_index_or w d.header.id false) tk.closed ∙ closed-other b.header.id r.kind x.closed d.header.id n ∙ k.closed ∙ sym (ap (λ p. (p == length d.records) && d.end.split) (place-other d.header.id n));
+    closed = now-has d.header.id ∙ others-kept b.header.id d.header.id r.kind x.floors n ∙ k.closed ∙ sym (ap (λ p. (p == length d.records) && d.end.split) (place-other d.header.id n));
     safe = λ started. safe-else d i n k started;
   }
 
-  keeps-each : (d : AcceptedTablet) → Exists (λ e. e ≡ d) (accepted_tablets logs) → KeepsTablet logs y d
+  keeps-each : (d : AcceptedTablet) → Exists (λ e. e ≡ d) (accepted_tablets logs) → FloorFor logs y.places y.floors d
   keeps-each d i =
       ⊎_elim
-      (λ e. let same : d ≡ b = same_Some d b (sym (get-tablet (accepted_tablets logs) d (accepted-numbered logs st.valid) i) ∙ ap (slice_get (accepted_tablets logs)) e ∙ get-b) in subst (KeepsTablet logs y) (sym same) keeps-mine)
-      (λ n. keeps-else d i n (each-at (KeepsTablet logs x) (accepted_tablets logs) d st.tablets i)) (cases_eq d.header.id b.header.id)
+      (λ e. let same : d ≡ b = same_Some d b (sym (get-tablet (accepted_tablets logs) d (each-numbered logs st.valid) i) ∙ ap (slice_get (accepted_tablets logs)) e ∙ get-b) in subst (FloorFor logs y.places y.floors) (sym same) keeps-mine)
+      (λ n. keeps-else d i n (each-at (FloorFor logs x.places x.floors) (accepted_tablets logs) d st.floors.each i)) (cases_eq d.header.id b.header.id)
 
   same-range : (k : List ℕ) → in_range y k ≡ in_range x k
   same-range k = ap (λ n. nat_le n (hash_of k) && nat_le (hash_of k) y.hi) tk.range.0 ∙ ap (λ n. nat_le x.lo (hash_of k) && nat_le (hash_of k) n) tk.range.1
 
+  same-headers : y.floors.headers ≡ headers_of logs.tablets
+  same-headers = ap (λ (f : Floors). f.headers) tk.floors ∙ headers-kept b.header.id r.kind x.floors ∙ st.floors.headers
+
   pub still-stands : StandsFor logs u y
-  unfolding within
   still-stands = record {
     valid = st.valid;
-    headers = tk.headers ∙ st.headers;
     places = places-new;
-    covered = (let q : u ≤ safe (placed (accepted_tablets logs) y.places) = stands-new.cutoff in let e = safe-time logs y.places in omega arith);
-    counts = (ap length tk.closed ∙ closed-count b.header.id r.kind x.closed ∙ st.counts.0 ∙ ap length (sym tk.headers), ap length tk.safe ∙ safe-count b.header.id r.kind x.safe ∙ st.counts.1 ∙ ap length (sym tk.headers));
-    tablets = each-itself (KeepsTablet logs y) (accepted_tablets logs) keeps-each;
-    keys = λ k q. stands-new.shows k (sym (same-range k) ∙ q) ∙ sym (given-shown logs u y.places k);
+    covered = (let q : safe_time logs x.places ≤ safe_time logs y.places = safe_time-rises logs x.places y.places places-new rises-each in let c : u ≤ safe_time logs x.places = st.covered in omega arith);
+    floors = record {
+      headers = same-headers;
+      closed = ap (λ (f : Floors). length f.closed) tk.floors ∙ count-kept b.header.id r.kind x.floors ∙ st.floors.closed ∙ ap length (st.floors.headers ∙ sym same-headers);
+      safe = ap (λ (f : Floors). length f.safe) tk.floors ∙ safe-count b.header.id r.kind x.floors ∙ st.floors.safe ∙ ap length (st.floors.headers ∙ sym same-headers);
+      each = each-itself (FloorFor logs y.places y.floors) (accepted_tablets logs) keeps-each;
+    };
+    keys = λ k q. let inside = sym (same-range k) ∙ q in effect k inside ∙ ap (λ w. cond (owns (hash_of k) b.header) (steps (record_events k r) w) w) (st.keys k inside) ∙ sym (given k);
     within = tk.within;
   }
 
@@ -512,23 +461,19 @@ of logs s n r e = go (slice_get (accepted_tablets logs) s) refl e
     go (Some b) q w = record { b = b; get = q; at = w }
 
 -- what x has as started is
-started-is : (logs : Logs) (u s : ℕ) (x : TargetTablet) (b : AcceptedTablet) → StandsFor logs u x → slice_get (accepted_tablets logs) s ≡ Some b → has_started x s ≡ true → is_started logs x.places b.header.parent ≡ true
+started-is : (logs : Logs) (u s : ℕ) (x : TargetTablet) (b : AcceptedTablet) → StandsFor logs u x → slice_get (accepted_tablets logs) s ≡ Some b → has_started x.floors s ≡ true → is_started logs x.places b.header.parent ≡ true
 started-is logs u s x b st get h =
-    let m = accepted-numbered logs st.valid in
-    let i : Exists (λ d. d ≡ b) (accepted_tablets logs) = exists-at (accepted_tablets logs) s b get in
-    let head : slice_get x.headers s ≡ Some b.header = subst (λ (w : ℕ). slice_get x.headers w ≡ Some b.header) (get-is (accepted_tablets logs) s b m get)
-    (subst (λ w. slice_get w b.header.id ≡ Some b.header) (heads-logs logs st.valid ∙ sym st.headers) (there-get (heads (accepted_tablets logs)) b.header m (exists-header (accepted_tablets logs) b i))) in
-    let kept : option_map_or (λ parent. slice_index_or x.closed parent false) b.header.parent true ≡ true = sym (ap (λ o. option_map_or (λ (h : Header). option_map_or (λ parent. slice_index_or x.closed parent false) h.parent true) o false) head) ∙ h in
-    go b.header.parent kept
+    let head : slice_get x.floors.headers s ≡ Some b.header = ap (λ w. slice_get w s) (st.floors.headers ∙ sym (heads-logs logs)) ∙ slice_get-map (λ (d : AcceptedTablet). d.header) (accepted_tablets logs) s ∙ ap (option_map (λ (d : AcceptedTablet). d.header)) get in
+    go b.header.parent (sym (ap (λ o. option_map_or (starts x.floors) o false) head) ∙ h)
   where
-    go : (q : Option ℕ) → option_map_or (λ parent. slice_index_or x.closed parent false) q true ≡ true → is_started logs x.places q ≡ true
+    go : (q : Option ℕ) → option_map_or (has_closed x.floors) q true ≡ true → is_started logs x.places q ≡ true
     go None k = refl
-    go (Some p) k = sym (closed-kept logs u x st p) ∙ k
+    go (Some p) k = sym (closed-kept logs x.places x.floors st.valid st.places st.floors p) ∙ k
 
 pub deliveries-keep : DeliveriesKeepStanding
 deliveries-keep logs x y u s r st started next tk =
     let found : Of logs s (slice_index x.places s) r = of logs s (slice_index x.places s) r next in
-    let id : found.b.header.id ≡ s = get-is (accepted_tablets logs) s found.b (accepted-numbered logs st.valid) found.get in
+    let id : found.b.header.id ≡ s = get-id logs s found.b st.valid found.get in
     let tablets = take-front (accepted_tablets logs) s found.b found.get in
     let records = take-front found.b.records (slice_index x.places s) r found.at in
     still-stands logs u x y tablets.0 tablets.1.0 found.b records.0 records.1.0 r st tablets.1.1.0 records.1.1.0 (records.1.1.1 ∙ ap (slice_index x.places) (sym id)) (started-is logs u s x found.b st found.get started) (subst (λ (w : ℕ). TakesIn w r x y) (sym id) tk)
@@ -548,46 +493,69 @@ next-of (x ∷ xs) zero a tail e = (ap Some (sym (heads-same a x tail (take (len
 next-of (x ∷ xs) (suc i) a tail e = let deep = next-of xs i a tail e in (deep.0, deep.1 ∙ ap (λ n. take (length tail) (drop n (x ∷ xs))) (let q : suc (i + 1) ≡ suc i + 1 = omega arith in q))
 
 -- the place that a record takes
-place-after : (logs : Logs) (u s : ℕ) (r : Record) (x y : TargetTablet) → StandsFor logs u x → slice_get (accepted logs s) (slice_index x.places s) ≡ Some r → TakesIn s r x y → (slice_index y.places s ≡ slice_index x.places s + 1) × ((i : ℕ) → i ≢ s → slice_index y.places i ≡ slice_index x.places i)
+place-after : (logs : Logs) (u s : ℕ) (r : Record) (x y : TargetTablet) → StandsFor logs u x → slice_get (accepted logs s) (slice_index x.places s) ≡ Some r → TakesIn s r x y → slice_index y.places s ≡ slice_index x.places s + 1
 place-after logs u s r x y st next tk =
     let found : Of logs s (slice_index x.places s) r = of logs s (slice_index x.places s) r next in
     let low : s < length (accepted_tablets logs) = slice_get_within (accepted_tablets logs) s found.b found.get in
-    let same : length (accepted_tablets logs) ≡ length logs.tablets = sym (length-map (accepted_tablets logs) (λ (d : AcceptedTablet). d.header)) ∙ ap length (heads-logs logs st.valid) ∙ length-map logs.tablets (λ (t : Tablet). t.header) in
+    let same : length (accepted_tablets logs) ≡ length logs.tablets = length-logs logs in
     let bound : s < length x.places = let c : length x.places ≡ length logs.tablets = st.places.count in omega arith in
-    (ap (λ w. slice_index w s) tk.places ∙ get_or-set_same x.places s (slice_index x.places s + 1) 0 bound, (λ i n. ap (λ w. slice_index w i) tk.places ∙ get_or-set_other x.places s i (slice_index x.places s + 1) 0 n))
+    ap (λ w. slice_index w s) tk.places ∙ get_or-set_same x.places s (slice_index x.places s + 1) 0 bound
 
--- a parent that x has as closed stays so
-started-stays : (logs : Logs) (u s : ℕ) (r : Record) (x y : TargetTablet) → StandsFor logs u x → slice_get (accepted logs s) (slice_index x.places s) ≡ Some r → has_started x s ≡ true → TakesIn s r x y → has_started y s ≡ true
+-- what x has as started stays so
+started-stays : (logs : Logs) (u s : ℕ) (r : Record) (x y : TargetTablet) → StandsFor logs u x → slice_get (accepted logs s) (slice_index x.places s) ≡ Some r → has_started x.floors s ≡ true → TakesIn s r x y → has_started y.floors s ≡ true
 started-stays logs u s r x y st next h tk =
-    ap (λ w. option_map_or (λ (h : Header). option_map_or (λ parent. slice_index_or y.closed parent false) h.parent true) (slice_get w s) false) tk.headers ∙ go (slice_get x.headers s) h
+    ap (λ w. option_map_or (starts y.floors) (slice_get w s) false) (ap (λ (f : Floors). f.headers) tk.floors ∙ headers-kept s r.kind x.floors) ∙ go (slice_get x.floors.headers s) h
   where
-    low : s < length x.closed
+    low : s < length x.floors.closed
     low =
         let found : Of logs s (slice_index x.places s) r = of logs s (slice_index x.places s) r next in
         let b : s < length (accepted_tablets logs) = slice_get_within (accepted_tablets logs) s found.b found.get in
-        let same : length (accepted_tablets logs) ≡ length x.headers = sym (length-map (accepted_tablets logs) (λ (d : AcceptedTablet). d.header)) ∙ ap length (heads-logs logs st.valid ∙ sym st.headers) in
-        let c : length x.closed ≡ length x.headers = st.counts.0 in omega arith
+        let same : length (accepted_tablets logs) ≡ length logs.tablets = length-logs logs in
+        let heads : length x.floors.headers ≡ length logs.tablets = ap length st.floors.headers ∙ length-map logs.tablets (λ (t : Tablet). t.header) in
+        let c : length x.floors.closed ≡ length x.floors.headers = st.floors.closed in omega arith
 
-    raised : (c d : Bool) → d ≡ true → cond c true d ≡ true
-    raised true d e = refl
-    raised false d e = e
+    raised : (c d : Bool) → c ≡ true → (c || d) ≡ true
+    raised c d e = ap (λ b. b || d) e
 
-    one : (q : Option ℕ) → option_map_or (λ parent. slice_index_or x.closed parent false) q true ≡ true → option_map_or (λ parent. slice_index_or y.closed parent false) q true ≡ true
+    one : (q : Option ℕ) → option_map_or (has_closed x.floors) q true ≡ true → option_map_or (has_closed y.floors) q true ≡ true
     one None e = refl
-    one (Some p) e = ⊎_elim
-        (λ same. ap (λ w. slice_index_or w p false) tk.closed ∙ ap (λ i. slice_index_or (closed_after s r.kind x.closed) i false) same ∙ closed-mine s r.kind x.closed low ∙ raised (is_split r.kind) (slice_index_or x.closed s false) (ap (λ i. slice_index_or x.closed i false) (sym same) ∙ e))
-        (λ n. ap (λ w. slice_index_or w p false) tk.closed ∙ closed-other s r.kind x.closed p n ∙ e) (cases_eq p s)
+    one (Some p) e = ap (λ (f : Floors). has_closed f p) tk.floors ∙ ⊎_elim
+        (λ same. ap (has_closed (floors_after s r.kind x.floors)) same ∙ closed-by s r.kind x.floors low ∙ raised (has_closed x.floors s) (is_split r.kind) (ap (has_closed x.floors) (sym same) ∙ e))
+        (λ n. others-kept s p r.kind x.floors n ∙ e) (cases_eq p s)
 
-    go : (o : Option Header) → option_map_or (λ (h : Header). option_map_or (λ parent. slice_index_or x.closed parent false) h.parent true) o false ≡ true → option_map_or (λ (h : Header). option_map_or (λ parent. slice_index_or y.closed parent false) h.parent true) o false ≡ true
+    go : (o : Option Header) → option_map_or (starts x.floors) o false ≡ true → option_map_or (starts y.floors) o false ≡ true
     go None e = e
     go (Some h) e = one h.parent e
 
-pub batches-keep : BatchesKeepStanding
-batches-keep logs x y u s [] st started e t = (subst (StandsFor logs u) (sym t) st, ((ap (λ (z : TargetTablet). slice_index z.places s) t ∙ (let q : slice_index x.places s ≡ slice_index x.places s + 0 = omega arith in q)), (λ i n. ap (λ (z : TargetTablet). slice_index z.places i) t)))
-batches-keep logs x y u s (r ∷ rs) st started e t =
+-- the next records, one after another
+all-keep : (logs : Logs) (x y : TargetTablet) (u s : ℕ) (rs : List Record) → StandsFor logs u x → has_started x.floors s ≡ true → rs ≡ take (length rs) (drop (slice_index x.places s) (accepted logs s)) → TakesAll s rs x y → StandsFor logs u y
+all-keep logs x y u s [] st started e t = subst (StandsFor logs u) (sym t) st
+all-keep logs x y u s (r ∷ rs) st started e t =
     let z = t.0 in
     let next = next-of (accepted logs s) (slice_index x.places s) r rs e in
     let stands : StandsFor logs u z = deliveries-keep logs x z u s r st started next.0 t.1.0 in
-    let place = place-after logs u s r x z st next.0 t.1.0 in
-    let rest = batches-keep logs z y u s rs stands (started-stays logs u s r x z st next.0 started t.1.0) (subst (λ (n : ℕ). rs ≡ take (length rs) (drop n (accepted logs s))) (sym place.0) next.1) t.1.1 in
-    (rest.0, ((let a : slice_index y.places s ≡ slice_index z.places s + length rs = rest.1.0 in let b = place.0 in let q : slice_index y.places s ≡ slice_index x.places s + length (r ∷ rs) = omega arith in q), (λ i n. rest.1.1 i n ∙ place.1 i n)))
+    all-keep logs z y u s rs stands (started-stays logs u s r x z st next.0 started t.1.0)
+    (subst (λ (n : ℕ). rs ≡ take (length rs) (drop n (accepted logs s))) (sym (place-after logs u s r x z st next.0 t.1.0)) next.1) t.1.1
+
+drop-both : {A : Type 0} (m n : ℕ) (xs : List A) → drop m (drop n xs) ≡ drop (n + m) xs
+drop-both m zero xs = ap (λ k. drop k xs) (let q : m ≡ 0 + m = omega arith in q)
+drop-both m (suc n) [] = drop-nil m ∙ sym (drop-nil (suc n + m))
+drop-both m (suc n) (x ∷ xs) = drop-both m n xs ∙ ap (λ k. drop k (x ∷ xs)) (let q : suc (n + m) ≡ suc n + m = omega arith in q)
+
+-- a list's first elements, without the first m
+front-drop : {A : Type 0} (m : ℕ) (rs xs : List A) → rs ≡ take (length rs) xs → drop m rs ≡ take (length (drop m rs)) (drop m xs)
+front-drop zero rs xs e = e
+front-drop (suc m) [] xs e = refl
+front-drop (suc m) (r ∷ rs) [] e = cc
+front-drop (suc m) (r ∷ rs) (x ∷ xs) e = front-drop m rs xs (tails r x rs (take (length rs) xs) e)
+  where
+    tails : {A : Type 0} (a b : A) (xs ys : List A) → a ∷ xs ≡ b ∷ ys → xs ≡ ys
+    tails a b xs ys e = cc
+
+pub batches-keep : BatchesKeepStanding
+batches-keep logs x y u s from rs st started low high e t =
+    let place = slice_index x.places s in
+    let m = place + 1 - from in
+    let at : from - 1 + m ≡ place = omega arith in
+    all-keep logs x y u s (past place from rs) st started
+    (front-drop m rs (drop (from - 1) (accepted logs s)) e ∙ ap (take (length (drop m rs))) (drop-both m (from - 1) (accepted logs s) ∙ ap (λ n. drop n (accepted logs s)) at)) t

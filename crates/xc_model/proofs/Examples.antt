@@ -1,33 +1,46 @@
--- What each law says of small logs: a split tablet, a transaction over both of its children, a removal, a cutoff.
+-- What each law says of small logs: a split tablet, a transaction over both of its children, a removal, a subtransaction that was rolled back.
 -- Every premise is proved, and the law gives the conclusion, which is then computed.
-use Rattle.std.proofs.Common.{◌≡◌, ℕ, zero, suc, ◌≤◌, true, false, List, [], ◌∷◌, Some, None, refl, sym, arith}
-use Rattle.std.specs.Prelude.{codes, slice_index, Option}
+use Rattle.std.proofs.Common.{◌≡◌, ℕ, zero, suc, ◌≤◌, true, false, List, [], ◌∷◌, Some, None, refl, sym, arith, length, take, drop}
+use Rattle.std.specs.Prelude.{codes, slice_index, slice_get, Option}
 use Rattle.std.specs.List.{AllByRecursion}
 use Rattle.std.specs.Ordering.{nat_cmp}
 use Rattle.std.specs.Cmp.Lexicographic.{slice_cmp}
 use Rattle.std.specs.FinMap.Entries.{where_key}
 use Rattle.xc_record.specs.declared.record.AgreeKind.TheVariants.{Straggler}
+use Rattle.xc_record.specs.declared.record.Header.{Header}
 use Rattle.xc_record.specs.declared.session.Command.{Command}
 use Rattle.xc_record.specs.declared.session.Command.TheVariants as command
+use Rattle.xc_record.specs.declared.session.Line.TheVariants as line
 use Rattle.xc_record.specs.Agreement.{Disagreement, disagreement, HasNoCase, Agrees, straggles_at}
 use Rattle.xc_record.specs.Accepted.{accepted_tablets}
+use Rattle.xc_record.specs.Bounds.{SharesOut, IsPartition}
+use Rattle.xc_record.specs.RangeLaws.{holders}
+use Rattle.xc_record.specs.Hash.{holds}
 use Rattle.xc_record.specs.Rows.{rows, row}
 use Rattle.xc_record.specs.SafeTime.{safe_time}
-use Rattle.xc_record.specs.Session.{Session, IsSession, start}
-use Rattle.xc_record.specs.Step.{step, lines_from, safe_now}
-use Rattle.xc_record.specs.Valid.{is_valid}
+use Rattle.xc_record.specs.Session.{Position, Session, IsSession, start, places_of, safe_now}
+use Rattle.xc_record.specs.Step.{step, lines_from}
+use Rattle.xc_record.specs.Valid.{is_valid, headers_of}
+use Rattle.xc_record.specs.Kept.{read, kept_from, versions_at}
+use Rattle.xc_record.proofs.RangeLaws.{ranges-hold-once, bounds-share-out, roots-share-out, one-root-holds, children-share-out}
 use Rattle.xc_record.proofs.WorkedLogs.{computed, a, z, two_tablets, with_both_children}
-use Rattle.xc_model.specs.Kept.{read, kept_from}
+use Rattle.xc_model.specs.Floors.{has_closed}
+use Rattle.xc_model.specs.Laws.{BatchTaken}
+use Rattle.xc_model.specs.Lines.{Says}
 use Rattle.xc_model.specs.Sessions.{IsRising, named_times}
-use Rattle.xc_model.specs.Stands.{TargetTablet, in_range, kept_at, given_at, StandsFor, covers, KeepsFrom, RestoredTo, restore, versions_at}
+use Rattle.xc_model.specs.Stands.{TargetTablet, in_range, kept_at, rows_shown, given_at, StandsFor, covers, KeepsFrom, RestoredTo, restore, TakesAll}
+use Rattle.xc_model.proofs.Batches.{batches-move, batches-grow}
 use Rattle.xc_model.proofs.DeliverLaw.{deliveries-keep}
-use Rattle.xc_model.proofs.FloorLaw.{kept-values}
-use Rattle.xc_model.proofs.KeepLaws.{cutoffs-keep, restores-keep, safe-rises}
+use Rattle.xc_model.proofs.FloorLaw.{kept-values, safe-rises}
+use Rattle.xc_model.proofs.KeepLaws.{cutoffs-keep}
+use Rattle.xc_model.proofs.LineLaws.{cutoffs-rise, stops-keep, lines-name}
 use Rattle.xc_model.proofs.ListLaw.{reads-show-lists, restored-show}
+use Rattle.xc_model.proofs.Partitions.{partitions-by, restored-partitions-by}
 use Rattle.xc_model.proofs.ReadLaw.{reads-show-rows, keys-suffice}
+use Rattle.xc_model.proofs.Restores.{restores-keep}
 use Rattle.xc_model.proofs.SessionLaws.{sessions-start, steps-keep, steps-rise}
-use Rattle.xc_model.proofs.TimeLaws.{named-times-rise, closed-stays, failover-closes}
-use Rattle.xc_model.proofs.WorkedTablets.{valid, by-key, removed, version, new-stands-for, early, early-stands, parent-taken, half, left_apply-taken, left_apply, parent_records, right_records, drained, drained-stands, lower, lower-stands, half-stands}
+use Rattle.xc_model.proofs.TimeLaws.{named-times-rise, closed-stays, closed-times, failover-closes}
+use Rattle.xc_model.proofs.WorkedTablets.{valid, by-key, removed, version, new, new-stands-for, after_intent, after_safe, early, early-stands, before_split, before-split-taken, the_split, split-taken, last-taken, half, left_apply-taken, left_apply, parent_records, right_records, drained, drained-stands, lower, lower-stands, upper, upper-stands, half-stands}
 
 agree : disagreement with_both_children ≡ None
 unfolding computed
@@ -48,7 +61,7 @@ z-after : row with_both_children 16 z ≡ None
 unfolding computed
 z-after = sym (reads-show-rows with_both_children drained 0 16 z drained-stands agree (omega arith) (covered 16 (omega arith)) refl)
 
--- and so is the operation on the other child's key
+-- and so is the operation on the other child's key, of the subtransaction that was not rolled back
 a-after : row with_both_children 16 a ≡ Some (codes "3")
 unfolding computed
 a-after = sym (reads-show-rows with_both_children drained 0 16 a drained-stands agree (omega arith) (covered 16 (omega arith)) refl)
@@ -65,6 +78,32 @@ list-after = sym (reads-show-lists with_both_children drained 0 16 drained-stand
 list-lower : where_key (slice_cmp nat_cmp) (in_range lower) (rows with_both_children 12) ≡ (a, codes "1") ∷ []
 unfolding computed
 list-lower = sym (reads-show-lists with_both_children lower 0 12 lower-stands agree (omega arith) (omega arith))
+
+-- ---- the rows of several tablets
+
+abbrev both : List TargetTablet
+both = lower ∷ upper ∷ []
+
+shared : IsPartition ((0, 32767) ∷ (32768, 65535) ∷ [])
+shared = (refl, (omega arith, (refl, (omega arith, refl))))
+
+-- the lower one shows the row of a, the upper one that of z
+rows-of-both : rows with_both_children 12 ≡ (a, codes "1") ∷ (z, codes "2") ∷ []
+unfolding computed
+rows-of-both = sym (partitions-by reads-show-lists with_both_children both 0 12 agree shared ((lower-stands, omega arith), ((upper-stands, omega arith), tt)) (omega arith))
+
+lower-back : RestoredTo with_both_children 0 12 lower (restore 12 lower)
+unfolding computed
+lower-back = record { stood = lower-stands; after_cutoff = omega arith; covered = omega arith; is = refl }
+
+upper-back : RestoredTo with_both_children 0 12 upper (restore 12 upper)
+unfolding computed
+upper-back = record { stood = upper-stands; after_cutoff = omega arith; covered = omega arith; is = refl }
+
+restored-rows : rows with_both_children 11 ≡ (a, codes "1") ∷ (z, codes "2") ∷ []
+unfolding computed
+restored-rows =
+    sym (restored-partitions-by restored-show with_both_children (restore 12 lower ∷ restore 12 upper ∷ []) 0 12 11 agree shared ((lower, lower-back), ((upper, upper-back), tt)) (omega arith) (omega arith))
 
 -- ---- agreement
 
@@ -92,26 +131,49 @@ disagrees agrees = differ ((keys-suffice (two_tablets 15 15) two-valid).1 agrees
 
 -- ---- deliveries
 
--- the left child's apply takes what waits at its own key alone
-half-a : given_at with_both_children 0 (4 ∷ 1 ∷ 0 ∷ []) a ≡ record { versions = record { commit = 10; txn = 0; value = Some (codes "1") } ∷ record { commit = 16; txn = 5; value = Some (codes "3") } ∷ []; held = [] }
+-- The left child's apply takes what waits at its own key alone, and of that what was not rolled back.
+half-a : given_at with_both_children 0 (5 ∷ 1 ∷ 0 ∷ []) a ≡ record { versions = record { commit = 10; txn = 0; value = Some (codes "1") } ∷ record { commit = 16; txn = 5; value = Some (codes "3") } ∷ []; held = [] }
 unfolding computed
 half-a = sym ((deliveries-keep with_both_children early half 0 1 left_apply early-stands refl refl left_apply-taken).keys a refl)
 
-half-z : given_at with_both_children 0 (4 ∷ 1 ∷ 0 ∷ []) z ≡ record { versions = record { commit = 10; txn = 0; value = Some (codes "2") } ∷ []; held = record { txn = 5; value = None } ∷ [] }
+half-z : given_at with_both_children 0 (5 ∷ 1 ∷ 0 ∷ []) z ≡ record { versions = record { commit = 10; txn = 0; value = Some (codes "2") } ∷ []; held = record { txn = 5; sub = 0; value = None } ∷ [] }
 unfolding computed
 half-z = sym ((deliveries-keep with_both_children early half 0 1 left_apply early-stands refl refl left_apply-taken).keys z refl)
 
--- after the parent's four records at once the transaction waits at both keys
-early-a : given_at with_both_children 0 (4 ∷ 0 ∷ 0 ∷ []) a ≡ record { versions = record { commit = 10; txn = 0; value = Some (codes "1") } ∷ []; held = record { txn = 5; value = Some (codes "3") } ∷ [] }
+-- after the parent's five records, in two batches of which the second repeats two, the transaction waits at both keys
+early-a : given_at with_both_children 0 (5 ∷ 0 ∷ 0 ∷ []) a
+    ≡ record { versions = record { commit = 10; txn = 0; value = Some (codes "1") } ∷ []; held = record { txn = 5; sub = 1; value = Some (codes "8") } ∷ record { txn = 5; sub = 0; value = Some (codes "3") } ∷ [] }
 unfolding computed
-early-a = sym (parent-taken.0.keys a refl)
-
-early-place : slice_index early.places 0 ≡ 4
-early-place = parent-taken.1.0
+early-a = sym (early-stands.keys a refl)
 
 new-a : given_at with_both_children 0 (0 ∷ 0 ∷ 0 ∷ []) a ≡ record { versions = []; held = [] }
 unfolding computed
 new-a = sym (new-stands-for.keys a refl)
+
+-- the repeated records are counted once
+repeated : BatchTaken 0 2 (drop 1 parent_records) after_intent early
+unfolding computed
+repeated = batches-move 0 2 (drop 1 parent_records) after_intent early (omega arith) (omega arith) (omega arith) last-taken
+
+early-place : slice_index early.places 0 ≡ 5
+unfolding computed
+early-place = repeated.place
+
+early-closed : has_closed early.floors 0 ≡ true
+unfolding computed
+early-closed = repeated.splits (omega arith)
+
+-- no other place moves, and no other source tablet is closed
+early-others : (i : ℕ) → (i ≡ 0 → ⊥) → (slice_index early.places i ≡ slice_index after_intent.places i) × (has_closed early.floors i ≡ has_closed after_intent.floors i)
+early-others i n = (repeated.places i n, repeated.closed i n)
+
+-- a batch of records that were all applied changes nothing
+skipped : (y : TargetTablet) → y ≡ after_intent → y ≡ after_intent
+unfolding computed
+skipped y e = (batches-move 0 1 (take 3 parent_records) after_intent y (omega arith) (omega arith) (omega arith) e).through (omega arith)
+
+grown : TakesAll 0 parent_records new early
+grown = batches-grow 0 before_split the_split new after_safe early before-split-taken split-taken
 
 -- ---- cutoffs
 
@@ -131,7 +193,7 @@ pruned-stands : StandsFor with_both_children 16 pruned
 unfolding computed
 pruned-stands = cutoffs-keep with_both_children drained pruned 0 16 drained-stands (covered 16 (omega arith)) pruned-keeps
 
-pruned-a : given_at with_both_children 16 (4 ∷ 2 ∷ 2 ∷ []) a ≡ record { versions = record { commit = 16; txn = 5; value = Some (codes "3") } ∷ []; held = [] }
+pruned-a : given_at with_both_children 16 (5 ∷ 2 ∷ 2 ∷ []) a ≡ record { versions = record { commit = 16; txn = 5; value = Some (codes "3") } ∷ []; held = [] }
 unfolding computed
 pruned-a = sym (pruned-stands.keys a refl)
 
@@ -152,7 +214,11 @@ back = record { stood = drained-stands; after_cutoff = omega arith; covered = co
 
 restored-read : read 15 (kept_at (restore 15 drained) z) ≡ Some (codes "2")
 unfolding computed
-restored-read = restores-keep with_both_children (restore 15 drained) drained 0 15 15 z back (omega arith)
+restored-read = (restores-keep drained 15 15 (omega arith)).0 z
+
+restored-shown : rows_shown 12 (restore 15 drained) ≡ (a, codes "1") ∷ (z, codes "2") ∷ []
+unfolding computed
+restored-shown = (restores-keep drained 15 12 (omega arith)).1
 
 -- after the time of the restore it need not show the row, which is removed at 16
 read-after-restore : read 16 (kept_at (restore 15 drained) z) ≡ Some (codes "2")
@@ -178,38 +244,66 @@ restored-keeps = refl
 
 -- ---- safe times
 
-climbs : (s : ℕ) → slice_index (3 ∷ 0 ∷ 0 ∷ []) s ≤ slice_index (4 ∷ 2 ∷ 2 ∷ []) s
+climbs : (s : ℕ) → slice_index (4 ∷ 0 ∷ 0 ∷ []) s ≤ slice_index (5 ∷ 2 ∷ 2 ∷ []) s
 climbs zero = omega arith
 climbs (suc zero) = omega arith
 climbs (suc (suc zero)) = omega arith
 climbs (suc (suc (suc s))) = omega arith
 
-rises-through-the-split : safe_time with_both_children (3 ∷ 0 ∷ 0 ∷ []) ≤ safe_time with_both_children (4 ∷ 2 ∷ 2 ∷ [])
-rises-through-the-split = safe-rises with_both_children (3 ∷ 0 ∷ 0 ∷ []) (4 ∷ 2 ∷ 2 ∷ []) drained-stands.places climbs
+rises-through-the-split : safe_time with_both_children (4 ∷ 0 ∷ 0 ∷ []) ≤ safe_time with_both_children (5 ∷ 2 ∷ 2 ∷ [])
+rises-through-the-split = safe-rises with_both_children (4 ∷ 0 ∷ 0 ∷ []) (5 ∷ 2 ∷ 2 ∷ []) drained-stands.places climbs
 
--- the right child, of which nothing was pulled yet, counts with its parent's final floor
-safe-times : safe_time with_both_children (3 ∷ 0 ∷ 0 ∷ []) ∷ safe_time with_both_children (4 ∷ 0 ∷ 0 ∷ []) ∷ safe_time with_both_children (4 ∷ 2 ∷ 0 ∷ []) ∷ safe_time with_both_children (4 ∷ 2 ∷ 2 ∷ []) ∷ [] ≡ 12 ∷ 12 ∷ 12 ∷ 19 ∷ []
+-- the right child, of which nothing was polled yet, counts with its parent's final floor
+safe-times : safe_time with_both_children (4 ∷ 0 ∷ 0 ∷ []) ∷ safe_time with_both_children (5 ∷ 0 ∷ 0 ∷ []) ∷ safe_time with_both_children (5 ∷ 2 ∷ 0 ∷ []) ∷ safe_time with_both_children (5 ∷ 2 ∷ 2 ∷ []) ∷ [] ≡ 12 ∷ 12 ∷ 12 ∷ 19 ∷ []
 unfolding computed
 safe-times = refl
 
 covers-early : covers with_both_children early ≡ 12
-covers-early = sym (kept-values with_both_children early 0 early-stands)
+covers-early = sym (kept-values with_both_children early.places early.floors valid early-stands.places early-stands.floors)
 
 -- a tablet of the lower hashes is held back by the right child too
 covers-lower : covers with_both_children lower ≡ 12
-covers-lower = sym (kept-values with_both_children lower 0 lower-stands)
+covers-lower = sym (kept-values with_both_children lower.places lower.floors valid lower-stands.places lower-stands.floors)
 
 covers-drained : covers with_both_children drained ≡ 19
-covers-drained = sym (kept-values with_both_children drained 0 drained-stands)
+covers-drained = sym (kept-values with_both_children drained.places drained.floors valid drained-stands.places drained-stands.floors)
+
+-- ---- ranges
+
+abbrev the_headers : List Header
+the_headers = headers_of with_both_children.tablets
+
+bounded : IsPartition ((0, 32767) ∷ (32768, 65535) ∷ [])
+unfolding computed
+bounded = bounds-share-out (0 ∷ 32768 ∷ []) refl
+
+-- the hash of a is in the lower one alone
+held-once : length (holders 30785 ((0, 32767) ∷ (32768, 65535) ∷ [])) ≡ 1
+held-once = ranges-hold-once (0, 65535) ((0, 32767) ∷ (32768, 65535) ∷ []) 30785 bounded (omega arith) (omega arith)
+
+rooted : IsPartition ((0, 65535) ∷ [])
+unfolding computed
+rooted = roots-share-out the_headers refl
+
+same-root : (i : ℕ) (h : Header) → slice_get the_headers i ≡ Some h → h.parent ≡ None → holds h 30785 ≡ true → 0 ≡ i
+unfolding computed
+same-root i h e p q = one-root-holds the_headers 30785 0 i (record { id = 0; lo = 0; hi = 65535; parent = None }) h refl refl e refl p refl q
+
+halved : SharesOut (0, 65535) ((0, 32767) ∷ (32768, 65535) ∷ [])
+unfolding computed
+halved = children-share-out the_headers 0 (record { id = 0; lo = 0; hi = 65535; parent = None }) (record { id = 1; lo = 0; hi = 32767; parent = Some 0 }) (record { id = 2; lo = 32768; hi = 65535; parent = Some 0 }) refl refl refl
 
 -- ---- sessions
 
 starts : IsSession with_both_children (start with_both_children)
 starts = sessions-start with_both_children valid
 
+abbrev at_place : ℕ → ℕ → ℕ → Position
+at_place place cursor acknowledged = record { place = place; cursor = cursor; acknowledged = acknowledged }
+
 -- before the first command
 abbrev at_start : Session
-at_start = record { places = 0 ∷ 0 ∷ 0 ∷ []; cursors = 0 ∷ 0 ∷ 0 ∷ []; acks = 0 ∷ 0 ∷ 0 ∷ []; cutoff = 0; closed = None }
+at_start = record { positions = at_place 0 0 0 ∷ at_place 0 0 0 ∷ at_place 0 0 0 ∷ []; cutoff = 0; closed = None }
 
 starts-here : IsSession with_both_children at_start
 unfolding computed
@@ -217,7 +311,7 @@ starts-here = starts
 
 -- after a drain
 abbrev at_end : Session
-at_end = record { places = 4 ∷ 2 ∷ 2 ∷ []; cursors = 4 ∷ 2 ∷ 2 ∷ []; acks = 0 ∷ 0 ∷ 0 ∷ []; cutoff = 0; closed = None }
+at_end = record { positions = at_place 5 5 0 ∷ at_place 2 2 0 ∷ at_place 2 2 0 ∷ []; cutoff = 0; closed = None }
 
 is-at_end : (step with_both_children (start with_both_children) command.Drain).0 ≡ at_end
 unfolding computed
@@ -227,14 +321,27 @@ drained-session : IsSession with_both_children at_end
 unfolding computed
 drained-session = steps-keep with_both_children (start with_both_children) command.Drain valid starts
 
--- the cutoff may rise to the safe time
+-- the cutoff may rise to the safe time, and doesn't fall
 pruned-session : IsSession with_both_children (record at_end { cutoff = 19 })
 unfolding computed
 pruned-session = steps-keep with_both_children at_end (command.Prune 19) valid drained-session
 
+cutoff-stays : 19 ≤ (step with_both_children (record at_end { cutoff = 19 }) (command.Prune 12)).0.cutoff
+cutoff-stays = cutoffs-rise with_both_children (record at_end { cutoff = 19 }) (command.Prune 12)
+
 drain-rises : safe_now with_both_children (start with_both_children) ≤ safe_now with_both_children at_end
 unfolding computed
 drain-rises = steps-rise with_both_children (start with_both_children) command.Drain valid starts
+
+-- after two records, a stop over the other three and a restart leave the places
+stop-keeps : (places_of (step with_both_children (record at_start { positions = at_place 2 2 1 ∷ at_place 0 0 0 ∷ at_place 0 0 0 ∷ [] }) (command.Stop 0 9 0)).0 ≡ 2 ∷ 0 ∷ 0 ∷ [])
+    × (places_of (step with_both_children (record at_start { positions = at_place 2 2 1 ∷ at_place 0 0 0 ∷ at_place 0 0 0 ∷ [] }) (command.Restart 0)).0 ≡ 2 ∷ 0 ∷ 0 ∷ [])
+stop-keeps = stops-keep with_both_children (record at_start { positions = at_place 2 2 1 ∷ at_place 0 0 0 ∷ at_place 0 0 0 ∷ [] }) 0 9 0
+
+-- the line of a cutoff that is asked for below the one that stands
+prune-says : Says with_both_children (record at_end { cutoff = 19 }) (record at_end { cutoff = 19 }) (line.Prune 19)
+unfolding computed
+prune-says = (lines-name with_both_children (record at_end { cutoff = 19 }) (command.Prune 12) pruned-session).0
 
 abbrev commands : List Command
 commands = command.Safe ∷ command.Poll 0 9 ∷ command.Safe ∷ command.Drain ∷ command.Read a ∷ command.Failover ∷ command.Safe ∷ []
@@ -254,5 +361,13 @@ closes : (step with_both_children at_end command.Failover).0 ≡ closed_at_19
 unfolding computed
 closes = failover-closes with_both_children at_end refl
 
+-- so it is a session, whose closing time is the safe time
+closed-session : IsSession with_both_children closed_at_19
+unfolding computed
+closed-session = steps-keep with_both_children at_end command.Failover valid drained-session
+
 stays-closed : (c : Command) → (step with_both_children closed_at_19 c).0 ≡ closed_at_19
 stays-closed c = closed-stays with_both_children closed_at_19 c 19 refl
+
+times-stay : (commands : List Command) → AllByRecursion (λ t. t ≡ 19) (named_times (lines_from with_both_children closed_at_19 commands))
+times-stay commands = closed-times with_both_children closed_at_19 commands 19 closed-session refl

@@ -1,31 +1,26 @@
--- The least over the values that a tablet keeps is the safe time at its places.
-use Rattle.std.proofs.Common.{◌≡◌, ℕ, zero, suc, ◌+◌, ◌^◌, ◌≤◌, Bool, true, false, cond, not, List, [], ◌∷◌, map, length, Option, Some, None, refl, ap, sym, ◌∙◌, arith, subst, zero-add, get_or, ◌⊎◌, ⊎_elim}
-use Rattle.std.specs.Prelude.{filter, ◌&&◌, slice_get, slice_index, slice_index_or}
+-- The least over the last safe values that are kept is the safe time.
+use Rattle.std.proofs.Common.{◌≡◌, ℕ, zero, suc, ◌<◌, ◌^◌, ◌≤◌, Bool, true, false, cond, not, List, [], ◌∷◌, map, length, Option, Some, None, refl, ap, sym, ◌∙◌, arith, subst, get_or, ⊎_elim}
+use Rattle.std.specs.Prelude.{filter, fold, slice_get, slice_index}
 use Rattle.std.specs.Option.{option_map_or}
-use Rattle.std.proofs.lemmas.Bool.{true≢false, and_parts}
-use Rattle.std.proofs.lemmas.List.{length-map}
+use Rattle.std.proofs.lemmas.Bool.{true≢false, and_parts, and_from, cases_Bool}
+use Rattle.std.proofs.lemmas.List.{length-map, take_all}
 use Rattle.xc_record.specs.declared.record.Header.{Header}
 use Rattle.xc_record.specs.declared.record.Logs.{Logs}
+use Rattle.xc_record.specs.Order.{Progress, after}
 use Rattle.xc_record.specs.Accepted.{AcceptedTablet, accepted_tablets}
 use Rattle.xc_record.specs.Lists.{least}
-use Rattle.xc_record.specs.SafeTime.{last_safe_in, is_closed_in, is_closed as closed_at, safe_time}
-use Rattle.xc_record.specs.Valid.{is_valid, headers_of}
-use Rattle.xc_record.proofs.HeaderLaws.{Numbered}
-use Rattle.xc_model.specs.Stands.{TargetTablet, is_started, KeepsTablet, StandsFor, covers, counts_in, least_kept}
-use Rattle.xc_model.specs.Laws.{KeptValuesSuffice}
-use Rattle.xc_model.proofs.StableSort.{Each, Exists}
-use Rattle.xc_model.proofs.Placed.{placed, is_closed, last_safe, safe, TabletsOf, KeptBound}
-use Rattle.xc_model.proofs.Tree.{ends-placed, each-both}
-use Rattle.xc_model.proofs.ReadRows.{under-safe}
-use Rattle.xc_model.proofs.SafeTime.{safe-top}
-use Rattle.xc_model.proofs.KeptSafe.{kept-suffice}
-use Rattle.xc_model.proofs.FromRules.{each-heads, heads, heads-from}
-use Rattle.xc_model.proofs.FromValid.{rules-suffice, accepted-ends, accepted-numbered}
-use Rattle.xc_model.proofs.Bridge.{safe-time, legal-places, each-placed, each-unplaced}
-use Rattle.xc_model.proofs.KeepLaws.{each-get}
-use Rattle.xc_record.proofs.ListLaws.{Each-weaker}
+use Rattle.xc_record.specs.SafeTime.{place, order_at, last_safe_in, is_closed_in, is_closed, is_started, safe_time, IsPlaces}
+use Rattle.xc_record.specs.Valid.{is_valid}
+use Rattle.xc_record.proofs.ListLaws.{Each}
+use Rattle.xc_record.proofs.AcceptedLaws.{IsGrown, accepted_tablets-grown}
+use Rattle.xc_record.proofs.SafeLaws.{floor-take, safe_time-rises}
+use Rattle.xc_model.specs.Floors.{Floors, FloorFor, FloorsFor, has_closed, starts, counts, least_kept}
+use Rattle.xc_model.specs.Laws.{KeptValuesSuffice, SafeTimeRises}
+use Rattle.xc_model.proofs.Parents.{heads, heads-logs, get-id, get-under, UnderParent, each-get, each-from, closed-of, none-closed}
 
-least-low : {A : Type 0} (f : A → ℕ) (p : A → Bool) (xs : List A) (b : ℕ) → b ≤ least (map f (filter p xs)) → Each (λ x. p x ≡ true → b ≤ f x) xs
+-- ---- the least of numbers
+
+pub least-low : {A : Type 0} (f : A → ℕ) (p : A → Bool) (xs : List A) (b : ℕ) → b ≤ least (map f (filter p xs)) → Each (λ x. p x ≡ true → b ≤ f x) xs
 least-low f p [] b h = tt
 least-low f p (x ∷ xs) b h =
     let at : (o : Bool) → p x ≡ o → b ≤ least (map f (cond o (x ∷ filter p xs) (filter p xs))) → Each (λ x. p x ≡ true → b ≤ f x) (x ∷ xs) =
@@ -54,6 +49,10 @@ pub each-header : (P : Header → Type 0) (bs : List AcceptedTablet) → Each (�
 each-header P [] h = tt
 each-header P (b ∷ bs) h = (h.0, each-header P bs h.1)
 
+header-each : (P : Header → Type 0) (bs : List AcceptedTablet) → Each P (heads bs) → Each (λ b. P b.header) bs
+header-each P [] h = tt
+header-each P (b ∷ bs) h = (h.0, header-each P bs h.1)
+
 pub none-index : {A B : Type 0} (xs : List A) (ys : List B) (i : ℕ) (d : B) → length ys ≡ length xs → slice_get xs i ≡ None → get_or ys i d ≡ d
 none-index [] [] i d l e = refl
 none-index [] (y ∷ ys) i d l e = absurd (omega arith)
@@ -61,85 +60,106 @@ none-index (x ∷ xs) [] i d l e = absurd (omega arith)
 none-index (x ∷ xs) (y ∷ ys) zero d l e = cc
 none-index (x ∷ xs) (y ∷ ys) (suc i) d l e = none-index xs ys i d (omega arith) e
 
--- a tablet that is found has that number
-pub get-id : (n : ℕ) (bs : List AcceptedTablet) (i : ℕ) (b : AcceptedTablet) → Numbered n (heads bs) → slice_get bs i ≡ Some b → b.header.id ≡ n + i
-get-id n [] i b m e = cc
-get-id n (d ∷ bs) zero b m e = let q : d ≡ b = cc in let r : d.header.id ≡ b.header.id = ap (λ (w : AcceptedTablet). w.header.id) q in let w = m.0 in omega arith
-get-id n (d ∷ bs) (suc i) b m e = let q : b.header.id ≡ n + 1 + i = get-id (n + 1) bs i b m.1 e in omega arith
+-- ---- one tablet
 
-pub heads-logs : (logs : Logs) → is_valid logs ≡ true → heads (accepted_tablets logs) ≡ headers_of logs.tablets
-heads-logs logs valid = ap heads (accepted-ends logs valid) ∙ heads-from [] logs.tablets
+floor-end : (b : AcceptedTablet) → IsGrown b → (order_at b (length b.records)).floor ≡ b.end.floor
+floor-end b g = ap (λ (rs : _). (fold after b.start rs).floor) (take_all (length b.records) b.records (omega arith)) ∙ ap (λ (p : Progress). p.floor) (sym g.end)
 
-module _ (logs : Logs) (u : ℕ) (x : TargetTablet) (s : StandsFor logs u x) where
-  bs : List AcceptedTablet
-  bs = accepted_tablets logs
+floor-high : (places : List ℕ) (b : AcceptedTablet) → IsGrown b → place places b ≤ length b.records → last_safe_in places b ≤ b.end.floor
+floor-high places b g w =
+    let up : (order_at b (place places b)).floor ≤ (order_at b (length b.records)).floor = floor-take b.start (place places b) (length b.records) b.records g.in_order w in
+    let e = floor-end b g in omega arith
 
-  count-same : length x.closed ≡ length (accepted_tablets logs)
-  count-same = s.counts.0 ∙ ap length (s.headers ∙ sym (heads-logs logs s.valid)) ∙ length-map (accepted_tablets logs) (λ (b : AcceptedTablet). b.header)
+floor-low : (places : List ℕ) (b : AcceptedTablet) → IsGrown b → b.start.floor ≤ last_safe_in places b
+floor-low places b g = floor-take b.start zero (place places b) b.records g.in_order (omega arith)
 
-  -- x has as closed those that are
-  pub closed-kept : (p : ℕ) → slice_index_or x.closed p false ≡ closed_at logs x.places p
-  unfolding closed_at
+-- ---- what is kept, and the logs
+
+module _ (logs : Logs) (places : List ℕ) (f : Floors) (valid : is_valid logs ≡ true) (legal : IsPlaces logs places) (right : FloorsFor logs places f) where
+  count : length f.closed ≡ length (accepted_tablets logs)
+  count = right.closed ∙ ap length (right.headers ∙ sym (heads-logs logs)) ∙ length-map (accepted_tablets logs) (λ (b : AcceptedTablet). b.header)
+
+  -- f has as closed those that are
+  pub closed-kept : (p : ℕ) → has_closed f p ≡ is_closed logs places p
   closed-kept p = go (slice_get (accepted_tablets logs) p) refl
     where
-      go : (o : Option AcceptedTablet) → slice_get (accepted_tablets logs) p ≡ o → slice_index_or x.closed p false ≡ option_map_or (is_closed_in x.places) o false
-      go None e = none-index (accepted_tablets logs) x.closed p false count-same e
+      go : (o : Option AcceptedTablet) → slice_get (accepted_tablets logs) p ≡ o → has_closed f p ≡ is_closed logs places p
+      go None e = none-index (accepted_tablets logs) f.closed p false count e ∙ sym (none-closed logs places p e)
       go (Some d) e =
-          let id : d.header.id ≡ p = get-id 0 (accepted_tablets logs) p d (accepted-numbered logs s.valid) e ∙ zero-add p in
-          ap (λ i. slice_index_or x.closed i false) (sym id) ∙ (each-get (KeepsTablet logs x) (accepted_tablets logs) p d s.tablets e).closed
+          ap (has_closed f) (sym (get-id logs p d valid e)) ∙ (each-get (FloorFor logs places f) (accepted_tablets logs) p d right.each e).closed ∙ sym (closed-of logs places p d e)
 
-  started-kept : (q : Option ℕ) → option_map_or (λ parent. slice_index_or x.closed parent false) q true ≡ is_started logs x.places q
+  started-kept : (q : Option ℕ) → option_map_or (has_closed f) q true ≡ is_started logs places q
   started-kept None = refl
   started-kept (Some p) = closed-kept p
 
-  exists-closed : (q : Option ℕ) (ds : List AcceptedTablet) → Each (λ d. closed_at logs x.places d.header.id ≡ is_closed_in x.places d) ds → Exists (λ y. (Some y.tablet.header.id ≡ q) × (is_closed y ≡ true)) (placed ds x.places) → is_started logs x.places q ≡ true
-  exists-closed q [] h i = absurd i
-  exists-closed q (d ∷ ds) h i = ⊎_elim (λ e. subst (λ w. is_started logs x.places w ≡ true) e.0 (h.0 ∙ e.1)) (λ r. exists-closed q ds h.1 r) i
-
-  closed-each : Each (λ d. closed_at logs x.places d.header.id ≡ is_closed_in x.places d) (accepted_tablets logs)
-  closed-each = Each-weaker (KeepsTablet logs x) (λ d. closed_at logs x.places d.header.id ≡ is_closed_in x.places d) (λ d k. sym (closed-kept d.header.id) ∙ k.closed) (accepted_tablets logs) s.tablets
-
   abbrev value : Header → ℕ
-  value h = slice_index x.safe h.id
+  value h = slice_index f.safe h.id
 
-  counted : (b : AcceptedTablet) → KeepsTablet logs x b → is_closed_in x.places b ≡ false → is_started logs x.places b.header.parent ≡ true → counts_in x b.header ≡ true
-  counted b k c t = ap (λ o. not o && option_map_or (λ parent. slice_index_or x.closed parent false) b.header.parent true) (k.closed ∙ c) ∙ started-kept b.header.parent ∙ t
+  counted : (b : AcceptedTablet) → FloorFor logs places f b → is_closed_in places b ≡ false → is_started logs places b.header.parent ≡ true → counts f b.header ≡ true
+  counted b k c t = and_from (not (has_closed f b.header.id)) (starts f b.header) (ap not (k.closed ∙ c)) (started-kept b.header.parent ∙ t)
 
-  same-heads : heads (accepted_tablets logs) ≡ x.headers
-  same-heads = heads-logs logs s.valid ∙ sym s.headers
+  same-heads : f.headers ≡ heads (accepted_tablets logs)
+  same-heads = right.headers ∙ sym (heads-logs logs)
 
-  low : Each (λ b. counts_in x b.header ≡ true → least_kept x ≤ value b.header) (accepted_tablets logs)
-  low = each-heads (λ h. counts_in x h ≡ true → least_kept x ≤ value h) (accepted_tablets logs) (subst (Each (λ h. counts_in x h ≡ true → least_kept x ≤ value h)) (sym same-heads) (least-low value (counts_in x) x.headers (least_kept x) (omega arith)))
+  low : Each (λ b. counts f b.header ≡ true → least_kept f ≤ value b.header) (accepted_tablets logs)
+  low = header-each (λ h. counts f h ≡ true → least_kept f ≤ value h) (accepted_tablets logs) (subst (Each (λ h. counts f h ≡ true → least_kept f ≤ value h)) same-heads (least-low value (counts f) f.headers (least_kept f) (omega arith)))
 
-  bound : KeptBound (least_kept x) (placed (accepted_tablets logs) x.places)
-  bound = each-placed (λ y. is_closed y ≡ false → (y.tablet.header.parent ≡ None) ⊎ Exists (λ z. (Some z.tablet.header.id ≡ y.tablet.header.parent) × (is_closed z ≡ true)) (placed (accepted_tablets logs) x.places) → least_kept x ≤ last_safe y) (accepted_tablets logs) x.places
-      (Each-weaker (λ b. KeepsTablet logs x b × (counts_in x b.header ≡ true → least_kept x ≤ value b.header)) (λ b. is_closed_in x.places b ≡ false → (b.header.parent ≡ None) ⊎ Exists (λ z. (Some z.tablet.header.id ≡ b.header.parent) × (is_closed z ≡ true)) (placed (accepted_tablets logs) x.places) → least_kept x ≤ last_safe_in x.places b)
-      (λ b h c i.
-      let started : is_started logs x.places b.header.parent ≡ true = ⊎_elim (λ e. subst (λ w. is_started logs x.places w ≡ true) (sym e) refl) (λ r. exists-closed b.header.parent (accepted_tablets logs) closed-each r) i in
-      let q : least_kept x ≤ value b.header = h.1 (counted b h.0 c started) in
-      let e : value b.header ≡ last_safe_in x.places b = h.0.safe started in omega arith) (accepted_tablets logs) (each-both (KeepsTablet logs x) (λ b. counts_in x b.header ≡ true → least_kept x ≤ value b.header) (accepted_tablets logs) s.tablets low))
-
-  below : least_kept x ≤ covers logs x
-  below =
-      let e : safe_time logs x.places ≡ safe (placed (accepted_tablets logs) x.places) = safe-time logs x.places in
-      let tablets : TabletsOf logs.tablets (placed (accepted_tablets logs) x.places) = ends-placed (accepted_tablets logs) x.places ∙ accepted-ends logs s.valid in
-      let q : least_kept x ≤ safe (placed (accepted_tablets logs) x.places) = kept-suffice logs.tablets (placed (accepted_tablets logs) x.places) (least_kept x) (rules-suffice logs s.valid) tablets (legal-places logs x.places s.valid s.places).within (least-top value (counts_in x) x.headers) bound in
+  -- a tablet that hasn't started holds at least what its parent does
+  under-low : (b : AcceptedTablet) (i : ℕ) → slice_get (accepted_tablets logs) i ≡ Some b → (q : Option ℕ) → b.header.parent ≡ q → is_started logs places q ≡ false
+      → ((p : ℕ) (d : AcceptedTablet) → p < b.header.id → slice_get (accepted_tablets logs) p ≡ Some d → is_closed_in places d ≡ false → least_kept f ≤ last_safe_in places d) → least_kept f ≤ last_safe_in places b
+  under-low b i e None q s ih = cc
+  under-low b i e (Some p) q s ih =
+      let u : UnderParent (accepted_tablets logs) p b = get-under logs i b valid e p q in
+      let parent : least_kept f ≤ last_safe_in places u.parent = ih p u.parent u.below u.there (sym (closed-of logs places p u.parent u.there) ∙ s) in
+      let high : last_safe_in places u.parent ≤ u.parent.end.floor = floor-high places u.parent (each-get IsGrown (accepted_tablets logs) p u.parent (accepted_tablets-grown logs) u.there) (each-get (λ b. place places b ≤ length b.records) (accepted_tablets logs) p u.parent legal.within u.there) in
+      let begins : u.parent.end.floor ≡ b.start.floor = u.floor in
+      let up : b.start.floor ≤ last_safe_in places b = floor-low places b (each-get IsGrown (accepted_tablets logs) i b (accepted_tablets-grown logs) e) in
       omega arith
 
-  above : covers logs x ≤ least_kept x
+  low-at : (n i : ℕ) (b : AcceptedTablet) → i < n → slice_get (accepted_tablets logs) i ≡ Some b → is_closed_in places b ≡ false → least_kept f ≤ last_safe_in places b
+  low-at zero i b l e c = absurd (omega arith)
+  low-at (suc n) i b l e c =
+      let k : FloorFor logs places f b = each-get (FloorFor logs places f) (accepted_tablets logs) i b right.each e in
+      let id : b.header.id ≡ i = get-id logs i b valid e in
+      ⊎_elim
+      (λ started.
+      let q : least_kept f ≤ value b.header = each-get (λ b. counts f b.header ≡ true → least_kept f ≤ value b.header) (accepted_tablets logs) i b low e (counted b k c started) in
+      let same : value b.header ≡ last_safe_in places b = k.safe started in omega arith)
+      (λ waits. under-low b i e b.header.parent refl waits (λ p d below there open_. low-at n p d (omega arith) there open_))
+      (cases_Bool (is_started logs places b.header.parent))
+
+  below : least_kept f ≤ safe_time logs places
+  unfolding safe_time
+  below = least-high (last_safe_in places) (λ b. not (is_closed_in places b)) (accepted_tablets logs) (least_kept f) (least-top value (counts f) f.headers)
+      (each-from (λ b. not (is_closed_in places b) ≡ true → least_kept f ≤ last_safe_in places b) (accepted_tablets logs) (λ i b e o. low-at (suc i) i b (omega arith) e (open-of (is_closed_in places b) o)))
+    where
+      open-of : (c : Bool) → not c ≡ true → c ≡ false
+      open-of true e = cc
+      open-of false e = refl
+
+  all-high : Each (λ b. not (is_closed_in places b) ≡ true → safe_time logs places ≤ last_safe_in places b) (accepted_tablets logs)
+  unfolding safe_time
+  all-high = least-low (last_safe_in places) (λ b. not (is_closed_in places b)) (accepted_tablets logs) (safe_time logs places) (omega arith)
+
+  top : safe_time logs places ≤ 2 ^ 62
+  unfolding safe_time
+  top = least-top (last_safe_in places) (λ b. not (is_closed_in places b)) (accepted_tablets logs)
+
+  above : safe_time logs places ≤ least_kept f
   above =
-      let e : safe_time logs x.places ≡ safe (placed (accepted_tablets logs) x.places) = safe-time logs x.places in
-      let top : safe (placed (accepted_tablets logs) x.places) ≤ 2 ^ 62 = safe-top (placed (accepted_tablets logs) x.places) in
-      let all : Each (λ b. (is_closed_in x.places b ≡ true) ⊎ (covers logs x ≤ last_safe_in x.places b)) (accepted_tablets logs) = each-unplaced (λ y. (is_closed y ≡ true) ⊎ (covers logs x ≤ last_safe y)) (accepted_tablets logs) x.places (under-safe (covers logs x) (placed (accepted_tablets logs) x.places) (omega arith)) in
-      least-high value (counts_in x) x.headers (covers logs x) (omega arith)
-      (subst (Each (λ h. counts_in x h ≡ true → covers logs x ≤ value h)) same-heads
-      (each-header (λ h. counts_in x h ≡ true → covers logs x ≤ value h) (accepted_tablets logs)
-      (Each-weaker (λ b. KeepsTablet logs x b × ((is_closed_in x.places b ≡ true) ⊎ (covers logs x ≤ last_safe_in x.places b))) (λ b. counts_in x b.header ≡ true → covers logs x ≤ value b.header)
-      (λ b h t.
+      least-high value (counts f) f.headers (safe_time logs places) top
+      (subst (Each (λ h. counts f h ≡ true → safe_time logs places ≤ value h)) (sym same-heads)
+      (each-header (λ h. counts f h ≡ true → safe_time logs places ≤ value h) (accepted_tablets logs)
+      (each-from (λ b. counts f b.header ≡ true → safe_time logs places ≤ value b.header) (accepted_tablets logs)
+      (λ i b e t.
+      let k : FloorFor logs places f b = each-get (FloorFor logs places f) (accepted_tablets logs) i b right.each e in
       let parts = and_parts _ _ t in
-      let open_ : is_closed_in x.places b ≡ true → ⊥ = λ c. true≢false (sym parts.0 ∙ ap not (h.0.closed ∙ c)) in
-      let e : value b.header ≡ last_safe_in x.places b = h.0.safe (sym (started-kept b.header.parent) ∙ parts.1) in
-      ⊎_elim (λ c. absurd (open_ c)) (λ l. omega arith) h.1) (accepted_tablets logs) (each-both (KeepsTablet logs x) (λ b. (is_closed_in x.places b ≡ true) ⊎ (covers logs x ≤ last_safe_in x.places b)) (accepted_tablets logs) s.tablets all))))
+      let same : value b.header ≡ last_safe_in places b = k.safe (sym (started-kept b.header.parent) ∙ parts.1) in
+      let high : safe_time logs places ≤ last_safe_in places b = each-get (λ b. not (is_closed_in places b) ≡ true → safe_time logs places ≤ last_safe_in places b) (accepted_tablets logs) i b all-high e (ap not (sym k.closed) ∙ parts.0) in
+      omega arith))))
 
 pub kept-values : KeptValuesSuffice
-kept-values logs x u s = let a : least_kept x ≤ covers logs x = below logs u x s in let b : covers logs x ≤ least_kept x = above logs u x s in omega arith
+kept-values logs places f valid legal right = let a : least_kept f ≤ safe_time logs places = below logs places f valid legal right in let b : safe_time logs places ≤ least_kept f = above logs places f valid legal right in omega arith
+
+pub safe-rises : SafeTimeRises
+safe-rises logs a b p r = safe_time-rises logs a b p r

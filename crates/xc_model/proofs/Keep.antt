@@ -4,21 +4,21 @@ use Rattle.std.specs.List.{filter}
 use Rattle.std.proofs.lemmas.List.Elements.{filter-append}
 use Rattle.std.proofs.lemmas.Bool.Decides.{nat_tests}
 use Rattle.std.proofs.lemmas.Bool.{cases_lt}
-use Rattle.xc_model.specs.Kept.{put_after, upto, above, not_after, last_of, kept_from, newest, add_all}
-use Rattle.xc_model.proofs.StableSort.{Each, InOrder}
-use Rattle.xc_record.specs.Path.{Version, Waiting}
+use Rattle.xc_record.specs.Kept.{add, upto, above, last_of, kept_from, newest, add_all}
+use Rattle.xc_model.proofs.StableSort.{Each, Before, InOrder}
+use Rattle.xc_record.specs.Path.{Version, version_cmp, Waiting}
 use Rattle.xc_record.proofs.ListLaws.{Each-weaker}
 
 -- a version after the cutoff goes past what is kept
-upto-put_after : (u : ℕ) (x : Version) (vs : List Version) → u < x.commit → filter (upto u) (put_after not_after x vs) ≡ filter (upto u) vs
-upto-put_after u x [] h = grind (arith, nat_tests)
-upto-put_after u x (y ∷ ys) h = grind (arith, nat_tests, upto-put_after u x ys h)
+upto-add : (u : ℕ) (x : Version) (vs : List Version) → u < x.commit → filter (upto u) (add x vs) ≡ filter (upto u) vs
+upto-add u x [] h = grind (arith, nat_tests)
+upto-add u x (y ∷ ys) h = grind (arith, nat_tests, upto-add u x ys h)
 
-above-put_after : (u : ℕ) (x : Version) (vs : List Version) → u < x.commit → filter (above u) (put_after not_after x vs) ≡ put_after not_after x (filter (above u) vs)
-above-put_after u x [] h = grind (arith, nat_tests)
-above-put_after u x (y ∷ ys) h = grind (arith, nat_tests, above-put_after u x ys h)
+above-add : (u : ℕ) (x : Version) (vs : List Version) → u < x.commit → filter (above u) (add x vs) ≡ add x (filter (above u) vs)
+above-add u x [] h = grind (arith, nat_tests)
+above-add u x (y ∷ ys) h = grind (arith, nat_tests, above-add u x ys h)
 
-past-front : (u : ℕ) (x : Version) (ys zs : List Version) → u < x.commit → Each (λ y. y.commit ≤ u) ys → put_after not_after x (ys ++ zs) ≡ ys ++ put_after not_after x zs
+past-front : (u : ℕ) (x : Version) (ys zs : List Version) → u < x.commit → Each (λ y. y.commit ≤ u) ys → add x (ys ++ zs) ≡ ys ++ add x zs
 past-front u x [] zs h e = refl
 past-front u x (y ∷ ys) zs h e = grind (arith, nat_tests, past-front u x ys zs h e.1, e.0)
 
@@ -34,17 +34,17 @@ each-last_of P [] h = tt
 each-last_of P (x ∷ []) h = h
 each-last_of P (x ∷ (y ∷ ys)) h = each-last_of P (y ∷ ys) h.1
 
-pub kept_from-put_after : (u : ℕ) (x : Version) (vs : List Version) → u < x.commit → kept_from u (put_after not_after x vs) ≡ put_after not_after x (kept_from u vs)
-kept_from-put_after u x vs h =
-    ap (λ w. last_of w ++ filter (above u) (put_after not_after x vs)) (upto-put_after u x vs h)
-    ∙ ap (λ w. last_of (filter (upto u) vs) ++ w) (above-put_after u x vs h)
+pub kept_from-add : (u : ℕ) (x : Version) (vs : List Version) → u < x.commit → kept_from u (add x vs) ≡ add x (kept_from u vs)
+kept_from-add u x vs h =
+    ap (λ w. last_of w ++ filter (above u) (add x vs)) (upto-add u x vs h)
+    ∙ ap (λ w. last_of (filter (upto u) vs) ++ w) (above-add u x vs h)
     ∙ sym (past-front u x (last_of (filter (upto u) vs)) (filter (above u) vs) h (each-last_of (λ y. y.commit ≤ u) (filter (upto u) vs) (each-upto u vs)))
 
 pub kept_from-add_all : (u c : ℕ) (hs : List Waiting) (vs : List Version) → u < c → kept_from u (add_all c hs vs) ≡ add_all c hs (kept_from u vs)
 kept_from-add_all u c [] vs h = refl
 kept_from-add_all u c (k ∷ hs) vs h =
     let x : Version = record { commit = c; txn = k.txn; value = k.value } in
-    kept_from-add_all u c hs (put_after not_after x vs) h ∙ ap (add_all c hs) (kept_from-put_after u x vs h)
+    kept_from-add_all u c hs (add x vs) h ∙ ap (add_all c hs) (kept_from-add u x vs h)
 
 -- two tests in a row
 both-tests : (u t : ℕ) (vs : List Version) → u ≤ t → filter (upto u) (filter (upto t) vs) ≡ filter (upto u) vs
@@ -64,13 +64,13 @@ all-above : (u : ℕ) (ys : List Version) → Each (λ y. u < y.commit) ys → f
 all-above u [] e = refl
 all-above u (y ∷ ys) e = grind (arith, nat_tests, all-above u ys e.1, e.0)
 
-above-too : (u : ℕ) (x y : Version) → u < x.commit → not_after x y ≡ true → u < y.commit
+above-too : (u : ℕ) (x y : Version) → u < x.commit → Before version_cmp x y → u < y.commit
 above-too u x y h k = grind (arith, nat_tests)
 
-later-above : (u : ℕ) (x : Version) (ys : List Version) → u < x.commit → Each (λ y. not_after x y ≡ true) ys → Each (λ y. u < y.commit) ys
-later-above u x ys h e = Each-weaker (λ y. not_after x y ≡ true) (λ y. u < y.commit) (λ y k. above-too u x y h k) ys e
+later-above : (u : ℕ) (x : Version) (ys : List Version) → u < x.commit → Each (Before version_cmp x) ys → Each (λ y. u < y.commit) ys
+later-above u x ys h e = Each-weaker (Before version_cmp x) (λ y. u < y.commit) (λ y k. above-too u x y h k) ys e
 
-pub parts-in_order : (u : ℕ) (vs : List Version) → InOrder not_after vs → filter (upto u) vs ++ filter (above u) vs ≡ vs
+pub parts-in_order : (u : ℕ) (vs : List Version) → InOrder version_cmp vs → filter (upto u) vs ++ filter (above u) vs ≡ vs
 parts-in_order u [] s = refl
 parts-in_order u (x ∷ xs) s =
     ⊎_elim (λ h. let late : Each (λ y. u < y.commit) xs = later-above u x xs h s.0 in grind (arith, nat_tests, none-upto u xs late, all-above u xs late))
@@ -82,7 +82,7 @@ last_of-join (x ∷ []) ys = refl
 last_of-join (x ∷ (y ∷ zs)) ys = last_of-join (y ∷ zs) ys
 
 -- a read at or after the cutoff sees what it saw before
-pub newest-kept_from : (u t : ℕ) (vs : List Version) → u ≤ t → InOrder not_after vs → newest t (kept_from u vs) ≡ newest t vs
+pub newest-kept_from : (u t : ℕ) (vs : List Version) → u ≤ t → InOrder version_cmp vs → newest t (kept_from u vs) ≡ newest t vs
 newest-kept_from u t vs h s =
     let a = filter (upto u) vs in
     let f = filter (above u) vs in
@@ -99,7 +99,7 @@ both-above u w [] h = refl
 both-above u w (y ∷ ys) h = grind (arith, nat_tests, both-above u w ys h)
 
 -- a greater cutoff
-pub kept_from-more : (u w : ℕ) (vs : List Version) → u ≤ w → InOrder not_after vs → kept_from w (kept_from u vs) ≡ kept_from w vs
+pub kept_from-more : (u w : ℕ) (vs : List Version) → u ≤ w → InOrder version_cmp vs → kept_from w (kept_from u vs) ≡ kept_from w vs
 kept_from-more u w vs h s =
     let a = filter (upto u) vs in
     let f = filter (above u) vs in
@@ -129,7 +129,3 @@ kept_from-less u w vs h =
     ∙ ap (λ r. last_of (filter (upto w) g) ++ r) (filter-append (above w) g f ∙ ap (λ r. filter (above w) g ++ r) (all-above w f late))
     ∙ sym (append_assoc (last_of (filter (upto w) g)) (filter (above w) g) f)
     ∙ ap (λ r. r ++ f) (one-parts w (filter (upto u) vs))
-
--- a restore to t keeps the reads up to t
-pub newest-restored : (u t : ℕ) (vs : List Version) → u ≤ t → newest u (filter (upto t) vs) ≡ newest u vs
-newest-restored u t vs h = ap last_of (both-tests u t vs h)

@@ -1,64 +1,60 @@
 -- Cutoffs, restores and new tablets.
-use Rattle.std.proofs.Common.{◌≡◌, ℕ, zero, suc, ◌≤◌, max, true, false, List, [], ◌∷◌, length, replicate, Option, Some, None, refl, ap, sym, ◌∙◌, arith, subst, get_or, take, ◌++◌}
-use Rattle.std.specs.Prelude.{filter, nat_le, slice_get, slice_index}
+use Rattle.std.proofs.Common.{◌≡◌, ℕ, zero, suc, ◌≤◌, max, true, false, List, length, replicate, Option, Some, None, refl, ap, sym, ◌∙◌, arith, subst, ⊎_elim, get_or}
+use Rattle.std.specs.Prelude.{filter, slice_get, slice_index}
 use Rattle.std.proofs.lemmas.Bool.{true≢false}
 use Rattle.std.proofs.lemmas.List.{length-replicate, length-map}
 use Rattle.std.specs.Option.{option_map_or}
-use Rattle.xc_record.specs.SafeTime.{floor_after}
 use Rattle.xc_record.specs.declared.record.Tablet.{Tablet}
-use Rattle.xc_model.proofs.Placed.{ends, ends_from, end_under, parent_order, owns_it}
-use Rattle.xc_model.proofs.Paths.{shown}
-use Rattle.xc_model.proofs.Cover.{nothing-applied}
-use Rattle.xc_model.proofs.Tree.{each-both, empty-open}
-use Rattle.xc_model.proofs.FromRules.{FromTablet, ends-tablets}
-use Rattle.xc_model.proofs.FromValid.{accepted-ends}
-use Rattle.xc_model.proofs.Bridge.{at_place, each-placed}
+use Rattle.xc_model.proofs.Parents.{each-get, StartsRoot, each-root}
 use Rattle.xc_record.specs.declared.record.Logs.{Logs}
 use Rattle.xc_record.specs.Hash.{hash_of}
 use Rattle.xc_record.specs.Accepted.{AcceptedTablet, accepted_tablets}
-use Rattle.xc_record.specs.Path.{Version, events}
-use Rattle.xc_record.specs.SafeTime.{place, last_safe_in, is_closed_in, is_closed, safe_time, StartsAfter, IsPlaces}
+use Rattle.xc_record.specs.Path.{Version, version_cmp, Event, versions, versions_along, waiting, path_to, events}
+use Rattle.xc_record.specs.Order.{Progress}
+use Rattle.std.proofs.lemmas.Bool.{cases_lt}
+use Rattle.xc_record.specs.SafeTime.{place, order_at, last_safe_in, is_closed_in, is_closed, is_started, safe_time, StartsAfter, IsPlaces}
 use Rattle.xc_record.specs.Valid.{is_valid, headers_of}
-use Rattle.xc_record.proofs.SafeLaws.{safe_time-rises}
-use Rattle.xc_model.specs.Kept.{Kept, read, value_of, upto, pruned, restored}
-use Rattle.xc_model.specs.Stands.{KeyVersion, TargetTablet, versions_at, kept_at, is_started, KeepsTablet, StandsFor, restore, new_tablet}
-use Rattle.xc_model.specs.Laws.{NewStands, CutoffsKeepStanding, RestoresKeepReads, SafeTimeRises}
+use Rattle.xc_record.specs.Kept.{Kept, kept_from, versions_at, pruned}
+use Rattle.xc_model.specs.Floors.{new_floors, FloorFor}
+use Rattle.xc_model.specs.Stands.{kept_at, StandsFor, new_tablet}
+use Rattle.xc_model.specs.Laws.{NewStands, CutoffsKeepStanding}
 use Rattle.xc_model.proofs.StableSort.{Each}
-use Rattle.xc_model.proofs.Placed.{placed, path_upto, owners}
-use Rattle.xc_model.proofs.Keep.{newest-restored}
-use Rattle.xc_model.proofs.KeepStanding.{pruned-shown}
-use Rattle.xc_model.proofs.Bridge.{given-shown}
-use Rattle.xc_record.proofs.ListLaws.{Each-append, Each-filter, Each-weaker}
+use Rattle.xc_model.proofs.Elements.{each-both}
+use Rattle.xc_model.proofs.Paths.{shown}
+use Rattle.xc_model.proofs.Along.{own}
+use Rattle.xc_model.proofs.Cover.{nothing-applied}
+use Rattle.xc_model.proofs.Keep.{kept_from-more, kept_from-less}
+use Rattle.xc_model.proofs.Sorts.{in_order-sort}
+use Rattle.xc_model.proofs.ApplyPath.{version-orders}
+use Rattle.xc_model.proofs.ReadRows.{along-path}
+use Rattle.xc_model.proofs.Tree.{IsOne, each-one, one-unsplit, empty-open}
+use Rattle.xc_record.proofs.ListLaws.{Each-filter, Each-weaker}
 
 -- ---- cutoffs
+
+pruned-shown : (u w : ℕ) (es : List Event) → pruned w (shown u es) ≡ shown (max u w) es
+pruned-shown u w es =
+    let vs = versions_along es in
+    let o = versions es in
+    let put : List Version → Kept = λ v. record { versions = v; held = waiting es } in
+    ⊎_elim
+    (λ h. let m : max u w ≡ w = omega arith in ap put (kept_from-more u w o (omega arith) (in_order-sort version_cmp version-orders vs) ∙ ap (λ n. kept_from n o) (sym m)))
+    (λ h. let m : max u w ≡ u = omega arith in ap put (kept_from-less u w o h ∙ ap (λ n. kept_from n o) (sym m)))
+    (cases_lt u w)
 
 pub cutoffs-keep : CutoffsKeepStanding
 cutoffs-keep logs x y u w s b p =
     subst (StandsFor logs (max u w)) (sym p.rest) (record {
       valid = s.valid;
-      headers = s.headers;
       places = s.places;
       covered = (let q : u ≤ safe_time logs x.places = s.covered in let r : w ≤ safe_time logs x.places = b in omega arith);
-      counts = s.counts;
-      tablets = Each-weaker (KeepsTablet logs x) (KeepsTablet logs (record x { versions = y.versions })) (λ t k. record { closed = k.closed; safe = k.safe }) (accepted_tablets logs) s.tablets;
-      keys = λ k q. kept-versions (versions_at k y.versions) (kept_at x k) w (p.keys k q) ∙ ap (pruned w) (s.keys k q ∙ given-shown logs u x.places k) ∙ pruned-shown u w (events k (path_upto (owners (hash_of k) (placed (accepted_tablets logs) x.places)))) ∙ sym (given-shown logs (max u w) x.places k);
+      floors = s.floors;
+      keys = λ k q. kept-versions (versions_at k y.versions) (kept_at x k) w (p.keys k q) ∙ ap (pruned w) (s.keys k q) ∙ pruned-shown u w (events k (path_to logs x.places k));
       within = record { versions = p.within; held = s.within.held };
     })
   where
     kept-versions : (vs : List Version) (x : Kept) (w : ℕ) → vs ≡ (pruned w x).versions → (let z : Kept = record { versions = vs; held = x.held } in z) ≡ pruned w x
     kept-versions vs x w e = ap (λ (vs : List Version). let z : Kept = record { versions = vs; held = x.held } in z) e
-
--- ---- restores
-
-versions-upto : (k : List ℕ) (t : ℕ) (vs : List KeyVersion) → versions_at k (filter (λ v. nat_le v.commit t) vs) ≡ filter (upto t) (versions_at k vs)
-versions-upto k t [] = refl
-versions-upto k t (v ∷ vs) = grind (arith, versions-upto k t vs)
-
-restored-at : (k : List ℕ) (t : ℕ) (y : TargetTablet) → kept_at (restore t y) k ≡ restored t (kept_at y k)
-restored-at k t y = ap (λ (vs : List Version). let z : Kept = record { versions = vs; held = [] } in z) (versions-upto k t y.versions)
-
-pub restores-keep : RestoresKeepReads
-restores-keep logs x y u t v k r h = ap (λ z. read v (kept_at z k)) r.is ∙ ap (read v) (restored-at k t y) ∙ ap value_of (newest-restored v t (versions_at k y.versions) h)
 
 -- ---- a new tablet
 
@@ -66,21 +62,6 @@ index-same : {A : Type 0} (n i : ℕ) (a : A) → get_or (replicate n a) i a ≡
 index-same zero i a = refl
 index-same (suc n) zero a = refl
 index-same (suc n) (suc i) a = index-same n i a
-
-pub each-get : {A : Type 0} (P : A → Type 0) (xs : List A) (i : ℕ) (x : A) → Each P xs → slice_get xs i ≡ Some x → P x
-each-get P [] i x h e = cc
-each-get P (y ∷ ys) zero x h e = let q : y ≡ x = cc in subst P q h.0
-each-get P (y ∷ ys) (suc i) x h e = each-get P ys i x h.1 e
-
--- a root begins at floor 0
-abbrev RootsLow : AcceptedTablet → Type 0
-RootsLow e = (e.header.parent ≡ None) → e.start.floor ≡ 0
-
-roots-low : (done : List AcceptedTablet) (ts : List Tablet) → Each RootsLow done → Each RootsLow (ends_from done ts)
-roots-low done [] h = h
-roots-low done (t ∷ ts) h =
-    let e = end_under (parent_order done t.header.parent) t in
-    roots-low (done ++ e ∷ []) ts (Each-append RootsLow done (e ∷ []) h ((λ q. ap (λ w. (parent_order done w).floor) q), tt))
 
 module _ (logs : Logs) (valid : is_valid logs ≡ true) where
   zeros : List ℕ
@@ -91,8 +72,7 @@ module _ (logs : Logs) (valid : is_valid logs ≡ true) where
   zero-at i = index-same (length (headers_of logs.tablets)) i 0
 
   all-open : Each (λ b. is_closed_in zeros b ≡ false) (accepted_tablets logs)
-  all-open = subst (Each (λ b. is_closed_in zeros b ≡ false)) (sym (accepted-ends logs valid))
-      (Each-weaker (FromTablet logs.tablets) (λ b. is_closed_in zeros b ≡ false) (λ b f. empty-open (at_place zeros b) f.under f.tablet f.is (zero-at b.header.id)) (ends logs.tablets) (ends-tablets logs.tablets))
+  all-open = Each-weaker (IsOne (accepted_tablets logs)) (λ b. is_closed_in zeros b ≡ false) (λ b o. empty-open zeros b o.grown (one-unsplit (accepted_tablets logs) b o) (zero-at b.header.id)) (accepted_tablets logs) (each-one logs valid)
 
   none-closed : (p : ℕ) → is_closed logs zeros p ≡ false
   unfolding is_closed
@@ -107,42 +87,36 @@ module _ (logs : Logs) (valid : is_valid logs ≡ true) where
   new-places = record {
     count = length-replicate (length (headers_of logs.tablets)) 0 ∙ length-map logs.tablets (λ (t : Tablet). t.header);
     within = Each-weaker (λ b. is_closed_in zeros b ≡ false) (λ b. place zeros b ≤ length b.records) (λ b _. let q : place zeros b ≡ 0 = zero-at b.header.id in omega arith) (accepted_tablets logs) all-open;
-    starts = Each-weaker (λ b. is_closed_in zeros b ≡ false) (λ b. StartsAfter logs zeros b b.header.parent) (λ b _. starts b b.header.parent) (accepted_tablets logs) all-open;
+    starts = Each-weaker (λ b. is_closed_in zeros b ≡ false) (StartsAfter logs zeros) (λ b _ _. zero-at b.header.id) (accepted_tablets logs) all-open;
   }
-    where
-      starts : (b : AcceptedTablet) (q : Option ℕ) → StartsAfter logs zeros b q
-      starts b None = tt
-      starts b (Some p) = λ _. zero-at b.header.id
 
   first-safe : (b : AcceptedTablet) → last_safe_in zeros b ≡ b.start.floor
-  first-safe b = ap (λ n. floor_after b.start.floor (take n b.records)) (zero-at b.header.id)
+  first-safe b = ap (λ n. (order_at b n).floor) (zero-at b.header.id)
 
   started-root : (q : Option ℕ) → is_started logs zeros q ≡ true → q ≡ None
   started-root None e = refl
   started-root (Some p) e = absurd (true≢false (sym e ∙ none-closed p))
 
-  low-roots : Each RootsLow (accepted_tablets logs)
-  low-roots = subst (Each RootsLow) (sym (accepted-ends logs valid)) (roots-low [] logs.tablets tt)
-
   pub stands-new : (lo hi : ℕ) → StandsFor logs 0 (new_tablet lo hi (headers_of logs.tablets))
   unfolding zeros
   stands-new lo hi = record {
     valid = valid;
-    headers = refl;
     places = new-places;
     covered = omega arith;
-    counts = (length-replicate (length (headers_of logs.tablets)) false, length-replicate (length (headers_of logs.tablets)) 0);
-    tablets = Each-weaker (λ b. (is_closed_in zeros b ≡ false) × RootsLow b) (KeepsTablet logs (new_tablet lo hi (headers_of logs.tablets)))
-        (λ b h. record {
-          closed = index-same (length (headers_of logs.tablets)) b.header.id false ∙ sym h.0;
-          safe = λ e. zero-at b.header.id ∙ sym (first-safe b ∙ h.1 (started-root b.header.parent e));
-        }) (accepted_tablets logs) (each-both (λ b. is_closed_in zeros b ≡ false) RootsLow (accepted_tablets logs) all-open low-roots);
-    keys = λ k q. sym (given-shown logs 0 zeros k ∙ ap (λ rs. shown 0 (events k rs)) (nothing-applied (owners (hash_of k) (placed (accepted_tablets logs) zeros)) (Each-filter (λ x. x.place ≡ 0) (owns_it (hash_of k)) (placed (accepted_tablets logs) zeros) (each-placed (λ x. x.place ≡ 0) (accepted_tablets logs) zeros (Each-weaker (λ b. is_closed_in zeros b ≡ false) (λ b. slice_index zeros b.header.id ≡ 0) (λ b _. zero-at b.header.id) (accepted_tablets logs) all-open)))));
+    floors = record {
+      headers = refl;
+      closed = length-replicate (length (headers_of logs.tablets)) false;
+      safe = length-replicate (length (headers_of logs.tablets)) 0;
+      each = Each-weaker (λ b. (is_closed_in zeros b ≡ false) × StartsRoot b) (FloorFor logs zeros (new_floors (headers_of logs.tablets)))
+          (λ b h. record {
+            closed = index-same (length (headers_of logs.tablets)) b.header.id false ∙ sym h.0;
+            safe = λ e. zero-at b.header.id ∙ sym (first-safe b ∙ ap (λ (p : Progress). p.floor) (h.1 (started-root b.header.parent e)));
+          }) (accepted_tablets logs) (each-both (λ b. is_closed_in zeros b ≡ false) StartsRoot (accepted_tablets logs) all-open (each-root logs));
+    };
+    keys = λ k q. sym (ap (λ rs. shown 0 (events k rs)) (along-path logs zeros k ∙ nothing-applied zeros (filter (own (hash_of k)) (accepted_tablets logs))
+        (Each-filter (λ d. place zeros d ≡ 0) (own (hash_of k)) (accepted_tablets logs) (Each-weaker (λ b. is_closed_in zeros b ≡ false) (λ d. place zeros d ≡ 0) (λ d _. zero-at d.header.id) (accepted_tablets logs) all-open))));
     within = record { versions = tt; held = tt };
   }
 
 pub new-stands : NewStands
 new-stands logs lo hi valid = stands-new logs valid lo hi
-
-pub safe-rises : SafeTimeRises
-safe-rises logs a b p r = safe_time-rises logs a b p r

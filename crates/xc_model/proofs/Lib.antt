@@ -1,12 +1,16 @@
+pub mod Parents
 pub mod StableSort
+pub mod Elements
 pub mod Paths
-pub mod Placed
-pub mod Rows
+pub mod Along
 pub mod ValidLogs
 pub mod Sorts
 pub mod ApplyPath
 pub mod Keep
 pub mod Groups
+pub mod Flat
+pub mod Sorted
+pub mod Intents
 pub mod Chain
 pub mod Cover
 pub mod ReadPath
@@ -15,17 +19,12 @@ pub mod Deliver
 pub mod RowsAt
 pub mod Tree
 pub mod ReadRows
-pub mod SafeTime
-pub mod KeptSafe
+pub mod Low
 pub mod DeliverRecord
-pub mod KeepStanding
 pub mod FromRules
 pub mod FromValid
-pub mod Sorted
-pub mod RealRows
 pub mod FromCases
 pub mod NoDisagreement
-pub mod Bridge
 pub mod ReadLaw
 pub mod KeepLaws
 pub mod FloorLaw
@@ -33,7 +32,11 @@ pub mod Children
 pub mod SplitEnd
 pub mod DeliverLaw
 pub mod SessionLaws
+pub mod Batches
+pub mod Restores
+pub mod Partitions
 pub mod TimeLaws
+pub mod LineLaws
 pub mod ListLaw
 mod WorkedTablets
 mod Examples

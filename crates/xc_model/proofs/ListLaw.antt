@@ -1,6 +1,5 @@
 -- The whole list of rows that a tablet shows.
 use Rattle.std.proofs.Common.{◌≤◌, subst}
-use Rattle.std.proofs.lemmas.Bool.Decides.{nat_tests}
 use Rattle.std.proofs.Common.{◌≡◌, ℕ, Bool, true, false, cond, List, [], ◌∷◌, map, None, refl, ap, sym, ◌∙◌, arith, ⊎_elim}
 use Rattle.std.specs.Prelude.{filter, nat_le, bytes_eq}
 use Rattle.std.specs.declared.cmp.Ordering.{Ordering}
@@ -11,26 +10,21 @@ use Rattle.std.specs.FinMap.{slice_cmp-IsAntisymmetric, nat_cmp-IsAntisymmetric}
 use Rattle.std.specs.FinMap.Entries.{find, where_key, find-where_key, is_sorted-where_key, same_entries}
 use Rattle.std.proofs.lemmas.Bool.{cases_Bool, true≢false}
 use Rattle.std.proofs.lemmas.Slice.Eq.{bytes_eq-Decides}
-use Rattle.xc_record.specs.declared.record.Op.{Op}
 use Rattle.xc_record.specs.Path.{Version, puts}
-use Rattle.xc_record.specs.Rows.{rows_after, rows, row}
+use Rattle.xc_record.specs.Rows.{rows, row}
 use Rattle.xc_record.proofs.RowLaws.{after_puts, find-rows_after, rows_after-sorted, rows-sorted}
-use Rattle.xc_model.specs.Kept.{upto, newest, read, value_of, last_of}
-use Rattle.xc_model.specs.Stands.{restore, covers, KeyVersion, TargetTablet, in_range, versions_at, kept_at, rows_shown}
+use Rattle.xc_record.specs.Kept.{KeyVersion, version_of, versions_at, written_by, upto, newest, read, value_of}
+use Rattle.xc_model.specs.Stands.{covers, TargetTablet, in_range, kept_at, rows_shown}
 use Rattle.xc_model.specs.Laws.{ReadsShowLists, RestoredShowRows}
-use Rattle.xc_model.proofs.KeepLaws.{restores-keep}
+use Rattle.xc_model.proofs.Restores.{restores-keep}
 use Rattle.xc_model.proofs.StableSort.{Each}
-use Rattle.xc_model.proofs.RowsAt.{map-last_of}
-use Rattle.xc_model.proofs.RealRows.{row_of, after-last}
-use Rattle.xc_model.proofs.ReadLaw.{reads-show-rows, values}
+use Rattle.xc_model.proofs.RowsAt.{after-last}
+use Rattle.xc_model.proofs.ReadLaw.{reads-show-rows}
 
 abbrev cmp : List ℕ → List ℕ → Ordering
 cmp = slice_cmp nat_cmp
 
-abbrev op_of : KeyVersion → Op
-op_of v = record { key = v.key; value = v.value }
-
-puts-versions : (k : List ℕ) (t : ℕ) (vs : List KeyVersion) → puts k (map op_of (filter (λ v. nat_le v.commit t) vs)) ≡ map (λ v. v.value) (filter (upto t) (versions_at k vs))
+puts-versions : (k : List ℕ) (t : ℕ) (vs : List KeyVersion) → puts k (map written_by (filter (λ v. nat_le v.commit t) vs)) ≡ map (λ v. v.value) (filter (upto t) (versions_at k vs))
 puts-versions k t [] = refl
 puts-versions k t (v ∷ vs) = grind (arith, puts-versions k t vs)
 
@@ -41,8 +35,8 @@ same-cmp q x e = slice_cmp-IsAntisymmetric nat_cmp-IsAntisymmetric q x e
 find-shown : (t : ℕ) (x : TargetTablet) (k : List ℕ) → find cmp k (rows_shown t x) ≡ read t (kept_at x k)
 find-shown t x k =
     let ys = filter (upto t) (versions_at k x.versions) in
-    find-rows_after k (map op_of (filter (λ v. nat_le v.commit t) x.versions)) []
-    ∙ ap (after_puts None) (puts-versions k t x.versions) ∙ after-last (map (λ (v : Version). v.value) ys) ∙ ap row_of (sym (map-last_of (λ (v : Version). v.value) ys)) ∙ sym (values (last_of ys))
+    find-rows_after k (map written_by (filter (λ v. nat_le v.commit t) x.versions)) []
+    ∙ ap (after_puts None) (puts-versions k t x.versions) ∙ after-last ys
 
 -- nothing is kept outside the range
 none-kept : (x : TargetTablet) (k : List ℕ) (vs : List KeyVersion) → Each (λ v. in_range x v.key ≡ true) vs → in_range x k ≡ false → versions_at k vs ≡ []
@@ -50,7 +44,7 @@ none-kept x k [] h o = refl
 none-kept x k (v ∷ vs) h o =
     let rest : versions_at k vs ≡ [] = none-kept x k vs h.1 o in
     ⊎_elim (λ e. absurd (true≢false (sym h.0 ∙ ap (in_range x) (sym ((bytes_eq-Decides k v.key).0 e)) ∙ o)))
-    (λ e. ap (λ b. map (λ (v : KeyVersion). let w : Version = record { commit = v.commit; txn = v.txn; value = v.value } in w) (cond b (v ∷ filter (λ v. bytes_eq k v.key) vs) (filter (λ v. bytes_eq k v.key) vs))) e ∙ rest) (cases_Bool (bytes_eq k v.key))
+    (λ e. ap (λ b. map version_of (cond b (v ∷ filter (λ v. bytes_eq k v.key) vs) (filter (λ v. bytes_eq k v.key) vs))) e ∙ rest) (cases_Bool (bytes_eq k v.key))
 
 none-read : (x : TargetTablet) (t : ℕ) (k : List ℕ) → Each (λ v. in_range x v.key ≡ true) x.versions → in_range x k ≡ false → read t (kept_at x k) ≡ None
 none-read x t k h o = ap (λ (vs : List Version). value_of (newest t vs)) (none-kept x k x.versions h o)
@@ -59,7 +53,7 @@ pub reads-show-lists : ReadsShowLists
 unfolding row
 reads-show-lists logs x u t s agree b c =
     same_entries cmp nat_list_cmp_total same-cmp (rows_shown t x) (where_key cmp (in_range x) (rows logs t))
-    (rows_after-sorted (map op_of (filter (λ v. nat_le v.commit t) x.versions)) [] tt) (is_sorted-where_key cmp (in_range x) (rows logs t) (rows-sorted logs t))
+    (rows_after-sorted (map written_by (filter (λ v. nat_le v.commit t) x.versions)) [] tt) (is_sorted-where_key cmp (in_range x) (rows logs t) (rows-sorted logs t))
     (λ k. find-shown t x k ∙ go k (in_range x k) refl ∙ sym (find-where_key cmp (in_range x) k (λ q e. ap (in_range x) (sym (same-cmp k q e))) (rows logs t)))
   where
     go : (k : List ℕ) (o : Bool) → in_range x k ≡ o → read t (kept_at x k) ≡ cond o (find cmp k (rows logs t)) None
@@ -68,17 +62,10 @@ reads-show-lists logs x u t s agree b c =
 
 -- ---- restored tablets
 
-upto-both : (v t : ℕ) (vs : List KeyVersion) → v ≤ t → filter (λ w. nat_le w.commit v) (filter (λ w. nat_le w.commit t) vs) ≡ filter (λ w. nat_le w.commit v) vs
-upto-both v t [] h = refl
-upto-both v t (w ∷ vs) h = grind (arith, nat_tests, upto-both v t vs h)
-
-restored-list : (v t : ℕ) (y : TargetTablet) → v ≤ t → rows_shown v (restore t y) ≡ rows_shown v y
-restored-list v t y h = ap (λ vs. rows_after (map op_of vs) []) (upto-both v t y.versions h)
-
 pub restored-show : RestoredShowRows
 restored-show logs x y u t v r agree b h =
     let c : v ≤ covers logs y = let q : t ≤ covers logs y = r.covered in omega arith in
     subst (λ (z : TargetTablet). ((k : List ℕ) → in_range z k ≡ true → read v (kept_at z k) ≡ row logs v k) × (rows_shown v z ≡ where_key cmp (in_range z) (rows logs v))) (sym r.is) (
-      (λ k q. restores-keep logs (restore t y) y u t v k (record { stood = r.stood; after_cutoff = r.after_cutoff; covered = r.covered; is = refl }) h ∙ reads-show-rows logs y u v k r.stood agree b c q),
-      restored-list v t y h ∙ reads-show-lists logs y u v r.stood agree b c,
+      (λ k q. (restores-keep y t v h).0 k ∙ reads-show-rows logs y u v k r.stood agree b c q),
+      (restores-keep y t v h).1 ∙ reads-show-lists logs y u v r.stood agree b c,
     )

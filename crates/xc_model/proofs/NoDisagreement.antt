@@ -11,76 +11,64 @@ use Rattle.xc_record.specs.declared.record.Kind.TheVariants as log
 use Rattle.xc_record.specs.declared.record.AgreeKind.{AgreeKind}
 use Rattle.xc_record.specs.declared.record.Op.{Op}
 use Rattle.xc_record.specs.declared.record.Record.{Record}
-use Rattle.xc_record.specs.declared.record.Tablet.{Tablet}
 use Rattle.xc_record.specs.declared.record.Logs.{Logs}
 use Rattle.xc_record.specs.Hash.{hash_of, holds}
 use Rattle.xc_record.specs.Accepted.{AcceptedTablet, accepted_tablets}
-use Rattle.xc_record.specs.Path.{Written, Event, Hold, Put, Fate, Waits, Taken, Dropped, fate, Waiting, waiting, waiting_by, events, kind_events, puts}
-use Rattle.xc_record.specs.Commits as real
+use Rattle.xc_record.specs.Path.{Written, Event, Hold, Put, Fate, Waits, Taken, RolledBack, Dropped, fate, Waiting, waiting, waiting_by, events, kind_events, puts}
+use Rattle.xc_record.specs.Commits.{commit_of, undone, applied, provisional_ops}
 use Rattle.xc_record.specs.Valid.{is_valid}
-use Rattle.xc_record.specs.Agreement.{Disagreement, disagreement_on, commit_differs, late_intent, aborted, straggler, kind_at, disagreement, path_above, straggles_at, HasNoCase, Agrees}
+use Rattle.xc_record.specs.Agreement.{Disagreement, disagreement_on, commit_differs, rollback_differs, late_intent, aborted, straggler, kind_at, disagreement, path_above, straggles_at, HasNoCase, Agrees}
 use Rattle.xc_record.proofs.HeaderLaws.{Numbered}
 use Rattle.xc_record.proofs.AgreementLaws.{agrees}
 use Rattle.xc_model.proofs.StableSort.{Each, Exists}
-use Rattle.xc_model.proofs.Placed.{owns, origin, owners, placed, path, ends}
-use Rattle.xc_model.proofs.Rows.{path_of}
-use Rattle.xc_model.proofs.ValidLogs.{ValidLogs}
-use Rattle.xc_model.proofs.Chain.{Goes, Threads, path-goes}
-use Rattle.xc_model.proofs.KeyRead.{each-front}
-use Rattle.xc_model.proofs.Tree.{chained, own, place-follow, owners-ends, ends-placed, path-ends}
-use Rattle.xc_model.proofs.RowsAt.{Sound, kind_lefts, txn-lefts}
-use Rattle.xc_model.proofs.RealRows.{ops-same}
-use Rattle.xc_model.proofs.FromRules.{heads}
-use Rattle.xc_model.proofs.FromValid.{rules-suffice, accepted-ends, accepted-numbered}
+use Rattle.xc_model.proofs.Along.{owns, own, origin, path_of}
+use Rattle.xc_model.proofs.Chain.{path-goes}
+use Rattle.xc_model.proofs.Elements.{each-front}
+use Rattle.xc_model.proofs.Tree.{chained}
+use Rattle.xc_model.proofs.Intents.{Sound, kind_lefts, provisional-lefts}
+use Rattle.xc_model.proofs.Parents.{heads, each-numbered}
+use Rattle.xc_model.proofs.FromValid.{rules-suffice}
 use Rattle.xc_model.proofs.FromCases.{any-none, above-before, path-of-append}
 use Rattle.xc_record.proofs.ListLaws.{Each-append, Each-weaker, none-cases}
-
--- a key's whole path goes by the order rules
-pub path-of-goes : (ts : List Tablet) (k : List ℕ) → ValidLogs ts → Goes 0 0 (path_of (hash_of k) (ends ts))
-path-of-goes ts k v =
-    let es = ends ts in
-    let h = hash_of k in
-    let xs = owners h (placed es []) in
-    let threads : Threads origin xs = place-follow origin es [] h (chained ts h v.grows).follow in
-    let whole : path xs ≡ path_of h es = path-ends xs ∙ ap (flat_map (λ (e : AcceptedTablet). e.records)) (owners-ends h (placed es []) ∙ ap (filter (own h)) (ends-placed es [])) in
-    subst (Goes 0 0) whole (path-goes origin xs threads)
 
 pub sound-logs : (logs : Logs) (k : List ℕ) → is_valid logs ≡ true → Sound (accepted_tablets logs) k
 sound-logs logs k valid =
     let v = rules-suffice logs valid in
-    let made : Sound (ends logs.tablets) k = record { away = v.away k; numbered = v.numbered; goes = path-of-goes logs.tablets k v } in
-    subst (λ w. Sound w k) (sym (accepted-ends logs valid)) made
+    record { away = v.away k; numbered = v.numbered; goes = path-goes origin (filter (own (hash_of k)) (accepted_tablets logs)) (chained logs (hash_of k) valid).threads }
 
 -- ---- nothing of n waits where its intents say nothing of the key
 
 abbrev none_of : ℕ → List Waiting → Bool
 none_of n hs = list_any (λ w. w.txn == n) hs
 
-waits-other : (n m : ℕ) (v : Written) (f : Fate) (hs : List Waiting) → m ≢ n → none_of n hs ≡ false → none_of n (waiting_by f m v ++ hs) ≡ false
-waits-other n m v Waits hs d e = ap (λ b. b || none_of n hs) (ne_eqb m n d) ∙ e
-waits-other n m v (Taken c) hs d e = e
-waits-other n m v Dropped hs d e = e
+waits-other : (n m sub : ℕ) (v : Written) (f : Fate) (hs : List Waiting) → m ≢ n → none_of n hs ≡ false → none_of n (waiting_by f m sub v ++ hs) ≡ false
+waits-other n m sub v Waits hs d e = ap (λ b. b || none_of n hs) (ne_eqb m n d) ∙ e
+waits-other n m sub v (Taken c) hs d e = e
+waits-other n m sub v RolledBack hs d e = e
+waits-other n m sub v Dropped hs d e = e
 
-holds-other : (n m time : ℕ) (vs : List Written) (es : List Event) → m ≢ n → none_of n (waiting es) ≡ false → none_of n (waiting (map (λ v. Hold m time v) vs ++ es)) ≡ false
-holds-other n m time [] es d e = e
-holds-other n m time (v ∷ vs) es d e = waits-other n m v (fate m (map (λ v. Hold m time v) vs ++ es)) (waiting (map (λ v. Hold m time v) vs ++ es)) d (holds-other n m time vs es d e)
+holds-other : (n m sub time : ℕ) (vs : List Written) (es : List Event) → m ≢ n → none_of n (waiting es) ≡ false → none_of n (waiting (map (λ v. Hold m sub time v) vs ++ es)) ≡ false
+holds-other n m sub time [] es d e = e
+holds-other n m sub time (v ∷ vs) es d e =
+    let rest = map (λ v. Hold m sub time v) vs ++ es in
+    waits-other n m sub v (fate m sub rest) (waiting rest) d (holds-other n m sub time vs es d e)
 
 puts-none : (n time : ℕ) (vs : List Written) (es : List Event) → none_of n (waiting es) ≡ false → none_of n (waiting (map (λ v. Put time v) vs ++ es)) ≡ false
 puts-none n time [] es e = e
 puts-none n time (v ∷ vs) es e = puts-none n time vs es e
 
-kind-none : (n : ℕ) (k : List ℕ) (time : ℕ) (kind : Kind) (es : List Event) → kind_lefts k n kind ≡ [] → none_of n (waiting es) ≡ false → none_of n (waiting (kind_events k time kind ++ es)) ≡ false
+kind-none : (n : ℕ) (k : List ℕ) (time : ℕ) (kind : Kind) (es : List Event) → kind_lefts k n [] kind ≡ [] → none_of n (waiting es) ≡ false → none_of n (waiting (kind_events k time kind ++ es)) ≡ false
 kind-none n k time (log.Write ops) es h e = puts-none n time (puts k ops) es e
-kind-none n k time (log.Intent m ops) es h e =
-    ⊎_elim (λ q. let none : puts k ops ≡ [] = sym (ap (λ b. cond b (puts k ops) []) (eq-eqb m n q)) ∙ h in subst (λ vs. none_of n (waiting (map (λ v. Hold m time v) vs ++ es)) ≡ false) (sym none) e)
-    (λ d. holds-other n m time (puts k ops) es d e) (cases_eq m n)
-kind-none n k time (log.Apply m c) es h e = e
+kind-none n k time (log.Intent m sub ops) es h e =
+    ⊎_elim (λ q. let none : puts k ops ≡ [] = sym (ap (λ b. cond b (puts k ops) []) (eq-eqb m n q)) ∙ h in subst (λ vs. none_of n (waiting (map (λ v. Hold m sub time v) vs ++ es)) ≡ false) (sym none) e)
+    (λ d. holds-other n m sub time (puts k ops) es d e) (cases_eq m n)
+kind-none n k time (log.Apply m c without) es h e = e
 kind-none n k time (log.Abort m) es h e = e
 kind-none n k time (log.Safe v) es h e = e
 kind-none n k time (log.Split at left right) es h e = e
 
 abbrev Silent : ℕ → List ℕ → Record → Type 0
-Silent n k r = kind_lefts k n r.kind ≡ []
+Silent n k r = kind_lefts k n [] r.kind ≡ []
 
 none-waits : (n : ℕ) (k : List ℕ) (rs : List Record) → Each (Silent n k) rs → none_of n (waiting (events k rs)) ≡ false
 none-waits n k [] h = refl
@@ -149,38 +137,48 @@ silent-free logs n c k before (b ∷ after) m s h g =
     one true f = subst (Each (Silent n k)) (sym (append-nil b.records)) (f refl)
     one false f = tt
 
-key-free : (logs : Logs) (n c : ℕ) (k : List ℕ) → is_valid logs ≡ true → puts k (real.txn_ops logs n) ≡ [] → Each (Free logs n c k) (accepted_tablets logs)
+key-free : (logs : Logs) (n c : ℕ) (k : List ℕ) → is_valid logs ≡ true → puts k (provisional_ops logs n) ≡ [] → Each (Free logs n c k) (accepted_tablets logs)
 key-free logs n c k valid e =
     let es = accepted_tablets logs in
-    let m = accepted-numbered logs valid in
-    let silent : Each (Silent n k) (path_of (hash_of k) es) = each-nil (λ (r : Record). kind_lefts k n r.kind) (path_of (hash_of k) es) (sym (ap (puts k) (ops-same logs n m) ∙ txn-lefts es k n (sound-logs logs k valid)) ∙ e) in
+    let m = each-numbered logs valid in
+    let silent : Each (Silent n k) (path_of (hash_of k) es) = each-nil (λ (r : Record). kind_lefts k n [] r.kind) (path_of (hash_of k) es) (sym (provisional-lefts logs k n m (sound-logs logs k valid)) ∙ e) in
     silent-free logs n c k [] es m refl tt silent
 
 -- ---- all tests
 
-tests-false : (logs : Logs) (n c : ℕ) (b : AcceptedTablet) → kind_at logs n c b ≡ None → (commit_differs n c b ≡ false) × ((late_intent n c b ≡ false) × ((aborted n b ≡ false) × (straggler logs n c b ≡ false)))
+-- no test but that of stragglers, of which only some keys are looked at
+record NoTest (logs : Logs) (n c : ℕ) (b : AcceptedTablet) : Type 0 where
+  same_commit : commit_differs n c b ≡ false
+  same_rollback : rollback_differs n (undone logs n) b ≡ false
+  early_intents : late_intent n c b ≡ false
+  no_abort : aborted n b ≡ false
+  no_straggler : straggler logs n c b ≡ false
+
+tests-false : (logs : Logs) (n c : ℕ) (b : AcceptedTablet) → kind_at logs n c b ≡ None → NoTest logs n c b
 unfolding kind_at
 tests-false logs n c b e =
     let one = none-cases _ _ _ e in
     let two = none-cases _ _ _ one.1 in
     let three = none-cases _ _ _ two.1 in
     let four = none-cases _ _ _ three.1 in
-    (one.0, (two.0, (three.0, four.0)))
+    let five = none-cases _ _ _ four.1 in
+    record { same_commit = one.0; same_rollback = two.0; early_intents = three.0; no_abort = four.0; no_straggler = five.0 }
 
-straggler-keys : (logs : Logs) (n c : ℕ) (b : AcceptedTablet) → straggler logs n c b ≡ false → Each (λ op. straggles_on logs n c b op.key ≡ false) (real.txn_ops logs n)
+straggler-keys : (logs : Logs) (n c : ℕ) (b : AcceptedTablet) → straggler logs n c b ≡ false → Each (λ op. straggles_on logs n c b op.key ≡ false) (provisional_ops logs n)
 unfolding straggler
-straggler-keys logs n c b e = any-none (λ (op : Op). straggles_on logs n c b op.key) (real.txn_ops logs n) e
+straggler-keys logs n c b e = any-none (λ (op : Op). straggles_on logs n c b op.key) (provisional_ops logs n) e
 
-no-cases : (logs : Logs) (n c : ℕ) (bs : List AcceptedTablet) → ((k : List ℕ) → puts k (real.txn_ops logs n) ≡ [] → Each (Free logs n c k) bs) → Each (λ b. kind_at logs n c b ≡ None) bs → Each (HasNoCase logs n c) bs
+no-cases : (logs : Logs) (n c : ℕ) (bs : List AcceptedTablet) → ((k : List ℕ) → puts k (provisional_ops logs n) ≡ [] → Each (Free logs n c k) bs) → Each (λ b. kind_at logs n c b ≡ None) bs → Each (HasNoCase logs n c) bs
 no-cases logs n c [] f h = tt
 no-cases logs n c (b ∷ bs) f h =
     let tests = tests-false logs n c b h.0 in
-    let keys = straggler-keys logs n c b tests.1.1.1 in (
+    let keys = straggler-keys logs n c b tests.no_straggler in (
       record {
-        same_commit = tests.0;
-        early_intents = tests.1.0;
-        no_abort = tests.1.1.0;
-        no_straggler = λ k o. ⊎_elim (λ i. held-out (holds b.header (hash_of k)) _ o (found-key logs n c b k (real.txn_ops logs n) keys i)) (λ e. (f k e).0 o) (key-among k (real.txn_ops logs n));
+        same_commit = tests.same_commit;
+        same_rollback = tests.same_rollback;
+        early_intents = tests.early_intents;
+        no_abort = tests.no_abort;
+        no_straggler = λ k o. ⊎_elim (λ i. held-out (holds b.header (hash_of k)) _ o (found-key logs n c b k (provisional_ops logs n) keys i)) (λ e. (f k e).0 o) (key-among k (provisional_ops logs n));
       },
       no-cases logs n c bs (λ k e. (f k e).1) h.1,
     )
@@ -201,7 +199,7 @@ none-any p (x ∷ xs) f = ap (λ b. b || list_any p xs) (f x) ∙ none-any p xs 
 
 no-kind : (logs : Logs) (n c : ℕ) (b : AcceptedTablet) → HasNoCase logs n c b → kind_at logs n c b ≡ None
 unfolding kind_at straggler
-no-kind logs n c b h = all-first _ _ _ h.same_commit (all-first _ _ _ h.early_intents (all-first _ _ _ h.no_abort (all-first _ _ _ (none-any (λ (op : Op). straggles_on logs n c b op.key) (real.txn_ops logs n) (λ op. off (holds b.header (hash_of op.key)) _ (h.no_straggler op.key))) refl)))
+no-kind logs n c b h = all-first _ _ _ h.same_commit (all-first _ _ _ h.same_rollback (all-first _ _ _ h.early_intents (all-first _ _ _ h.no_abort (all-first _ _ _ (none-any (λ (op : Op). straggles_on logs n c b op.key) (provisional_ops logs n) (λ op. off (holds b.header (hash_of op.key)) _ (h.no_straggler op.key))) refl))))
   where
     off : (a d : Bool) → (a ≡ true → d ≡ false) → (a && d) ≡ false
     off true d f = f refl
@@ -217,9 +215,9 @@ every P (x ∷ xs) f = (f x, every P xs f)
 
 pub agrees-found : (logs : Logs) → Agrees logs → disagreement logs ≡ None
 unfolding disagreement disagreement_on
-agrees-found logs a = first-none (λ n. option_map_or (disagreement_on logs n) (real.commit_of logs n) None) (real.applied logs) (every _ (real.applied logs) (λ n. one n (real.commit_of logs n) refl))
+agrees-found logs a = first-none (λ n. option_map_or (disagreement_on logs n) (commit_of logs n) None) (applied logs) (every _ (applied logs) (λ n. one n (commit_of logs n) refl))
   where
-    one : (n : ℕ) (o : Option ℕ) → real.commit_of logs n ≡ o → option_map_or (disagreement_on logs n) o None ≡ None
+    one : (n : ℕ) (o : Option ℕ) → commit_of logs n ≡ o → option_map_or (disagreement_on logs n) o None ≡ None
     one n None e = refl
     one n (Some c) e = first-none (λ b. option_map {U = Disagreement} (λ kind. record { txn = n; tablet = b.header.id; kind = kind }) (kind_at logs n c b)) (accepted_tablets logs)
         (Each-weaker (HasNoCase logs n c) (λ b. option_map {U = Disagreement} (λ kind. record { txn = n; tablet = b.header.id; kind = kind }) (kind_at logs n c b) ≡ None) (λ b h. ap (option_map {U = Disagreement} (λ kind. record { txn = n; tablet = b.header.id; kind = kind })) (no-kind logs n c b h)) (accepted_tablets logs) (a.no_case n c e))

@@ -1,56 +1,45 @@
--- A tablet shows the rows of the logs at each time from its cutoff to the safe time of its places.
-use Rattle.std.proofs.Common.{◌≡◌, ℕ, ◌≤◌, Bool, true, false, cond, not, List, [], ◌∷◌, map, length, Some, None, refl, ap, sym, ◌∙◌, arith, subst, ◌⊎◌, inl, inr}
-use Rattle.std.specs.List.{filter, flat_map}
-use Rattle.xc_model.proofs.StableSort.{Each, stable_sort}
-use Rattle.xc_model.specs.Kept.{newest, not_after}
-use Rattle.xc_model.proofs.Paths.{committed}
-use Rattle.xc_record.specs.declared.record.Tablet.{Tablet}
-use Rattle.xc_record.specs.Accepted.{AcceptedTablet}
-use Rattle.xc_model.proofs.Placed.{Legal, ends, origin, Placed, placed, owns_it, owners, is_closed, is_open, last_safe, safe, path, Stops, LegalChain, Agrees, NoStragglers}
-use Rattle.xc_record.specs.Lists.{least}
+-- A tablet shows what the newest committed operations leave at each time from its cutoff to the safe time of its places.
+use Rattle.std.proofs.Common.{◌≡◌, ℕ, ◌≤◌, true, not, List, inl, inr, ◌⊎◌, ⊎_elim}
+use Rattle.std.specs.List.{filter}
+use Rattle.std.proofs.lemmas.Bool.{cases_Bool}
+use Rattle.std.proofs.Common.{refl, ap, ◌∙◌}
+use Rattle.xc_record.specs.declared.record.Logs.{Logs}
+use Rattle.xc_record.specs.Accepted.{AcceptedTablet, accepted_tablets}
 use Rattle.xc_record.specs.Hash.{hash_of}
-use Rattle.xc_record.specs.Path.{events}
-use Rattle.xc_model.proofs.Rows.{row_at, commit_of, path_of}
-use Rattle.xc_model.proofs.ValidLogs.{ValidLogs, AgreeAll, read_at}
-use Rattle.xc_model.proofs.Chain.{Goes, Threads, path-goes}
-use Rattle.xc_model.proofs.KeyRead.{key-read}
-use Rattle.xc_model.proofs.RowsAt.{row-newest, each-flat}
-use Rattle.xc_model.proofs.Tree.{Linked, Chained, chained, below-from, stops, place-follow, ends-placed, owners-ends, stops-ends, path-ends, legal-chain, the_ends, own, end_order}
+use Rattle.xc_record.specs.Kept.{newest, kept_from}
+use Rattle.xc_record.specs.Lists.{sort_by}
+use Rattle.xc_record.specs.Path.{holders, path_to, events, versions, version_cmp}
+use Rattle.xc_record.specs.SafeTime.{last_safe_in, is_closed_in, safe_time, IsPlaces}
+use Rattle.xc_record.specs.Valid.{is_valid}
 use Rattle.xc_record.proofs.ListLaws.{Each-filter, Each-weaker}
+use Rattle.xc_model.proofs.StableSort.{Each}
+use Rattle.xc_model.proofs.Paths.{Outcomes, committed}
+use Rattle.xc_model.proofs.Along.{own, path_of, applied_along, Agrees}
+use Rattle.xc_model.proofs.ValidLogs.{ValidLogs, AgreeAll}
+use Rattle.xc_model.proofs.Flat.{each-flat}
+use Rattle.xc_model.proofs.FloorLaw.{least-low}
+use Rattle.xc_model.proofs.KeyRead.{key-read}
+use Rattle.xc_model.proofs.Tree.{chained, stops, legal-own}
 
 -- a bound on the least of the last safe values
-pub under-safe : (t : ℕ) (xs : List Placed) → t ≤ safe xs → Each (λ x. (is_closed x ≡ true) ⊎ (t ≤ last_safe x)) xs
-under-safe t [] h = tt
-under-safe t (x ∷ xs) h =
-    let at : (b : Bool) → is_closed x ≡ b → t ≤ least (map last_safe (cond (not b) (x ∷ filter is_open xs) (filter is_open xs))) → Each (λ x. (is_closed x ≡ true) ⊎ (t ≤ last_safe x)) (x ∷ xs) =
-    λ b. elim b as (λ b. is_closed x ≡ b → t ≤ least (map last_safe (cond (not b) (x ∷ filter is_open xs) (filter is_open xs))) → Each (λ x. (is_closed x ≡ true) ⊎ (t ≤ last_safe x)) (x ∷ xs)) [
-      | true ↦ λ e l. (inl e, under-safe t xs l)
-      | false ↦ λ e l. (inr (omega arith), under-safe t xs (omega arith))
-    ]
-    in at (is_closed x) refl h
+pub under-safe : (logs : Logs) (ps : List ℕ) (t : ℕ) → t ≤ safe_time logs ps → Each (λ b. (is_closed_in ps b ≡ true) ⊎ (t ≤ last_safe_in ps b)) (accepted_tablets logs)
+unfolding safe_time
+under-safe logs ps t h =
+    Each-weaker (λ b. not (is_closed_in ps b) ≡ true → t ≤ last_safe_in ps b) (λ b. (is_closed_in ps b ≡ true) ⊎ (t ≤ last_safe_in ps b)) (λ b f. ⊎_elim (λ c. inl c) (λ o. inr (f (ap not o))) (cases_Bool (is_closed_in ps b)))
+    (accepted_tablets logs) (least-low (last_safe_in ps) (λ b. not (is_closed_in ps b)) (accepted_tablets logs) t h)
 
-pub chain-of : (ts : List Tablet) (ps : List ℕ) (k : List ℕ) → ValidLogs ts → Chained (ends ts) (hash_of k)
-chain-of ts ps k v = chained ts (hash_of k) v.grows
+-- the path up to the places, as the proofs go along it
+pub along-path : (logs : Logs) (ps k : List ℕ) → path_to logs ps k ≡ applied_along ps (filter (own (hash_of k)) (accepted_tablets logs))
+unfolding path_to holders
+along-path logs ps k = refl
 
-pub reads-rows : (ts : List Tablet) (ps : List ℕ) (k : List ℕ) (u t : ℕ) → ValidLogs ts → AgreeAll (ends ts) → Legal (placed (ends ts) ps) → u ≤ t → t ≤ safe (placed (ends ts) ps) → read_at (placed (ends ts) ps) u t k ≡ row_at (ends ts) t k
-reads-rows ts ps k u t v a l b c =
-    let es = ends ts in
+pub reads-rows : (logs : Logs) (outcomes : Outcomes) (ps k : List ℕ) (u t : ℕ) → is_valid logs ≡ true → ValidLogs (accepted_tablets logs) → AgreeAll outcomes (accepted_tablets logs) → IsPlaces logs ps → u ≤ t → t ≤ safe_time logs ps
+    → newest t (kept_from u (versions (events k (path_to logs ps k)))) ≡ newest t (sort_by version_cmp (committed outcomes (events k (path_of (hash_of k) (accepted_tablets logs)))))
+reads-rows logs outcomes ps k u t valid v a l b c =
+    let bs = accepted_tablets logs in
     let h = hash_of k in
-    let all = placed es ps in
-    let xs = owners h all in
-    let chain = chained ts h v.grows in
-    let same : the_ends xs ≡ filter (own h) es = owners-ends h all ∙ ap (filter (own h)) (ends-placed es ps) in
-    let linked : Linked None (the_ends xs) = subst (Linked None) (sym same) chain.linked in
-    let threads : Threads origin xs = place-follow origin es ps h chain.follow in
-    let end : Stops origin xs = stops-ends origin xs (ap (λ w. (end_order origin w).split) same ∙ stops es h chain (below-from [] ts v.grows tt) (v.covers k)) in
-    let legal : LegalChain xs = legal-chain None origin xs linked threads (Each-filter (λ x. x.place ≤ length x.tablet.records) (owns_it h) all l.within)
-    (Each-weaker (λ y. is_closed y ≡ false → Each (λ z. z.tablet.header.parent ≡ Some y.tablet.header.id → z.place ≡ 0) all) (λ y. is_closed y ≡ false → Each (λ z. z.tablet.header.parent ≡ Some y.tablet.header.id → z.place ≡ 0) xs) (λ y f d. Each-filter (λ z. z.tablet.header.parent ≡ Some y.tablet.header.id → z.place ≡ 0) (owns_it h) all (f d)) xs
-    (Each-filter (λ y. is_closed y ≡ false → Each (λ z. z.tablet.header.parent ≡ Some y.tablet.header.id → z.place ≡ 0) all) (owns_it h) all l.children)) in
-    let whole : path xs ≡ path_of h es = path-ends xs ∙ ap (flat_map (λ (e : AcceptedTablet). e.records)) same in
-    let commit = commit_of es in
-    let free : NoStragglers commit k [] (path xs) = subst (NoStragglers commit k []) (sym whole) (a.stragglers k) in
-    let agree : Each (Agrees commit) (path xs) = subst (Each (Agrees commit)) (sym whole) (each-flat (Agrees commit) (λ (e : AcceptedTablet). e.records) (λ e. Each (Agrees commit) e.records) (λ e w. w) (filter (own h) es) (Each-filter (λ e. Each (Agrees commit) e.records) (own h) es a.each)) in
-    let goes : Goes 0 0 (path_of h es) = subst (Goes 0 0) whole (path-goes origin xs threads) in
-    let bound : Each (λ x. (is_closed x ≡ true) ⊎ (t ≤ last_safe x)) xs = Each-filter (λ x. (is_closed x ≡ true) ⊎ (t ≤ last_safe x)) (owns_it h) all (under-safe t all c) in
-    ap (map (λ x. x.value)) (key-read commit k u t xs threads end legal free agree bound b ∙ ap (λ w. newest t (stable_sort not_after (committed commit (events k w)))) whole)
-    ∙ sym (row-newest es t k (record { away = v.away k; numbered = v.numbered; goes = goes }))
+    let xs = filter (own h) bs in
+    let agree : Each (Agrees outcomes) (path_of h bs) = each-flat (Agrees outcomes) (λ (e : AcceptedTablet). e.records) (λ e. Each (Agrees outcomes) e.records) (λ e w. w) xs (Each-filter (λ e. Each (Agrees outcomes) e.records) (own h) bs a.each) in
+    let bound = Each-filter (λ b. (is_closed_in ps b ≡ true) ⊎ (t ≤ last_safe_in ps b)) (own h) bs (under-safe logs ps t c) in
+    ap (λ rs. newest t (kept_from u (versions (events k rs)))) (along-path logs ps k)
+    ∙ key-read outcomes k u t ps xs (chained logs h valid).threads (stops logs h valid (v.covers k)) (legal-own logs ps h valid l) (a.stragglers k) agree bound b

@@ -1,6 +1,6 @@
 -- The times that a session names, along its commands.
-use Rattle.std.proofs.Common.{◌≡◌, ℕ, ◌≤◌, max, Bool, true, false, List, [], ◌∷◌, ◌++◌, map, Option, Some, None, refl, ap, sym, arith, subst, ◌⊎◌, inl, inr, ⊎_elim}
-use Rattle.std.specs.Prelude.{nat_lt, if◌then◌else◌}
+use Rattle.std.proofs.Common.{◌≡◌, ℕ, ◌≤◌, max, Bool, true, false, List, [], ◌∷◌, ◌++◌, map, Option, Some, None, refl, ap, sym, ◌∙◌, arith, subst, ◌⊎◌, inl, inr, ⊎_elim}
+use Rattle.std.specs.Prelude.{nat_lt, if◌then◌else◌, MatchOption}
 use Rattle.std.specs.Option.{option_map_or, option_map}
 use Rattle.std.specs.List.{filter_map, cons_option}
 use Rattle.std.proofs.lemmas.List.Elements.{filter_map-append}
@@ -13,12 +13,13 @@ use Rattle.xc_record.specs.declared.session.Line.TheVariants as line
 use Rattle.xc_record.specs.declared.session.PollAnswer.{PollAnswer}
 use Rattle.xc_record.specs.declared.session.PollAnswer.TheVariants as poll
 use Rattle.xc_record.specs.Accepted.{AcceptedTablet, accepted_tablets, halt}
-use Rattle.xc_record.specs.Session.{Session}
+use Rattle.xc_record.specs.Session.{Session, IsSession, safe_now}
 use Rattle.xc_record.specs.Rows.{rows, row}
-use Rattle.xc_record.specs.Step.{safe_now, poll_answer, poll_step, stop_step, drained, read_at_line, prune_step, open_step, refuses, is_change, step, lines_from}
+use Rattle.xc_record.specs.Step.{poll_answer, poll_step, stop_step, drained, read_at_line, prune_step, open_step, refuses, step, lines_from}
 use Rattle.xc_model.specs.Sessions.{named, named_times, IsRising}
-use Rattle.xc_model.specs.Laws.{FailoverCloses, NamedTimesRise, ClosedStays}
-use Rattle.xc_model.proofs.SessionLaws.{either, steps-keep, steps-rise}
+use Rattle.xc_model.specs.Laws.{FailoverCloses, NamedTimesRise, ClosedStays, ClosedTimesStay}
+use Rattle.xc_record.proofs.ListLaws.{Each, Each-append}
+use Rattle.xc_model.proofs.SessionLaws.{either, steps-keep, steps-rise, stays-closed, is-open}
 
 -- lines name no time, or t alone
 abbrev Names : ℕ → List Line → Type 0
@@ -104,26 +105,26 @@ named-times-rise logs m (c ∷ commands) valid st =
 
 -- ---- a closed session
 
-asked : (logs : Logs) (m : Session) (c : Command) (t : ℕ) (o : Option ℕ) → o ≡ Some t → (option_map_or {T = ℕ} {U = Session × List Line} (λ t. (m, line.Closed t ∷ [])) (if is_change c then o else None) (open_step logs m c)).0 ≡ m
-unfolding open_step
-asked logs m c t None e = cc
-asked logs m (command.Poll id n) t (Some v) e = refl
-asked logs m (command.Stop id n last) t (Some v) e = refl
-asked logs m (command.Ack id) t (Some v) e = refl
-asked logs m (command.Restart id) t (Some v) e = refl
-asked logs m command.Drain t (Some v) e = refl
-asked logs m command.Safe t (Some v) e = refl
-asked logs m (command.Read key) t (Some v) e = refl
-asked logs m (command.ReadAt u key) t (Some v) e = refl
-asked logs m command.Scan t (Some v) e = refl
-asked logs m (command.Prune u) t (Some v) e = refl
-asked logs m command.Failover t (Some v) e = refl
-asked logs m command.Report t (Some v) e = refl
-
 pub closed-stays : ClosedStays
-unfolding step
-closed-stays logs m c t e = asked logs m c t m.closed e
+closed-stays logs m c t e = stays-closed logs m c t e
 
 pub failover-closes : FailoverCloses
-unfolding step open_step
-failover-closes logs m e = ap (λ o. (option_map_or {T = ℕ} {U = Session × List Line} (λ t. (m, line.Closed t ∷ [])) o (open_step logs m command.Failover)).0) e
+unfolding open_step
+failover-closes logs m e = ap (λ (w : Session × List Line). w.0) (is-open logs m command.Failover e)
+
+-- the time of a closed session
+closing-time : (logs : Logs) (m : Session) (t : ℕ) → IsSession logs m → m.closed ≡ Some t → safe_now logs m ≡ t
+closing-time logs m t st e = sym (subst (λ o. MatchOption o (Unit {0}) (λ v. v ≡ safe_now logs m)) e st.closed)
+
+names-same : (t v : ℕ) (ls : List Line) → v ≡ t → Names v ls → Each (λ w. w ≡ t) (named_times ls)
+names-same t v ls e n = ⊎_elim (λ none. subst (Each (λ w. w ≡ t)) (sym none) tt) (λ one. subst (Each (λ w. w ≡ t)) (sym one) (e, tt)) n
+
+pub closed-times : ClosedTimesStay
+closed-times logs m [] t st e = tt
+closed-times logs m (c ∷ commands) t st e =
+    let same : (step logs m c).0 ≡ m = stays-closed logs m c t e in
+    let lines = (step logs m c).1 in
+    let time : safe_now logs (step logs m c).0 ≡ t = ap (safe_now logs) same ∙ closing-time logs m t st e in
+    subst (Each (λ w. w ≡ t)) (sym (filter_map-append named lines (lines_from logs (step logs m c).0 commands)))
+    (Each-append (λ w. w ≡ t) (named_times lines) (named_times (lines_from logs (step logs m c).0 commands)) (names-same t (safe_now logs (step logs m c).0) lines time (step-names logs m c))
+    (subst (λ n. Each (λ w. w ≡ t) (named_times (lines_from logs n commands))) (sym same) (closed-times logs m commands t st e)))

@@ -1,6 +1,6 @@
 -- Tablets of the target over small logs, from a new one on, record by record, and that each stands for the logs.
--- The logs have a split tablet, a transaction over both of its children, and a removal. Their keys are a and z.
-use Rattle.std.proofs.Common.{◌≡◌, ◌≢◌, ℕ, ◌+◌, true, false, List, [], ◌∷◌, Bool, Some, None, refl, sym, subst, ⊎_elim}
+-- The logs have a split tablet, a transaction over both of its children, a removal, and a subtransaction that was rolled back. Their keys are a and z.
+use Rattle.std.proofs.Common.{◌≡◌, ℕ, ◌+◌, true, false, List, [], ◌∷◌, Bool, Some, None, refl, sym, subst, arith, ⊎_elim}
 use Rattle.std.specs.Prelude.{codes, slice_index, slice_set, bytes_eq, if◌then◌else◌}
 use Rattle.std.proofs.lemmas.Bool.{cases_Bool, false≢true}
 use Rattle.std.proofs.lemmas.Slice.Eq.{bytes_eq-Decides}
@@ -9,8 +9,9 @@ use Rattle.xc_record.specs.declared.record.Record.{Record}
 use Rattle.xc_record.specs.Path.{record_events}
 use Rattle.xc_record.specs.Valid.{is_valid, headers_of}
 use Rattle.xc_record.proofs.WorkedLogs.{computed, at, sets, removes, a, z, with_both_children}
-use Rattle.xc_model.specs.Kept.{Kept, steps}
-use Rattle.xc_model.specs.Stands.{KeyVersion, KeyWaiting, TargetTablet, in_range, kept_at, KeepsWithin, StandsFor, new_tablet, closed_after, safe_after, owned_by, TakesIn}
+use Rattle.xc_record.specs.Kept.{Kept, KeyVersion, KeyWaiting, steps}
+use Rattle.xc_model.specs.Floors.{floors_after}
+use Rattle.xc_model.specs.Stands.{TargetTablet, in_range, kept_at, KeepsWithin, StandsFor, new_tablet, owned_by, TakesIn, TakesAll}
 use Rattle.xc_model.proofs.KeepLaws.{new-stands}
 use Rattle.xc_model.proofs.DeliverLaw.{deliveries-keep, batches-keep}
 
@@ -36,8 +37,7 @@ by-key P at-a at-z at-other k =
 abbrev after : ℕ → Record → List KeyVersion → List KeyWaiting → TargetTablet → TargetTablet
 after s r versions held x = record x {
   places = slice_set x.places s (slice_index x.places s + 1);
-  closed = closed_after s r.kind x.closed;
-  safe = safe_after s r.kind x.safe;
+  floors = floors_after s r.kind x.floors;
   versions = versions;
   held = held;
 }
@@ -48,7 +48,7 @@ At s r x y k = kept_at y k ≡ if owned_by x s k then steps (record_events k r) 
 
 taken : (s : ℕ) (r : Record) (vs : List KeyVersion) (ws : List KeyWaiting) (x : TargetTablet) → ((k : List ℕ) → in_range x k ≡ true → At s r x (after s r vs ws x) k) → KeepsWithin (after s r vs ws x)
     → TakesIn s r x (after s r vs ws x)
-taken s r vs ws x keys within = record { range = (refl, refl); headers = refl; places = refl; closed = refl; safe = refl; keys = keys; within = within }
+taken s r vs ws x keys within = record { range = (refl, refl); places = refl; floors = refl; keys = keys; within = within }
 
 taken-by-key : (s : ℕ) (r : Record) (vs : List KeyVersion) (ws : List KeyWaiting) (x : TargetTablet) → (in_range x a ≡ true → At s r x (after s r vs ws x) a) → (in_range x z ≡ true → At s r x (after s r vs ws x) z)
     → ((k : List ℕ) → IsOther k → At s r x (after s r vs ws x) k) → KeepsWithin (after s r vs ws x) → TakesIn s r x (after s r vs ws x)
@@ -64,26 +64,33 @@ either false x = refl
 abbrev the_write : Record
 the_write = at 10 (Write (sets a (codes "1") ∷ sets z (codes "2") ∷ []))
 
+-- of the subtransaction that is rolled back
+abbrev undone_intent : Record
+undone_intent = at 11 (Intent 5 1 (sets a (codes "8") ∷ []))
+
 abbrev the_intent : Record
-the_intent = at 12 (Intent 5 (sets a (codes "3") ∷ removes z ∷ []))
+the_intent = at 12 (Intent 5 0 (sets a (codes "3") ∷ removes z ∷ []))
 
 abbrev parent_safe : Record
 parent_safe = at 13 (Safe 12)
 
-abbrev the_split : Record
+abbrev pub the_split : Record
 the_split = at 14 (Split 32768 1 2)
 
+abbrev pub before_split : List Record
+before_split = the_write ∷ undone_intent ∷ the_intent ∷ parent_safe ∷ []
+
 abbrev pub parent_records : List Record
-parent_records = the_write ∷ the_intent ∷ parent_safe ∷ the_split ∷ []
+parent_records = the_write ∷ undone_intent ∷ the_intent ∷ parent_safe ∷ the_split ∷ []
 
 abbrev pub left_apply : Record
-left_apply = at 18 (Apply 5 16)
+left_apply = at 18 (Apply 5 16 (1 ∷ []))
 
 abbrev left_safe : Record
 left_safe = at 20 (Safe 19)
 
 abbrev right_apply : Record
-right_apply = at 21 (Apply 5 16)
+right_apply = at 21 (Apply 5 16 (1 ∷ []))
 
 abbrev right_safe : Record
 right_safe = at 23 (Safe 22)
@@ -102,11 +109,17 @@ removed key commit txn = record { key = key; commit = commit; txn = txn; value =
 abbrev written : List KeyVersion
 written = version a 10 0 (codes "1") ∷ version z 10 0 (codes "2") ∷ []
 
+abbrev waits-undone : KeyWaiting
+waits-undone = record { key = a; txn = 5; sub = 1; value = Some (codes "8") }
+
+abbrev waits-a : KeyWaiting
+waits-a = record { key = a; txn = 5; sub = 0; value = Some (codes "3") }
+
 abbrev waits-z : KeyWaiting
-waits-z = record { key = z; txn = 5; value = None }
+waits-z = record { key = z; txn = 5; sub = 0; value = None }
 
 abbrev waits : List KeyWaiting
-waits = record { key = a; txn = 5; value = Some (codes "3") } ∷ waits-z ∷ []
+waits = waits-undone ∷ waits-a ∷ waits-z ∷ []
 
 abbrev written-a : List KeyVersion
 written-a = version a 10 0 (codes "1") ∷ version a 16 5 (codes "3") ∷ version z 10 0 (codes "2") ∷ []
@@ -125,10 +138,14 @@ new-stands-for = new-stands with_both_children 0 65535 valid
 abbrev after_write : TargetTablet
 after_write = after 0 the_write written [] new
 
-abbrev after_intent : TargetTablet
-after_intent = after 0 the_intent written waits after_write
+abbrev after_undone : TargetTablet
+after_undone = after 0 undone_intent written (waits-undone ∷ []) after_write
 
-abbrev after_safe : TargetTablet
+-- three of the parent's records
+abbrev pub after_intent : TargetTablet
+after_intent = after 0 the_intent written waits after_undone
+
+abbrev pub after_safe : TargetTablet
 after_safe = after 0 parent_safe written waits after_intent
 
 -- the transaction waits
@@ -139,27 +156,41 @@ write-taken : TakesIn 0 the_write new after_write
 unfolding computed
 write-taken = taken-by-key 0 the_write written [] new (λ _. refl) (λ _. refl) (λ k other. rw (other.a, other.z) (either _ _)) (record { versions = (refl, (refl, tt)); held = tt })
 
-intent-taken : TakesIn 0 the_intent after_write after_intent
+undone-taken : TakesIn 0 undone_intent after_write after_undone
 unfolding computed
-intent-taken = taken-by-key 0 the_intent written waits after_write (λ _. refl) (λ _. refl) (λ k other. rw (other.a, other.z) (either _ _))
-    (record { versions = (refl, (refl, tt)); held = (refl, (refl, tt)) })
+undone-taken = taken-by-key 0 undone_intent written (waits-undone ∷ []) after_write (λ _. refl) (λ _. refl) (λ k other. rw (other.a, other.z) (either _ _))
+    (record { versions = (refl, (refl, tt)); held = (refl, tt) })
+
+intent-taken : TakesIn 0 the_intent after_undone after_intent
+unfolding computed
+intent-taken = taken-by-key 0 the_intent written waits after_undone (λ _. refl) (λ _. refl) (λ k other. rw (other.a, other.z) (either _ _))
+    (record { versions = (refl, (refl, tt)); held = (refl, (refl, (refl, tt))) })
 
 safe-taken : TakesIn 0 parent_safe after_intent after_safe
 unfolding computed
-safe-taken = taken 0 parent_safe written waits after_intent (λ k _. either _ _) (record { versions = (refl, (refl, tt)); held = (refl, (refl, tt)) })
+safe-taken = taken 0 parent_safe written waits after_intent (λ k _. either _ _) (record { versions = (refl, (refl, tt)); held = (refl, (refl, (refl, tt))) })
 
-split-taken : TakesIn 0 the_split after_safe early
+pub split-taken : TakesIn 0 the_split after_safe early
 unfolding computed
-split-taken = taken 0 the_split written waits after_safe (λ k _. either _ _) (record { versions = (refl, (refl, tt)); held = (refl, (refl, tt)) })
+split-taken = taken 0 the_split written waits after_safe (λ k _. either _ _) (record { versions = (refl, (refl, tt)); held = (refl, (refl, (refl, tt))) })
 
--- all four at once
-pub parent-taken : StandsFor with_both_children 0 early × ((slice_index early.places 0 ≡ 4) × ((i : ℕ) → i ≢ 0 → slice_index early.places i ≡ slice_index new.places i))
+pub before-split-taken : TakesAll 0 before_split new after_safe
+before-split-taken = (after_write, (write-taken, (after_undone, (undone-taken, (after_intent, (intent-taken, (after_safe, (safe-taken, refl))))))))
+
+pub three-taken : TakesAll 0 (the_write ∷ undone_intent ∷ the_intent ∷ []) new after_intent
+three-taken = (after_write, (write-taken, (after_undone, (undone-taken, (after_intent, (intent-taken, refl))))))
+
+pub last-taken : TakesAll 0 (parent_safe ∷ the_split ∷ []) after_intent early
+last-taken = (after_safe, (safe-taken, (early, (split-taken, refl))))
+
+pub three-stand : StandsFor with_both_children 0 after_intent
 unfolding computed
-parent-taken = batches-keep with_both_children new early 0 0 parent_records new-stands-for refl refl
-    (after_write, (write-taken, (after_intent, (intent-taken, (after_safe, (safe-taken, (early, (split-taken, refl))))))))
+three-stand = batches-keep with_both_children new after_intent 0 0 1 (the_write ∷ undone_intent ∷ the_intent ∷ []) new-stands-for refl (omega arith) (omega arith) refl three-taken
 
+-- the records from the second on, of which two are skipped
 pub early-stands : StandsFor with_both_children 0 early
-early-stands = parent-taken.0
+unfolding computed
+early-stands = batches-keep with_both_children after_intent early 0 0 2 (undone_intent ∷ the_intent ∷ parent_safe ∷ the_split ∷ []) three-stand refl (omega arith) (omega arith) refl last-taken
 
 -- ---- and after the children's
 
@@ -204,7 +235,7 @@ right_safe-taken = taken 2 right_safe written-both [] after_both (λ k _. either
 
 pub drained-stands : StandsFor with_both_children 0 drained
 unfolding computed
-drained-stands = (batches-keep with_both_children after_left drained 0 2 right_records left-stands refl refl (after_both, (right_apply-taken, (drained, (right_safe-taken, refl))))).0
+drained-stands = batches-keep with_both_children after_left drained 0 2 1 right_records left-stands refl (omega arith) (omega arith) refl (after_both, (right_apply-taken, (drained, (right_safe-taken, refl))))
 
 -- ---- a tablet of the lower hashes; that of z is not among them
 
@@ -215,7 +246,7 @@ abbrev lower_written : List KeyVersion
 lower_written = version a 10 0 (codes "1") ∷ []
 
 abbrev lower_waits : List KeyWaiting
-lower_waits = record { key = a; txn = 5; value = Some (codes "3") } ∷ []
+lower_waits = waits-undone ∷ waits-a ∷ []
 
 abbrev lower_committed : List KeyVersion
 lower_committed = version a 10 0 (codes "1") ∷ version a 16 5 (codes "3") ∷ []
@@ -223,8 +254,11 @@ lower_committed = version a 10 0 (codes "1") ∷ version a 16 5 (codes "3") ∷ 
 abbrev lower_after_write : TargetTablet
 lower_after_write = after 0 the_write lower_written [] lower_new
 
+abbrev lower_after_undone : TargetTablet
+lower_after_undone = after 0 undone_intent lower_written (waits-undone ∷ []) lower_after_write
+
 abbrev lower_after_intent : TargetTablet
-lower_after_intent = after 0 the_intent lower_written lower_waits lower_after_write
+lower_after_intent = after 0 the_intent lower_written lower_waits lower_after_undone
 
 abbrev lower_after_safe : TargetTablet
 lower_after_safe = after 0 parent_safe lower_written lower_waits lower_after_intent
@@ -244,18 +278,23 @@ unfolding computed
 lower-write-taken = taken-by-key 0 the_write lower_written [] lower_new (λ _. refl) (λ e. absurd (false≢true e)) (λ k other. rw (other.a, other.z) (either _ _))
     (record { versions = (refl, tt); held = tt })
 
-lower-intent-taken : TakesIn 0 the_intent lower_after_write lower_after_intent
+lower-undone-taken : TakesIn 0 undone_intent lower_after_write lower_after_undone
 unfolding computed
-lower-intent-taken = taken-by-key 0 the_intent lower_written lower_waits lower_after_write (λ _. refl) (λ e. absurd (false≢true e)) (λ k other. rw (other.a, other.z) (either _ _))
+lower-undone-taken = taken-by-key 0 undone_intent lower_written (waits-undone ∷ []) lower_after_write (λ _. refl) (λ e. absurd (false≢true e)) (λ k other. rw other.a (either _ _))
     (record { versions = (refl, tt); held = (refl, tt) })
+
+lower-intent-taken : TakesIn 0 the_intent lower_after_undone lower_after_intent
+unfolding computed
+lower-intent-taken = taken-by-key 0 the_intent lower_written lower_waits lower_after_undone (λ _. refl) (λ e. absurd (false≢true e)) (λ k other. rw (other.a, other.z) (either _ _))
+    (record { versions = (refl, tt); held = (refl, (refl, tt)) })
 
 lower-safe-taken : TakesIn 0 parent_safe lower_after_intent lower_after_safe
 unfolding computed
-lower-safe-taken = taken 0 parent_safe lower_written lower_waits lower_after_intent (λ k _. either _ _) (record { versions = (refl, tt); held = (refl, tt) })
+lower-safe-taken = taken 0 parent_safe lower_written lower_waits lower_after_intent (λ k _. either _ _) (record { versions = (refl, tt); held = (refl, (refl, tt)) })
 
 lower-split-taken : TakesIn 0 the_split lower_after_safe lower_after_split
 unfolding computed
-lower-split-taken = taken 0 the_split lower_written lower_waits lower_after_safe (λ k _. either _ _) (record { versions = (refl, tt); held = (refl, tt) })
+lower-split-taken = taken 0 the_split lower_written lower_waits lower_after_safe (λ k _. either _ _) (record { versions = (refl, tt); held = (refl, (refl, tt)) })
 
 lower-apply-taken : TakesIn 1 left_apply lower_after_split lower_after_apply
 unfolding computed
@@ -268,9 +307,77 @@ lower-left_safe-taken = taken 1 left_safe lower_committed [] lower_after_apply (
 
 lower_split-stands : StandsFor with_both_children 0 lower_after_split
 unfolding computed
-lower_split-stands = (batches-keep with_both_children lower_new lower_after_split 0 0 parent_records (new-stands with_both_children 0 32767 valid) refl refl
-    (lower_after_write, (lower-write-taken, (lower_after_intent, (lower-intent-taken, (lower_after_safe, (lower-safe-taken, (lower_after_split, (lower-split-taken, refl))))))))).0
+lower_split-stands = batches-keep with_both_children lower_new lower_after_split 0 0 1 parent_records (new-stands with_both_children 0 32767 valid) refl (omega arith) (omega arith) refl
+    (lower_after_write, (lower-write-taken, (lower_after_undone, (lower-undone-taken, (lower_after_intent, (lower-intent-taken, (lower_after_safe, (lower-safe-taken, (lower_after_split, (lower-split-taken, refl))))))))))
 
 pub lower-stands : StandsFor with_both_children 0 lower
 unfolding computed
-lower-stands = (batches-keep with_both_children lower_after_split lower 0 1 (left_apply ∷ left_safe ∷ []) lower_split-stands refl refl (lower_after_apply, (lower-apply-taken, (lower, (lower-left_safe-taken, refl))))).0
+lower-stands = batches-keep with_both_children lower_after_split lower 0 1 1 (left_apply ∷ left_safe ∷ []) lower_split-stands refl (omega arith) (omega arith) refl
+    (lower_after_apply, (lower-apply-taken, (lower, (lower-left_safe-taken, refl))))
+
+-- ---- a tablet of the upper hashes; that of a is not among them
+
+abbrev upper_new : TargetTablet
+upper_new = new_tablet 32768 65535 (headers_of with_both_children.tablets)
+
+abbrev upper_written : List KeyVersion
+upper_written = version z 10 0 (codes "2") ∷ []
+
+abbrev upper_committed : List KeyVersion
+upper_committed = version z 10 0 (codes "2") ∷ removed z 16 5 ∷ []
+
+abbrev upper_after_write : TargetTablet
+upper_after_write = after 0 the_write upper_written [] upper_new
+
+abbrev upper_after_undone : TargetTablet
+upper_after_undone = after 0 undone_intent upper_written [] upper_after_write
+
+abbrev upper_after_intent : TargetTablet
+upper_after_intent = after 0 the_intent upper_written (waits-z ∷ []) upper_after_undone
+
+abbrev upper_after_safe : TargetTablet
+upper_after_safe = after 0 parent_safe upper_written (waits-z ∷ []) upper_after_intent
+
+abbrev upper_after_split : TargetTablet
+upper_after_split = after 0 the_split upper_written (waits-z ∷ []) upper_after_safe
+
+-- after the parent's records and the right child's apply
+abbrev pub upper : TargetTablet
+upper = after 2 right_apply upper_committed [] upper_after_split
+
+upper-write-taken : TakesIn 0 the_write upper_new upper_after_write
+unfolding computed
+upper-write-taken = taken-by-key 0 the_write upper_written [] upper_new (λ e. absurd (false≢true e)) (λ _. refl) (λ k other. rw (other.a, other.z) (either _ _))
+    (record { versions = (refl, tt); held = tt })
+
+upper-undone-taken : TakesIn 0 undone_intent upper_after_write upper_after_undone
+unfolding computed
+upper-undone-taken = taken-by-key 0 undone_intent upper_written [] upper_after_write (λ e. absurd (false≢true e)) (λ _. refl) (λ k other. rw (other.a, other.z) (either _ _))
+    (record { versions = (refl, tt); held = tt })
+
+upper-intent-taken : TakesIn 0 the_intent upper_after_undone upper_after_intent
+unfolding computed
+upper-intent-taken = taken-by-key 0 the_intent upper_written (waits-z ∷ []) upper_after_undone (λ e. absurd (false≢true e)) (λ _. refl) (λ k other. rw (other.a, other.z) (either _ _))
+    (record { versions = (refl, tt); held = (refl, tt) })
+
+upper-safe-taken : TakesIn 0 parent_safe upper_after_intent upper_after_safe
+unfolding computed
+upper-safe-taken = taken 0 parent_safe upper_written (waits-z ∷ []) upper_after_intent (λ k _. either _ _) (record { versions = (refl, tt); held = (refl, tt) })
+
+upper-split-taken : TakesIn 0 the_split upper_after_safe upper_after_split
+unfolding computed
+upper-split-taken = taken 0 the_split upper_written (waits-z ∷ []) upper_after_safe (λ k _. either _ _) (record { versions = (refl, tt); held = (refl, tt) })
+
+upper-apply-taken : TakesIn 2 right_apply upper_after_split upper
+unfolding computed
+upper-apply-taken = taken-by-key 2 right_apply upper_committed [] upper_after_split (λ e. absurd (false≢true e)) (λ _. refl) (λ k other. rw other.z (either _ _))
+    (record { versions = (refl, (refl, tt)); held = tt })
+
+upper_split-stands : StandsFor with_both_children 0 upper_after_split
+unfolding computed
+upper_split-stands = batches-keep with_both_children upper_new upper_after_split 0 0 1 parent_records (new-stands with_both_children 32768 65535 valid) refl (omega arith) (omega arith) refl
+    (upper_after_write, (upper-write-taken, (upper_after_undone, (upper-undone-taken, (upper_after_intent, (upper-intent-taken, (upper_after_safe, (upper-safe-taken, (upper_after_split, (upper-split-taken, refl))))))))))
+
+pub upper-stands : StandsFor with_both_children 0 upper
+unfolding computed
+upper-stands = deliveries-keep with_both_children upper_after_split upper 0 2 right_apply upper_split-stands refl refl upper-apply-taken

@@ -4,7 +4,8 @@
 //! at that time: the transactions committed by then, each in full, and none that commits later.
 #![tactic(auto)]
 
-ghost use Rattle.xc_model.specs.Laws.{ReadsShowRows, ReadsShowLists, KeysSuffice, NewStands, CutoffsKeepStanding, RestoresKeepReads, RestoredShowRows, SafeTimeRises, KeptValuesSuffice, DeliveriesKeepStanding, BatchesKeepStanding, SessionsStart, StepsKeepSessions, StepsKeepTimes, NamedTimesRise, FailoverCloses, ClosedStays};
+ghost use Rattle.xc_record.specs.RangeLaws.{RangesHoldOnce, BoundsShareOut, RootsShareOut, OneRootHolds, ChildrenShareOut};
+ghost use Rattle.xc_model.specs.Laws.{ReadsShowRows, ReadsShowLists, KeysSuffice, FirstCaseIsFound, StragglersAreFound, NewStands, CutoffsKeepStanding, RestoresKeepReads, RestoredShowRows, SafeTimeRises, KeptValuesSuffice, DeliveriesKeepStanding, BatchesKeepStanding, BatchesMovePlaces, BatchesGrow, PartitionsShowRows, RestoredPartitionsShowRows, SessionsStart, StepsKeepSessions, StepsKeepTimes, NamedTimesRise, FailoverCloses, ClosedStays, CutoffsRise, StopsKeepPlaces, LinesNameSessions, ClosedTimesStay};
 
 /// For logs that agree, a read at a time from the cutoff to what the tablet covers is the row of the logs at that time.
 pub fn reads_show_rows()
@@ -21,14 +22,46 @@ pub fn keys_suffice()
     ensures { KeysSuffice }
 {}
 
+/// In well-formed logs the disagreement that is found is the first case that stands, and none is found exactly where none
+/// stands.
+pub fn first_case_is_found()
+    ensures { FirstCaseIsFound }
+{}
+
+/// Tablet by tablet, a straggler is found exactly where one stands at some key.
+pub fn stragglers_are_found()
+    ensures { StragglersAreFound }
+{}
+
 /// One more accepted record of a source tablet that is started keeps a target tablet standing.
 pub fn deliveries_keep_standing()
     ensures { DeliveriesKeepStanding }
 {}
 
-/// So do its next accepted records, one after another; its place rises by their number, and no other place changes.
+/// So do its accepted records from any number up to the next one on; those up to the place are skipped.
 pub fn batches_keep_standing()
     ensures { BatchesKeepStanding }
+{}
+
+/// Whatever logs there are, a batch leaves the place at the greater of the old one and its last number, and all else of other
+/// source tablets as it was.
+pub fn batches_move_places()
+    ensures { BatchesMovePlaces }
+{}
+
+/// A batch and one more record at its end are the longer batch.
+pub fn batches_grow()
+    ensures { BatchesGrow }
+{}
+
+/// The rows that tablets show whose ranges share out the hashes, merged in byte order of keys, are the rows of the logs.
+pub fn partitions_show_rows()
+    ensures { PartitionsShowRows }
+{}
+
+/// So do those of tablets that were restored.
+pub fn restored_partitions_show_rows()
+    ensures { RestoredPartitionsShowRows }
 {}
 
 /// A new tablet of any range stands for all well-formed logs with its headers, from the cutoff 0.
@@ -41,7 +74,7 @@ pub fn cutoffs_keep_standing()
     ensures { CutoffsKeepStanding }
 {}
 
-/// After a restore to a time, reads at times up to it are as before.
+/// After a restore to a time, reads and row lists at times up to it are as before.
 pub fn restores_keep_reads()
     ensures { RestoresKeepReads }
 {}
@@ -89,4 +122,49 @@ pub fn failover_closes()
 /// A closed session stays as it is, whatever is asked of it.
 pub fn closed_sessions_stay()
     ensures { ClosedStays }
+{}
+
+/// No command makes the cutoff fall.
+pub fn cutoffs_rise()
+    ensures { CutoffsRise }
+{}
+
+/// A poll that stops, and a restart, leave every place as it was.
+pub fn stops_keep_places()
+    ensures { StopsKeepPlaces }
+{}
+
+/// Each line of a command says what the session has after it.
+pub fn lines_name_sessions()
+    ensures { LinesNameSessions }
+{}
+
+/// Once a session is closed, each time that it names is the one that it was closed at.
+pub fn closed_times_stay()
+    ensures { ClosedTimesStay }
+{}
+
+/// Of ranges that share out a range, exactly one holds each of its hashes.
+pub fn ranges_hold_once()
+    ensures { RangesHoldOnce }
+{}
+
+/// Bounds within the rules share out all hashes.
+pub fn bounds_share_out()
+    ensures { BoundsShareOut }
+{}
+
+/// The roots of headers within the rules share out all hashes.
+pub fn roots_share_out()
+    ensures { RootsShareOut }
+{}
+
+/// So there is one root, and no other, that holds a hash.
+pub fn one_root_holds()
+    ensures { OneRootHolds }
+{}
+
+/// The two children of a tablet share out its range: the left one has the lower part.
+pub fn children_share_out()
+    ensures { ChildrenShareOut }
 {}

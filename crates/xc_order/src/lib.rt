@@ -2,19 +2,22 @@
 #![tactic(auto)]
 
 mod order;
+mod walk;
 
 pub use order::Order;
+pub use walk::{Halt, Walk, walk_records};
 pub use xc_record::Break;
 
 #[cfg(test)]
 mod tests {
     use super::*;
-    use xc_record::{HybridTime, Kind, Record};
+    use xc_record::{HybridTime, Kind, Record, Subs};
 
     fn apply(commit: u64) -> Option<Kind> {
         Some(Kind::Apply {
             txn: 7,
             commit: HybridTime::new(commit)?,
+            without: Subs::new(),
         })
     }
 

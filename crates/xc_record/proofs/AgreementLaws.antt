@@ -12,15 +12,15 @@ use Rattle.xc_record.specs.declared.record.Logs.{Logs}
 use Rattle.xc_record.specs.Accepted.{AcceptedTablet, accepted_tablets}
 use Rattle.xc_record.specs.Commits.{applies, applied_txn, applied, commit_of}
 use Rattle.xc_record.specs.Agreement.{Disagreement, kind_at, disagreement_on, disagreement}
-use Rattle.xc_record.specs.Lists.{first_some, or_else}
+use Rattle.xc_record.specs.Lists.{first_some, or_else, has}
 use Rattle.xc_record.proofs.AcceptedLaws.{Each}
-use Rattle.xc_record.proofs.NumberLaws.{has, has-distinct, has-append}
+use Rattle.xc_record.proofs.NumberLaws.{has-distinct, has-append}
 
 -- an apply of n names n
 applied-kind : (n c : ℕ) (kind : Kind) (ms : List ℕ) → applies n kind ≡ Some c → has n (cons_option (applied_txn kind) ms) ≡ true
-applied-kind n c (Apply txn commit) ms e = grind (arith, nat_tests)
+applied-kind n c (Apply txn commit without) ms e = grind (arith, nat_tests)
 applied-kind n c (Write ops) ms e = cc
-applied-kind n c (Intent txn ops) ms e = cc
+applied-kind n c (Intent txn sub ops) ms e = cc
 applied-kind n c (Abort txn) ms e = cc
 applied-kind n c (Safe value) ms e = cc
 applied-kind n c (Split at left right) ms e = cc

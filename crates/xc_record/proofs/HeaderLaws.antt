@@ -41,7 +41,7 @@ Numbered-at n [] i b h e = cc
 Numbered-at n (x ∷ hs) zero b h e = grind arith
 Numbered-at n (x ∷ hs) (suc i) b h e = let k : b.id ≡ n + 1 + i = Numbered-at (n + 1) hs i b h.1 e in omega arith
 
-abbrev line : ℕ → List Header → List Header
+abbrev pub line : ℕ → List Header → List Header
 line hash hs = filter (λ h. holds h hash) hs
 
 -- no tablet that holds the hash has the parent id

@@ -1,15 +1,10 @@
 -- Laws of lists of numbers in rising order, each once.
---     has n ms      n is one of ms
 --     Rising ms      each number is below the later ones
-use Rattle.std.proofs.Common.{◌≡◌, ℕ, ◌<◌, Bool, true, false, cond, ◌||◌, List, [], ◌∷◌, ◌++◌, refl, ap, ◌∙◌, arith}
+use Rattle.std.proofs.Common.{◌≡◌, ℕ, ◌<◌, true, false, cond, ◌||◌, List, [], ◌∷◌, ◌++◌, refl, ap, ◌∙◌, arith}
 use Rattle.std.proofs.lemmas.Bool.Decides.{nat_tests}
 use Rattle.std.proofs.lemmas.List.Folds.{list_any-append}
 use Rattle.std.specs.Prelude.{nat_lt, ◌==◌}
-use Rattle.std.specs.List.{list_any}
-use Rattle.xc_record.specs.Commits.{insert_number, distinct}
-
-abbrev pub has : ℕ → List ℕ → Bool
-has n ms = list_any (λ m. m == n) ms
+use Rattle.xc_record.specs.Lists.{has, insert_number, distinct}
 
 pub has-insert : (n m : ℕ) (ms : List ℕ) → has n (insert_number m ms) ≡ (m == n || has n ms)
 has-insert n m [] = refl

@@ -1,13 +1,13 @@
 -- Laws of the safe time.
 use Rattle.std.proofs.Common.{◌≡◌, ℕ, zero, suc, ◌≤◌, true, not, List, [], ◌∷◌, take, length, map, subst, arith}
 use Rattle.std.proofs.lemmas.Bool.Decides.{nat_tests}
-use Rattle.std.specs.Prelude.{is_none, filter, slice_index}
+use Rattle.std.specs.Prelude.{is_none, fold, filter, slice_index}
 use Rattle.xc_record.specs.declared.record.Record.{Record}
 use Rattle.xc_record.specs.declared.record.Logs.{Logs}
 use Rattle.xc_record.specs.Order.{Progress, break_of, after, accepted_from}
 use Rattle.xc_record.specs.Accepted.{AcceptedTablet, accepted_tablets}
 use Rattle.xc_record.specs.Lists.{least}
-use Rattle.xc_record.specs.SafeTime.{floor_after, place, last_safe_in, is_closed_in, safe_time, IsPlaces}
+use Rattle.xc_record.specs.SafeTime.{place, last_safe_in, is_closed_in, safe_time, IsPlaces}
 use Rattle.xc_record.proofs.OrderLaws.{accepted-take}
 use Rattle.xc_record.proofs.AcceptedLaws.{Each, IsGrown, accepted_tablets-grown}
 
@@ -16,11 +16,11 @@ pub break_of-floor : (p : Progress) (r : Record) → is_none (break_of p r) ≡ 
 unfolding break_of
 break_of-floor p r e = grind (arith, nat_tests)
 
-pub floor-rises : (p : Progress) (rs : List Record) → accepted_from p rs ≡ rs → p.floor ≤ floor_after p.floor rs
+pub floor-rises : (p : Progress) (rs : List Record) → accepted_from p rs ≡ rs → p.floor ≤ (fold after p rs).floor
 floor-rises p [] e = omega arith
 floor-rises p (r ∷ rs) e = grind (arith, floor-rises (after p r) rs, break_of-floor p r)
 
-pub floor-take : (p : Progress) (m n : ℕ) (rs : List Record) → accepted_from p rs ≡ rs → m ≤ n → floor_after p.floor (take m rs) ≤ floor_after p.floor (take n rs)
+pub floor-take : (p : Progress) (m n : ℕ) (rs : List Record) → accepted_from p rs ≡ rs → m ≤ n → (fold after p (take m rs)).floor ≤ (fold after p (take n rs)).floor
 floor-take p zero n rs e h = floor-rises p (take n rs) (subst (λ xs. accepted_from p (take n xs) ≡ take n xs) e (accepted-take p n rs))
 floor-take p (suc m) zero rs e h = absurd (omega arith)
 floor-take p (suc m) (suc n) [] e h = omega arith

@@ -15,7 +15,7 @@ hashes : map hash_of (codes "aaa" ∷ codes "bbb" ∷ codes "mmm" ∷ codes "ttt
 unfolding computed
 hashes = refl
 
--- row 4
+-- a transaction over two tablets
 two-agrees : disagreement (two_tablets 14 15) ≡ None
 unfolding computed
 two-agrees = refl
@@ -36,7 +36,7 @@ two-rows-later : rows (two_tablets 14 15) 22 ≡ (a, codes "1") ∷ (z, codes "2
 unfolding computed
 two-rows-later = refl
 
--- row 11, 12
+-- its applies with two commits, and a safe record at its commit while an operation of it waits
 two-differs : disagreement (two_tablets 14 16) ≡ Some (record { txn = 7; tablet = 1; kind = CommitDiffers })
 unfolding computed
 two-differs = refl
@@ -45,7 +45,7 @@ two-straggler : disagreement (two_tablets 15 15) ≡ Some (record { txn = 7; tab
 unfolding computed
 two-straggler = refl
 
--- row 5
+-- an operation that waits through a split
 split-safe-0 : safe_time (with_split 14) (4 ∷ 0 ∷ 0 ∷ []) ≡ 12
 unfolding computed
 split-safe-0 = refl
@@ -62,7 +62,7 @@ split-row : row (with_split 14) 17 z ≡ Some (codes "9")
 unfolding computed
 split-row = refl
 
-split-waits : waiting (events z (path_to (with_split 14) (4 ∷ 0 ∷ 0 ∷ []) z)) ≡ record { txn = 5; value = Some (codes "9") } ∷ []
+split-waits : waiting (events z (path_to (with_split 14) (4 ∷ 0 ∷ 0 ∷ []) z)) ≡ record { txn = 5; sub = 0; value = Some (codes "9") } ∷ []
 unfolding computed
 split-waits = refl
 
@@ -70,12 +70,12 @@ split-versions : versions (events z (path_to (with_split 14) (4 ∷ 0 ∷ 2 ∷ 
 unfolding computed
 split-versions = refl
 
--- row 17
+-- a split that is not accepted: its children are not reached
 split-unreached : map {B = Bool × ℕ × ℕ} (λ b. (b.reached, length b.records, b.end.floor)) (accepted_tablets (with_split 13)) ≡ (true, 3, 12) ∷ (false, 0, 12) ∷ (false, 0, 12) ∷ []
 unfolding computed
 split-unreached = refl
 
--- row 9
+-- an apply with a commit at the floor
 late-accepted : length (accepted (with_late_apply 12) 0) ≡ 3
 unfolding computed
 late-accepted = refl
@@ -88,7 +88,7 @@ late-rows-13 : rows (with_late_apply 13) 21 ≡ (a, codes "1") ∷ (b, codes "2"
 unfolding computed
 late-rows-13 = refl
 
--- row 13
+-- two transactions with one commit, in the order of their numbers
 equal-rows-14 : rows with_equal_commits 14 ≡ (c, codes "z") ∷ []
 unfolding computed
 equal-rows-14 = refl

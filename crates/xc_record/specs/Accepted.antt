@@ -2,7 +2,7 @@
 --     AcceptedTablet      a tablet's header, whether it is reached, the progress before its records, its accepted records, and the progress after them
 --     accepted_tablets logs      one for each tablet, in the tablets' order
 --     halt logs s      the number and the break of the first record of s that is not accepted, where s is reached
---     accepted logs s, accepted_tablet logs s      the accepted records and the accepted_tablet of tablet s
+--     accepted logs s, accepted_tablet logs s      the accepted records of tablet s, and all that is kept of it
 use Rattle.std.specs.Prelude.{ℕ, Bool, true, false, List, [], ◌∷◌, ◌++◌, Option, Some, None, if◌then◌else◌, ◌&&◌, fold, slice_get, option_and_then, ◌+◌}
 use Rattle.std.specs.Option.{option_map_or}
 use Rattle.xc_record.specs.declared.record.Record.{Record}
@@ -23,7 +23,7 @@ pub record AcceptedTablet : Type 0 where
 abbrev pub root_start : Progress
 root_start = record { floor = 0; last = 0; split = false }
 
--- where a child begins after the accepted_tablet of its parent
+-- where a child begins, at the end of its parent
 abbrev pub child_start : AcceptedTablet → Progress
 child_start parent = record { floor = parent.end.floor; last = parent.end.last; split = false }
 
@@ -77,5 +77,9 @@ records logs s = option_map_or (λ t. t.records) (tablet logs s) []
 abbrev pub parent_of : Logs → ℕ → Option ℕ
 parent_of logs s = option_and_then (λ t. t.header.parent) (tablet logs s)
 
+-- of a tablet with these records, accepted or not
+abbrev pub halt_of : AcceptedTablet → List Record → Option (ℕ × Break)
+halt_of b rs = if b.reached then halt_from b.start 1 rs else None
+
 unfoldable pub halt : Logs → ℕ → Option (ℕ × Break)
-halt logs s = option_and_then (λ b. if b.reached then halt_from b.start 1 (records logs s) else None) (accepted_tablet logs s)
+halt logs s = option_and_then (λ b. halt_of b (records logs s)) (accepted_tablet logs s)

@@ -1,9 +1,12 @@
 -- The commits of the logs.
 --     Commit      a write or a transaction: its commit time, its number (0: a write), its tablet (0: a transaction), its operations
 --     commit_of logs n      the commit of the transaction: that of its first accepted apply on the least tablet that has one
+--     undone logs n      its subtransactions that were rolled back, as that apply names them
+--     provisional_ops logs n      the operations of all its intents, rolled back or not
+--     txn_ops logs n      its operations: those of the intents that were not rolled back
 --     applied logs      the transactions with an accepted apply, rising
 --     commits logs      all commits, by commit time, number and tablet
-use Rattle.std.specs.Prelude.{ℕ, List, [], ◌∷◌, ◌++◌, Option, Some, None, if◌then◌else◌, ◌==◌, nat_lt, flat_map}
+use Rattle.std.specs.Prelude.{ℕ, List, [], ◌∷◌, ◌++◌, Option, Some, None, if◌then◌else◌, ◌==◌, not, filter, flat_map}
 use Rattle.std.specs.List.{filter_map}
 use Rattle.std.specs.Option.{option_map_or}
 use Rattle.std.specs.declared.cmp.Ordering.{Ordering}
@@ -14,7 +17,7 @@ use Rattle.xc_record.specs.declared.record.Op.{Op}
 use Rattle.xc_record.specs.declared.record.Record.{Record}
 use Rattle.xc_record.specs.declared.record.Logs.{Logs}
 use Rattle.xc_record.specs.Accepted.{accepted_tablets}
-use Rattle.xc_record.specs.Lists.{sort_by, first_some}
+use Rattle.xc_record.specs.Lists.{sort_by, first_some, has, distinct}
 
 pub record Commit : Type 0 where
   pub time : ℕ
@@ -27,50 +30,61 @@ commit_cmp x y = ordering_then (nat_cmp x.time y.time) (ordering_then (nat_cmp x
 
 -- the commit that an apply of the transaction names
 abbrev pub applies : ℕ → Kind → Option ℕ
-applies n (Apply txn commit) = if txn == n then Some commit else None
+applies n (Apply txn commit without) = if txn == n then Some commit else None
 applies n _ = None
+
+-- the subtransactions that an apply of the transaction names as rolled back
+abbrev pub rolls_back : ℕ → Kind → Option (List ℕ)
+rolls_back n (Apply txn commit without) = if txn == n then Some without else None
+rolls_back n _ = None
 
 unfoldable pub commit_of : Logs → ℕ → Option ℕ
 commit_of logs n = first_some (λ b. first_some (λ r. applies n r.kind) b.records) (accepted_tablets logs)
 
+unfoldable pub undone : Logs → ℕ → List ℕ
+undone logs n = option_map_or (λ without. without) (first_some (λ b. first_some (λ r. rolls_back n r.kind) b.records) (accepted_tablets logs)) []
+
 abbrev pub applied_txn : Kind → Option ℕ
-applied_txn (Apply txn commit) = Some txn
+applied_txn (Apply txn commit without) = Some txn
 applied_txn _ = None
-
--- n in its place among rising numbers, unless it is there
-abbrev pub insert_number : ℕ → List ℕ → List ℕ
-insert_number n [] = n ∷ []
-insert_number n (m ∷ ms) = if nat_lt n m then (n ∷ m ∷ ms) else (if n == m then (m ∷ ms) else (m ∷ insert_number n ms))
-
-abbrev pub distinct : List ℕ → List ℕ
-distinct [] = []
-distinct (n ∷ ns) = insert_number n (distinct ns)
 
 unfoldable pub applied : Logs → List ℕ
 applied logs = distinct (flat_map (λ b. filter_map (λ r. applied_txn r.kind) b.records) (accepted_tablets logs))
 
--- an intent: its log time, its tablet, its operations
+-- an intent: its log time, its tablet, its subtransaction, its operations
 pub record Provisional : Type 0 where
   pub time : ℕ
   pub tablet : ℕ
+  pub sub : ℕ
   pub ops : List Op
 
 abbrev pub provisional_cmp : Provisional → Provisional → Ordering
 provisional_cmp x y = ordering_then (nat_cmp x.time y.time) (nat_cmp x.tablet y.tablet)
 
 abbrev pub intent_ops : ℕ → Kind → Option (List Op)
-intent_ops n (Intent txn ops) = if txn == n then Some ops else None
+intent_ops n (Intent txn sub ops) = if txn == n then Some ops else None
 intent_ops n _ = None
+
+abbrev pub sub_of : Kind → ℕ
+sub_of (Intent txn sub ops) = sub
+sub_of _ = 0
 
 -- the intents of the transaction, of one tablet
 abbrev pub intents_in : ℕ → ℕ → List Record → List Provisional
 intents_in n tablet [] = []
 intents_in n tablet (r ∷ rs) =
-    option_map_or (λ ops. record { time = r.time; tablet = tablet; ops = ops } ∷ []) (intent_ops n r.kind) [] ++ intents_in n tablet rs
+    option_map_or (λ ops. record { time = r.time; tablet = tablet; sub = sub_of r.kind; ops = ops } ∷ []) (intent_ops n r.kind) []
+    ++ intents_in n tablet rs
 
--- all operations of the transaction, by log time, tablet and place in the intent
+-- the intents of the transaction, by log time and tablet
+unfoldable pub intents : Logs → ℕ → List Provisional
+intents logs n = sort_by provisional_cmp (flat_map (λ b. intents_in n b.header.id b.records) (accepted_tablets logs))
+
+unfoldable pub provisional_ops : Logs → ℕ → List Op
+provisional_ops logs n = flat_map (λ i. i.ops) (intents logs n)
+
 unfoldable pub txn_ops : Logs → ℕ → List Op
-txn_ops logs n = flat_map (λ i. i.ops) (sort_by provisional_cmp (flat_map (λ b. intents_in n b.header.id b.records) (accepted_tablets logs)))
+txn_ops logs n = flat_map (λ i. i.ops) (filter (λ i. not (has i.sub (undone logs n))) (intents logs n))
 
 abbrev pub write_ops : Kind → Option (List Op)
 write_ops (Write ops) = Some ops

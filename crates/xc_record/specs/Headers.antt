@@ -3,6 +3,7 @@
 --     next_after next h      what may stand after h
 --     fits before next h      h may stand next after the headers before
 --     headers_fit hs      the rules hold of all the headers
+--     are_headers hs      the same, and there are at most 64 of them
 --     children hs id      the two headers that name id as their parent
 use Rattle.std.specs.Prelude.{ℕ, ◌+◌, Bool, true, false, List, [], ◌∷◌, ◌++◌, Option, Some, None, if◌then◌else◌, ◌&&◌, ◌==◌, nat_le, nat_lt, not, length, slice_get}
 use Rattle.std.specs.List.{list_any}
@@ -62,6 +63,9 @@ fit_from before next (h ∷ hs) = fits before next h && fit_from (before ++ h �
 
 unfoldable pub headers_fit : List Header → Bool
 headers_fit hs = fit_from [] (RootAt 0) hs
+
+unfoldable pub are_headers : List Header → Bool
+are_headers hs = nat_le (length hs) 64 && headers_fit hs
 
 abbrev pub with_next : Header → List Header → Option (Header × Header)
 with_next left [] = None

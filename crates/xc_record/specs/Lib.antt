@@ -1,4 +1,6 @@
 pub mod Lists
+pub mod Subs
+pub mod Packed
 pub mod Hash
 pub mod Order
 pub mod Headers
@@ -6,9 +8,13 @@ pub mod Accepted
 pub mod Path
 pub mod Commits
 pub mod Rows
+pub mod Kept
 pub mod Agreement
 pub mod SafeTime
 pub mod Valid
+pub mod Sharing
+pub mod Bounds
+pub mod RangeLaws
 pub mod Session
 pub mod Step
 pub mod Grown

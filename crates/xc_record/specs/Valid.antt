@@ -1,5 +1,6 @@
 -- Logs within the rules on tablets and records and within the limits.
 --     is_valid logs      the headers fit, each record fits its tablet, and the limits hold
+--     keeps_header header pair kind      a record's keys are in the range, it has at most 64 operations, and a split names the children `pair`
 use Rattle.std.specs.Prelude.{ℕ, ◌^◌, Bool, true, false, List, [], ◌∷◌, Option, Some, None, if◌then◌else◌, ◌&&◌, ◌==◌, nat_le, nat_lt, not, length, map, sum_by, is_some}
 use Rattle.std.specs.List.{list_all}
 use Rattle.std.specs.Option.{option_map_or}
@@ -12,7 +13,8 @@ use Rattle.xc_record.specs.declared.record.Tablet.{Tablet}
 use Rattle.xc_record.specs.declared.record.Logs.{Logs}
 use Rattle.xc_record.specs.Hash.{hash_of, holds}
 use Rattle.xc_record.specs.Order.{is_split}
-use Rattle.xc_record.specs.Headers.{headers_fit, children}
+use Rattle.xc_record.specs.Headers.{are_headers, children}
+use Rattle.xc_record.specs.Subs.{are_subs}
 use Rattle.xc_base.specs.Names.{is_key, is_value}
 
 abbrev pub is_time : ℕ → Bool
@@ -32,10 +34,22 @@ abbrev pub split_fits : Option (Header × Header) → ℕ → ℕ → ℕ → Bo
 split_fits None at left right = false
 split_fits (Some pair) at left right = at == pair.1.lo && (left == pair.0.id && right == pair.1.id)
 
+-- what a record says of its tablet's header, whatever else is in it
+abbrev pub ops_keep : Header → List Op → Bool
+ops_keep header ops = nat_le (length ops) 64 && list_all (λ op. holds header (hash_of op.key)) ops
+
+abbrev pub keeps_header : Header → Option (Header × Header) → Kind → Bool
+keeps_header header pair (Write ops) = ops_keep header ops
+keeps_header header pair (Intent txn sub ops) = ops_keep header ops
+keeps_header header pair (Apply txn commit without) = true
+keeps_header header pair (Abort txn) = true
+keeps_header header pair (Safe value) = true
+keeps_header header pair (Split at left right) = split_fits pair at left right
+
 abbrev pub kind_fits : Header → Option (Header × Header) → Kind → Bool
 kind_fits header pair (Write ops) = ops_fit header ops
-kind_fits header pair (Intent txn ops) = is_txn txn && ops_fit header ops
-kind_fits header pair (Apply txn commit) = is_txn txn && is_time commit
+kind_fits header pair (Intent txn sub ops) = is_txn txn && (nat_le sub 64 && ops_fit header ops)
+kind_fits header pair (Apply txn commit without) = is_txn txn && (is_time commit && are_subs without)
 kind_fits header pair (Abort txn) = is_txn txn
 kind_fits header pair (Safe value) = is_time value
 kind_fits header pair (Split at left right) = split_fits pair at left right
@@ -54,7 +68,7 @@ tablet_fits headers t =
 
 abbrev pub ops_in : Kind → ℕ
 ops_in (Write ops) = length ops
-ops_in (Intent txn ops) = length ops
+ops_in (Intent txn sub ops) = length ops
 ops_in _ = 0
 
 abbrev pub headers_of : List Tablet → List Header
@@ -62,8 +76,7 @@ headers_of ts = map (λ t. t.header) ts
 
 unfoldable pub is_valid : Logs → Bool
 is_valid logs =
-    headers_fit (headers_of logs.tablets)
+    are_headers (headers_of logs.tablets)
     && (list_all (tablet_fits (headers_of logs.tablets)) logs.tablets
-    && (nat_le (length logs.tablets) 64
     && (nat_le (sum_by (λ t. length t.records) logs.tablets) (2 ^ 20)
-    && nat_le (sum_by (λ t. sum_by (λ r. ops_in r.kind) t.records) logs.tablets) (2 ^ 22))))
+    && nat_le (sum_by (λ t. sum_by (λ r. ops_in r.kind) t.records) logs.tablets) (2 ^ 22)))

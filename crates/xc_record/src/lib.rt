@@ -2,14 +2,19 @@
 #![tactic(auto)]
 
 mod key_hash;
+mod ops;
+mod packed;
 mod record;
 mod rules;
 mod session;
+mod subs;
 
-pub use key_hash::hash;
-pub use record::{AgreeKind, Break, Header, Kind, Logs, Op, Ops, Record, Records, Tablet, Tablets};
+pub use key_hash::{hash, hash_bytes};
+pub use ops::{OpAt, Ops, OpsIter};
+pub use record::{AgreeKind, Break, Header, Kind, Logs, Op, Record, Records, Tablet, Tablets};
 pub use rules::{Next, children, fits, may_end, next_after, valid};
 pub use session::{Command, Line, Numbers, PollAnswer};
+pub use subs::{LAST_SUB, Subs, SubsIter};
 pub use xc_time::HybridTime;
 
 #[cfg(test)]

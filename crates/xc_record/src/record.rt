@@ -3,6 +3,8 @@ ghost use Rattle.std.specs.Prelude.{◌≡◌, ◌<◌, ◌++◌, ◌∷◌, [],
 ghost use Rattle.xc_record.specs.Hash.{holds};
 ghost use Rattle.xc_record.specs.Grown.{with_record};
 
+use crate::ops::Ops;
+use crate::subs::Subs;
 use std::alloc::AllocError;
 use std::marker::Model;
 use xc_base::{Key, Value};
@@ -17,59 +19,41 @@ pub struct Op {
     pub value: Option<Value>,
 }
 
-/// The operations of a record, 1 to 64 of them, which contracts see as a list.
-#[derive(Drop, Debug)]
-pub struct Ops {
-    items: Vec<Op>,
-}
-
-impl Ops {
-    /// The operations of a vector, which it takes over.
-    pub fn from_vec(items: Vec<Op>) -> Ops
-        ensures { result ≡ items.items }
-    {
-        Ops { items }
-    }
-
-    /// Gives the vector back, without taking memory.
-    pub fn into_vec(self) -> Vec<Op>
-        ensures { result.items ≡ self }
-    {
-        self.items
-    }
-
-    /// The operations, to be read.
-    pub fn as_slice(&self) -> &[Op]
-        ensures { result.now ≡ self.now }
-    {
-        self.items.as_slice()
-    }
-}
-
-impl Model for Ops {
-    ghost use Rattle.std.specs.Prelude.{List};
-    ghost use Rattle.xc_record.specs.declared.record.Op.{Op};
-
-    ghost Value = { List Op };
-
-    ghost view = { λ l. l.items.items };
-}
-
 /// What a record says. Transactions are numbered from 1.
 #[derive(Drop, Debug)]
 pub enum Kind {
     /// A write of one tablet, which commits at its log time.
-    Write { ops: Ops },
-    /// Provisional records of a distributed transaction: its operations wait here until its apply or abort.
-    Intent { txn: u32, ops: Ops },
-    /// The transaction committed at this time, and what waits of it becomes versions of the rows.
-    Apply { txn: u32, commit: HybridTime },
+    Write {
+        ops: Ops,
+    },
+    /// Provisional records of a distributed transaction: its operations wait here until its apply or abort. They belong to
+    /// the transaction's subtransaction `sub`, 1 to 64, or to none where it is 0.
+    Intent {
+        txn: u32,
+        sub: u8,
+        ops: Ops,
+    },
+    /// The transaction committed at this time. What waits of it becomes versions of the rows, but for the subtransactions
+    /// `without`, which were rolled back: what waits of these is dropped.
+    Apply {
+        txn: u32,
+        commit: HybridTime,
+        without: Subs,
+    },
     /// The transaction was rolled back here, and what waits of it is dropped.
-    Abort { txn: u32 },
+    Abort {
+        txn: u32,
+    },
     /// No later record of this tablet commits at or below this time.
-    Safe { value: HybridTime },
+    Safe {
+        value: HybridTime,
+    },
     /// The tablet ended, and two children go on: the left one below the hash `at`, the right one from there.
-    Split { at: u16, left: u32, right: u32 },
+    Split {
+        at: u16,
+        left: u32,
+        right: u32,
+    },
 }
 
 /// A write-ahead record.
@@ -242,6 +226,8 @@ pub enum Break {
 pub enum AgreeKind {
     /// An apply there has another commit time.
     CommitDiffers,
+    /// An apply there names other subtransactions as rolled back.
+    RollbackDiffers,
     /// An intent there was logged at or after the commit.
     LateIntent,
     /// An abort of it stands there.

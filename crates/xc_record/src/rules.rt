@@ -1,15 +1,15 @@
 // The rules on tablets and records, and the limits.
 ghost use Rattle.std.specs.Prelude.{◌≡◌, ◌≤◌, ◌<◌, ◌^◌, take, drop, length, slice_get, option_map, true, sum_by, nat_le, ◌+◌, ◌&&◌, MatchOption};
 ghost use Rattle.std.specs.List.{list_any, list_all};
-ghost use Rattle.xc_record.specs.Headers.{is_child_of, splits_off, child_fits, fits, next_after, may_end, headers_fit, children};
+ghost use Rattle.xc_record.specs.Headers.{is_child_of, splits_off, child_fits, fits, next_after, may_end, headers_fit, are_headers, children};
 ghost use Rattle.xc_record.specs.Order.{is_split};
-ghost use Rattle.xc_base.specs.Names.{is_key, is_value};
 ghost use Rattle.xc_record.specs.Valid.{headers_of, is_txn, op_fits, ops_fit, kind_fits, record_fits, ends_fit, tablet_fits, is_valid, ops_in, is_time};
-ghost use Rattle.std.specs.Option.{option_map_or};
+ghost use Rattle.xc_record.specs.Subs.{are_subs};
 
-use crate::key_hash::hash;
-use crate::record::{Header, Kind, Logs, Op, Record, Tablet};
-use xc_base::{Key, Value};
+use crate::key_hash::hash_bytes;
+use crate::ops::{OpAt, Ops};
+use crate::record::{Header, Kind, Logs, Record, Tablet};
+use crate::subs::{LAST_SUB, Subs};
 
 /// What header may stand next after those before.
 #[derive(Clone, Copy, PartialEq, Eq, Debug)]
@@ -136,42 +136,41 @@ fn headers_fit(tablets: &[Tablet]) -> bool
     may_end(next)
 }
 
-// Whether the key and the value are within their limits, which their types see to.
-fn is_named(key: &Key, value: &Option<Value>) -> bool
-    ensures { result ≡ (is_key key.now && option_map_or is_value value.now true) }
+fn op_fits(header: &Header, op: &OpAt<'_>) -> bool
+    ensures { result ≡ op_fits header.now op.now }
 {
-    let _key = key.bytes();
-    if let Some(value) = value {
-        let _value = value.bytes();
+    header.holds(hash_bytes(op.key_bytes()))
+}
+
+fn all_ops_fit(header: &Header, ops: &Ops) -> bool
+    ensures { result ≡ list_all (op_fits header.now) ops.now }
+{
+    for op in ops.iter() {
+        if !op_fits(header, &op) {
+            return false;
+        }
     }
     true
 }
 
-fn op_fits(header: &Header, op: &Op) -> bool
-    ensures { result ≡ op_fits header.now op.now }
-{
-    is_named(&op.key, &op.value) && header.holds(hash(&op.key))
-}
-
-fn all_ops_fit(header: &Header, ops: &[Op]) -> bool
-    ensures { result ≡ list_all (op_fits header.now) ops.now }
-{
-    ops.iter().all(|op| op_fits(header, op))
-}
-
-fn ops_fit(header: &Header, ops: &[Op]) -> bool
+fn ops_fit(header: &Header, ops: &Ops) -> bool
     ensures { result ≡ ops_fit header.now ops.now }
 {
-    1 <= ops.len() && ops.len() <= 64 && all_ops_fit(header, ops)
+    let count = ops.len();
+    1 <= count && count <= 64 && all_ops_fit(header, ops)
 }
 
 fn kind_fits(header: &Header, pair: &Option<(Header, Header)>, kind: &Kind) -> bool
     ensures { result ≡ kind_fits header.now pair.now kind.now }
 {
     match kind {
-        Kind::Write { ops } => ops_fit(header, ops.as_slice()),
-        Kind::Intent { txn, ops } => *txn >= 1 && ops_fit(header, ops.as_slice()),
-        Kind::Apply { txn, commit } => *txn >= 1 && is_time(commit.get()),
+        Kind::Write { ops } => ops_fit(header, ops),
+        Kind::Intent { txn, sub, ops } => *txn >= 1 && *sub <= LAST_SUB && ops_fit(header, ops),
+        Kind::Apply {
+            txn,
+            commit,
+            without,
+        } => *txn >= 1 && is_time(commit.get()) && are_subs(without),
         Kind::Abort { txn } => *txn >= 1,
         Kind::Safe { value } => is_time(value.get()),
         Kind::Split { at, left, right } => match pair {
@@ -179,6 +178,14 @@ fn kind_fits(header: &Header, pair: &Option<(Header, Header)>, kind: &Kind) -> b
             Some((l, r)) => *at == r.lo && *left == l.id && *right == r.id,
         },
     }
+}
+
+// Whether they are from 1 to 64 and rise, which their type sees to.
+fn are_subs(subs: &Subs) -> bool
+    ensures { result ≡ are_subs subs.now }
+{
+    let _count = subs.len();
+    true
 }
 
 fn is_time(value: u64) -> bool
@@ -265,7 +272,7 @@ fn ops_in(kind: &Kind) -> usize
     ensures { result ≡ ops_in kind.now }
 {
     match kind {
-        Kind::Write { ops } | Kind::Intent { ops, .. } => ops.as_slice().len(),
+        Kind::Write { ops } | Kind::Intent { ops, .. } => ops.len(),
         Kind::Apply { .. } | Kind::Abort { .. } | Kind::Safe { .. } | Kind::Split { .. } => 0,
     }
 }
@@ -299,15 +306,21 @@ fn operations_fit(tablets: &[Tablet]) -> bool
     true
 }
 
+// Whether they are at most 64, and the rules on headers hold. These look at each pair of tablets, so the number comes first.
+#[tactic(auto, unfolding(crate::specs::Headers::are_headers))]
+fn are_headers(tablets: &[Tablet]) -> bool
+    ensures { result ≡ are_headers (headers_of tablets.now) }
+{
+    tablets.len() <= 64 && headers_fit(tablets)
+}
+
 /// Whether the rules on tablets and records and the limits hold. The order of the records is not looked at.
 #[tactic(auto, unfolding(crate::specs::Valid::is_valid))]
 pub fn valid(logs: &Logs) -> bool
     ensures { result ≡ is_valid logs.now }
 {
     let tablets = logs.tablets.as_slice();
-    // The rules on headers look at each pair of tablets, so their number is looked at first.
-    tablets.len() <= 64
-        && headers_fit(tablets)
+    are_headers(tablets)
         && all_tablets_fit(tablets)
         && records_fit(tablets)
         && operations_fit(tablets)

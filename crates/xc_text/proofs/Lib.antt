@@ -1,6 +1,7 @@
 pub mod CutLaws
 pub mod NumberLaws
 pub mod OpsLaws
+pub mod SubsRead
 pub mod LineLaws
 pub mod StepLaws
 pub mod ValidParts

@@ -6,9 +6,11 @@ use Rattle.std.specs.Str.{bytes_eq}
 use Rattle.xc_record.specs.declared.record.Op.{Op}
 use Rattle.xc_record.specs.declared.record.Kind.{Kind}
 use Rattle.xc_record.specs.declared.record.Kind.TheVariants.{Write, Intent, Apply, Abort, Safe, Split}
+use Rattle.xc_text.specs.declared.line.Version.{Version}
+use Rattle.xc_text.specs.declared.line.Version.TheVariants.{One, Two}
 use Rattle.xc_text.specs.declared.line.LogLine.{LogLine}
 use Rattle.xc_text.specs.declared.line.LogLine.TheVariants as line
-use Rattle.xc_text.specs.Lines.{op_of, all_ops, ops_of, kind_of, kind_by, line_of, line_by, entry_of, header_of, version_of, at_end, number, first_number, intent_of, apply_of, abort_of, safe_of, split_of, ◌>>=◌}
+use Rattle.xc_text.specs.Lines.{op_of, all_ops, ops_of, kind_of, kind_by, line_of, line_by, entry_of, header_of, version_of, at_end, number, first_number, intent_of, sub_of, without_of, apply_of, abort_of, safe_of, split_of, ◌>>=◌}
 use Rattle.xc_text.proofs.ValidParts.{has_ops}
 
 -- the test holds of what there is
@@ -33,29 +35,32 @@ some_op ops = nat_le 1 (length ops)
 cons_some : (op : Op) (ops : List Op) → some_op (op ∷ ops) ≡ true
 cons_some op ops = grind (arith, nat_tests)
 
-all_some : (w : List ℕ) (ws : List (List ℕ)) → holds_of some_op (all_ops (w ∷ ws)) ≡ true
-all_some w ws = then_holds some_op (op_of w) (λ op. option_and_then (λ ops. Some (op ∷ ops)) (all_ops ws)) (λ op. then_holds some_op (all_ops ws) (λ ops. Some (op ∷ ops)) (λ ops. cons_some op ops))
+all_some : (v : Version) (w : List ℕ) (ws : List (List ℕ)) → holds_of some_op (all_ops v (w ∷ ws)) ≡ true
+all_some v w ws = then_holds some_op (op_of v w) (λ op. option_and_then (λ ops. Some (op ∷ ops)) (all_ops v ws)) (λ op. then_holds some_op (all_ops v ws) (λ ops. Some (op ∷ ops)) (λ ops. cons_some op ops))
 
-ops_some : (words : List (List ℕ)) → holds_of some_op (ops_of words) ≡ true
-ops_some [] = refl
-ops_some (w ∷ ws) = all_some w ws
+ops_some : (v : Version) (words : List (List ℕ)) → holds_of some_op (ops_of v words) ≡ true
+ops_some v [] = refl
+ops_some v (w ∷ ws) = all_some v w ws
 
 write_some : (o : Option (List Op)) → holds_of some_op o ≡ true → holds_of has_ops (option_map Write o) ≡ true
 write_some None h = refl
 write_some (Some ops) h = h
 
-intent_some : (txn : ℕ) (o : Option (List Op)) → holds_of some_op o ≡ true → holds_of has_ops (option_and_then (λ ops. Some (Intent txn ops)) o) ≡ true
-intent_some txn None h = refl
-intent_some txn (Some ops) h = h
+intent_some : (txn sub : ℕ) (o : Option (List Op)) → holds_of some_op o ≡ true → holds_of has_ops (option_and_then (λ ops. Some (Intent txn sub ops)) o) ≡ true
+intent_some txn sub None h = refl
+intent_some txn sub (Some ops) h = h
 
 apply_some : (words : List (List ℕ)) → holds_of has_ops (apply_of words) ≡ true
 apply_some words =
-    then_holds has_ops (first_number words) (λ txn. first_number txn.1 >>= (λ commit. at_end commit.1 (Apply txn.0 commit.0)))
-    (λ txn. then_holds has_ops (first_number txn.1) (λ commit. at_end commit.1 (Apply txn.0 commit.0)) (λ commit. end_holds has_ops commit.1 (Apply txn.0 commit.0) refl))
+    then_holds has_ops (first_number words) (λ txn. first_number txn.1 >>= (λ commit. without_of commit.1 >>= (λ without. Some (Apply txn.0 commit.0 without))))
+    (λ txn. then_holds has_ops (first_number txn.1) (λ commit. without_of commit.1 >>= (λ without. Some (Apply txn.0 commit.0 without)))
+    (λ commit. then_holds has_ops (without_of commit.1) (λ without. Some (Apply txn.0 commit.0 without)) (λ without. refl)))
 
-intents_some : (words : List (List ℕ)) → holds_of has_ops (intent_of words) ≡ true
-intents_some words =
-    then_holds has_ops (first_number words) (λ txn. ops_of txn.1 >>= (λ ops. Some (Intent txn.0 ops))) (λ txn. intent_some txn.0 (ops_of txn.1) (ops_some txn.1))
+intents_some : (v : Version) (words : List (List ℕ)) → holds_of has_ops (intent_of v words) ≡ true
+intents_some v words =
+    then_holds has_ops (first_number words) (λ txn. sub_of txn.1 >>= (λ sub. ops_of v sub.1 >>= (λ ops. Some (Intent txn.0 sub.0 ops))))
+    (λ txn. then_holds has_ops (sub_of txn.1) (λ sub. ops_of v sub.1 >>= (λ ops. Some (Intent txn.0 sub.0 ops)))
+    (λ sub. intent_some txn.0 sub.0 (ops_of v sub.1) (ops_some v sub.1)))
 
 abort_some : (words : List (List ℕ)) → holds_of has_ops (abort_of words) ≡ true
 abort_some words = then_holds has_ops (first_number words) (λ txn. at_end txn.1 (Abort txn.0)) (λ txn. end_holds has_ops txn.1 (Abort txn.0) refl)
@@ -69,22 +74,22 @@ split_some words =
     (λ place. then_holds has_ops (first_number place.1) (λ left. first_number left.1 >>= (λ right. at_end right.1 (Split place.0 left.0 right.0)))
     (λ left. then_holds has_ops (first_number left.1) (λ right. at_end right.1 (Split place.0 left.0 right.0)) (λ right. end_holds has_ops right.1 (Split place.0 left.0 right.0) refl)))
 
-verb_some : (verb : List ℕ) (words : List (List ℕ)) → holds_of has_ops (kind_by verb words) ≡ true
-verb_some verb words = by (bytes_eq verb (codes "write")) (bytes_eq verb (codes "intent")) (bytes_eq verb (codes "apply")) (bytes_eq verb (codes "abort")) (bytes_eq verb (codes "safe")) (bytes_eq verb (codes "split"))
+verb_some : (v : Version) (verb : List ℕ) (words : List (List ℕ)) → holds_of has_ops (kind_by v verb words) ≡ true
+verb_some v verb words = by (bytes_eq verb (codes "write")) (bytes_eq verb (codes "intent")) (bytes_eq verb (codes "apply")) (bytes_eq verb (codes "abort")) (bytes_eq verb (codes "safe")) (bytes_eq verb (codes "split"))
   where
-    by : (a b c d e f : Bool) → holds_of has_ops (if a then option_map Write (ops_of words) else (if b then intent_of words else (if c then apply_of words else (if d then abort_of words else (if e then safe_of words else (if f then split_of words else None)))))) ≡ true
-    by true b c d e f = write_some (ops_of words) (ops_some words)
-    by false true c d e f = intents_some words
+    by : (a b c d e f : Bool) → holds_of has_ops (if a then option_map Write (ops_of v words) else (if b then intent_of v words else (if c then apply_of words else (if d then abort_of words else (if e then safe_of words else (if f then split_of words else None)))))) ≡ true
+    by true b c d e f = write_some (ops_of v words) (ops_some v words)
+    by false true c d e f = intents_some v words
     by false false true d e f = apply_some words
     by false false false true e f = abort_some words
     by false false false false true f = safe_some words
     by false false false false false true = split_some words
     by false false false false false false = refl
 
-kind_some : (words : List (List ℕ)) → holds_of has_ops (kind_of words) ≡ true
+kind_some : (v : Version) (words : List (List ℕ)) → holds_of has_ops (kind_of v words) ≡ true
 unfolding kind_of
-kind_some [] = refl
-kind_some (verb ∷ words) = verb_some verb words
+kind_some v [] = refl
+kind_some v (verb ∷ words) = verb_some v verb words
 
 abbrev pub line_has_ops : LogLine → Bool
 line_has_ops (line.Entry id r) = has_ops r.kind
@@ -100,23 +105,25 @@ header_some f (Some x) h = h x
 
 version_some : (words : List (List ℕ)) → holds_of line_has_ops (version_of words) ≡ true
 version_some [] = refl
-version_some (w ∷ ws) = if_holds line_has_ops (bytes_eq w (codes "1")) (at_end ws line.First) None (end_holds line_has_ops ws line.First refl) refl
+version_some (w ∷ ws) =
+    if_holds line_has_ops (bytes_eq w (codes "1")) (at_end ws (line.First One)) (if bytes_eq w (codes "2") then at_end ws (line.First Two) else None) (end_holds line_has_ops ws (line.First One) refl)
+    (if_holds line_has_ops (bytes_eq w (codes "2")) (at_end ws (line.First Two)) None (end_holds line_has_ops ws (line.First Two) refl) refl)
 
-entries_some : (id : ℕ) (words : List (List ℕ)) → holds_of line_has_ops (entry_of id words) ≡ true
-entries_some id words =
-    then_holds line_has_ops (first_number words) (λ time. kind_of time.1 >>= (λ kind. Some (line.Entry id (record { time = time.0; kind = kind }))))
-    (λ time. entry_some id time.0 (kind_of time.1) (kind_some time.1))
+entries_some : (v : Version) (id : ℕ) (words : List (List ℕ)) → holds_of line_has_ops (entry_of v id words) ≡ true
+entries_some v id words =
+    then_holds line_has_ops (first_number words) (λ time. kind_of v time.1 >>= (λ kind. Some (line.Entry id (record { time = time.0; kind = kind }))))
+    (λ time. entry_some id time.0 (kind_of v time.1) (kind_some v time.1))
 
-word_some : (word : List ℕ) (words : List (List ℕ)) → holds_of line_has_ops (line_by word words) ≡ true
-word_some word words = by (bytes_eq word (codes "xclog")) (bytes_eq word (codes "tablet")) (bytes_eq word (codes "end"))
+word_some : (v : Version) (word : List ℕ) (words : List (List ℕ)) → holds_of line_has_ops (line_by v word words) ≡ true
+word_some v word words = by (bytes_eq word (codes "xclog")) (bytes_eq word (codes "tablet")) (bytes_eq word (codes "end"))
   where
-    by : (a b c : Bool) → holds_of line_has_ops (if a then version_of words else (if b then option_map line.Tablet (header_of words) else (if c then at_end words line.End else (number word >>= (λ id. entry_of id words))))) ≡ true
+    by : (a b c : Bool) → holds_of line_has_ops (if a then version_of words else (if b then option_map line.Tablet (header_of words) else (if c then at_end words line.End else (number word >>= (λ id. entry_of v id words))))) ≡ true
     by true b c = version_some words
     by false true c = header_some line.Tablet (header_of words) (λ h. refl)
     by false false true = end_holds line_has_ops words line.End refl
-    by false false false = then_holds line_has_ops (number word) (λ id. entry_of id words) (λ id. entries_some id words)
+    by false false false = then_holds line_has_ops (number word) (λ id. entry_of v id words) (λ id. entries_some v id words)
 
-pub line_some : (words : List (List ℕ)) → holds_of line_has_ops (line_of words) ≡ true
+pub line_some : (v : Version) (words : List (List ℕ)) → holds_of line_has_ops (line_of v words) ≡ true
 unfolding line_of
-line_some [] = refl
-line_some (word ∷ words) = word_some word words
+line_some v [] = refl
+line_some v (word ∷ words) = word_some v word words

@@ -1,6 +1,6 @@
 -- The header lines of valid logs are read, and a record that fits its tablet breaks no rule.
 use Rattle.std.proofs.Common.{◌≡◌, ℕ, ◌+◌, ◌^◌, ◌≤◌, ◌==◌, Bool, true, false, ◌&&◌, nat_le, nat_lt, List, [], ◌∷◌, ◌++◌, length, map, flat_map, Option, Some, None, Ok, if◌then◌else◌, refl, sym, ap, subst, ◌∙◌, append_assoc, arith}
-use Rattle.std.proofs.lemmas.Bool.{and_parts, eqb-true}
+use Rattle.std.proofs.lemmas.Bool.{and_parts, and_from, eqb-true}
 use Rattle.std.proofs.lemmas.Bool.Decides.{nat_tests}
 use Rattle.std.specs.List.{list_all}
 use Rattle.std.specs.Option.{option_map_or}
@@ -19,6 +19,7 @@ use Rattle.xc_record.specs.declared.record.Record.{Record}
 use Rattle.xc_record.specs.declared.record.Header.{Header}
 use Rattle.xc_record.specs.declared.record.Tablet.{Tablet}
 use Rattle.xc_record.specs.declared.record.Logs.{Logs}
+use Rattle.xc_text.specs.declared.line.Version.{Version}
 use Rattle.xc_text.specs.declared.line.LogLine.{LogLine}
 use Rattle.xc_text.specs.declared.line.LogLine.TheVariants as line
 use Rattle.xc_text.specs.declared.reading.Reading.{Reading}
@@ -41,7 +42,7 @@ Gives s bytes logs = (n : ℕ) → lines_from s n (split_on 10 bytes) ≡ Ok log
 pub back : (s next : Reading) (line rest bytes : List ℕ) (logs : Logs) → split_on 10 bytes ≡ line ∷ split_on 10 rest → step s line ≡ Ok next → Gives next rest logs → Gives s bytes logs
 back s next line rest bytes logs cut is g n = ap (lines_from s n) cut ∙ lines_more s n line rest ∙ rw is (g (n + 1))
 
-pub step_is : (s : Reading) (bytes : List ℕ) (l : LogLine) → line_of (split_on 32 bytes) ≡ Some l → first_kind (kinds s l) ≡ None → step s bytes ≡ Ok (moved s l)
+pub step_is : (s : Reading) (bytes : List ℕ) (l : LogLine) → line_of s.version (split_on 32 bytes) ≡ Some l → first_kind (kinds s l) ≡ None → step s bytes ≡ Ok (moved s l)
 unfolding step
 step_is s bytes l e k = rw e (rw k refl)
 
@@ -55,11 +56,11 @@ bare_push : (hs : List Header) (h : Header) → map bare hs ++ bare h ∷ [] ≡
 bare_push [] h = refl
 bare_push (x ∷ hs) h = ap (λ rest. bare x ∷ rest) (bare_push hs h)
 
-abbrev pub at : Stage → List Tablet → Next → ℕ → ℕ → Reading
-at stage ts next records operations = record { tablets = ts; next = next; stage = stage; records_left = records; operations_left = operations }
+abbrev pub at : Version → Stage → List Tablet → Next → ℕ → ℕ → Reading
+at v stage ts next records operations = record { version = v; tablets = ts; next = next; stage = stage; records_left = records; operations_left = operations }
 
-abbrev pub at_headers : List Header → Next → Reading
-at_headers hs next = at Headers (map bare hs) next (2 ^ 20) (2 ^ 22)
+abbrev pub at_headers : Version → List Header → Next → Reading
+at_headers v hs next = at v Headers (map bare hs) next (2 ^ 20) (2 ^ 22)
 
 pub small_parts : (h : Header) → header_numbers_fit h ≡ true → HeaderSmall h
 small_parts h f =
@@ -68,25 +69,25 @@ small_parts h f =
     let r = and_parts (nat_lt h.hi 65536) (option_map_or (λ parent. nat_lt parent 64) h.parent true) q.1 in
     record { id = p.0; lo = q.0; hi = r.0; parent = r.1 }
 
-header_kinds : (hs : List Header) (next : Next) (h : Header) → header_numbers_fit h ≡ true → fits hs next h ≡ true → first_kind (kinds (at_headers hs next) (line.Tablet h)) ≡ None
-header_kinds hs next h numbers fit = rw numbers (rw (headers_bare hs) (rw fit refl))
+header_kinds : (v : Version) (hs : List Header) (next : Next) (h : Header) → header_numbers_fit h ≡ true → fits hs next h ≡ true → first_kind (kinds (at_headers v hs next) (line.Tablet h)) ≡ None
+header_kinds v hs next h numbers fit = rw numbers (rw (headers_bare hs) (rw fit refl))
 
-header_moved : (hs : List Header) (next : Next) (h : Header) → moved (at_headers hs next) (line.Tablet h) ≡ at_headers (hs ++ h ∷ []) (next_after hs next h h.parent)
-header_moved hs next h =
-    ap (λ before. at Headers (map bare hs ++ bare h ∷ []) (next_after before next h h.parent) (2 ^ 20) (2 ^ 22)) (headers_bare hs)
-    ∙ ap (λ ts. at Headers ts (next_after hs next h h.parent) (2 ^ 20) (2 ^ 22)) (bare_push hs h)
+header_moved : (v : Version) (hs : List Header) (next : Next) (h : Header) → moved (at_headers v hs next) (line.Tablet h) ≡ at_headers v (hs ++ h ∷ []) (next_after hs next h h.parent)
+header_moved v hs next h =
+    ap (λ before. at v Headers (map bare hs ++ bare h ∷ []) (next_after before next h h.parent) (2 ^ 20) (2 ^ 22)) (headers_bare hs)
+    ∙ ap (λ ts. at v Headers ts (next_after hs next h h.parent) (2 ^ 20) (2 ^ 22)) (bare_push hs h)
 
-pub headers_run : (done left : List Header) (next : Next) (rest : List ℕ) (logs : Logs) → list_all header_numbers_fit left ≡ true → fit_from done next left ≡ true
-    → ((after : Next) → may_end after ≡ true → Gives (at_headers (done ++ left) after) rest logs) → Gives (at_headers done next) (flat_map header_text left ++ rest) logs
-headers_run done [] next rest logs small f more = let P : List Header → Type 0 = λ hs. Gives (at_headers hs next) rest logs in subst P (append-nil done) (more next f)
-headers_run done (h ∷ hs) next rest logs small f more =
+pub headers_run : (v : Version) (done left : List Header) (next : Next) (rest : List ℕ) (logs : Logs) → list_all header_numbers_fit left ≡ true → fit_from done next left ≡ true
+    → ((after : Next) → may_end after ≡ true → Gives (at_headers v (done ++ left) after) rest logs) → Gives (at_headers v done next) (flat_map header_text left ++ rest) logs
+headers_run v done [] next rest logs small f more = let P : List Header → Type 0 = λ hs. Gives (at_headers v hs next) rest logs in subst P (append-nil done) (more next f)
+headers_run v done (h ∷ hs) next rest logs small f more =
     let s = and_parts (header_numbers_fit h) (list_all header_numbers_fit hs) small in
     let p = and_parts (fits done next h) (fit_from (done ++ h ∷ []) (next_after done next h h.parent) hs) f in
-    back (at_headers done next) (at_headers (done ++ h ∷ []) (next_after done next h h.parent)) (header_bytes h) (flat_map header_text hs ++ rest) ((header_text h ++ flat_map header_text hs) ++ rest) logs
+    back (at_headers v done next) (at_headers v (done ++ h ∷ []) (next_after done next h h.parent)) (header_bytes h) (flat_map header_text hs ++ rest) ((header_text h ++ flat_map header_text hs) ++ rest) logs
     (ap (split_on 10) (append_assoc (header_text h) (flat_map header_text hs) rest) ∙ header_line h (flat_map header_text hs ++ rest) (small_parts h s.0))
-    (step_is (at_headers done next) (header_bytes h) (line.Tablet h) (header_is h (small_parts h s.0)) (header_kinds done next h s.0 p.0) ∙ ap Ok (header_moved done next h))
-    (headers_run (done ++ h ∷ []) hs (next_after done next h h.parent) rest logs s.1 p.1
-    (λ after m. let P : List Header → Type 0 = λ all. Gives (at_headers all after) rest logs in subst P (sym (append_assoc done (h ∷ []) hs)) (more after m)))
+    (step_is (at_headers v done next) (header_bytes h) (line.Tablet h) (header_is v h (small_parts h s.0)) (header_kinds v done next h s.0 p.0) ∙ ap Ok (header_moved v done next h))
+    (headers_run v (done ++ h ∷ []) hs (next_after done next h h.parent) rest logs s.1 p.1
+    (λ after m. let P : List Header → Type 0 = λ all. Gives (at_headers v all after) rest logs in subst P (sym (append_assoc done (h ∷ []) hs)) (more after m)))
 
 -- ---- a record of a tablet
 
@@ -126,9 +127,11 @@ split_good hs h place left right small (Some pair) e f =
 
 pub kind_good : (hs : List Header) (h : Header) (k : Kind) → list_all header_numbers_fit hs ≡ true → kind_fits h (children hs h.id) k ≡ true → KindGood hs h k
 kind_good hs h (Write ops) small f = let g = ops_good h ops f in record { numbers = refl; names = g.2; some = g.0; few = g.1; range = g.3 }
-kind_good hs h (Intent txn ops) small f =
-    let p = and_parts (is_txn txn) (ops_fit h ops) f in let g = ops_good h ops p.1 in record { numbers = p.0; names = g.2; some = g.0; few = g.1; range = g.3 }
-kind_good hs h (Apply txn commit) small f = record { numbers = f; names = refl; some = refl; few = refl; range = refl }
+kind_good hs h (Intent txn sub ops) small f =
+    let p = and_parts (is_txn txn) (nat_le sub 64 && ops_fit h ops) f in
+    let q = and_parts (nat_le sub 64) (ops_fit h ops) p.1 in
+    let g = ops_good h ops q.1 in record { numbers = and_from _ _ p.0 q.0; names = g.2; some = g.0; few = g.1; range = g.3 }
+kind_good hs h (Apply txn commit without) small f = record { numbers = f; names = refl; some = refl; few = refl; range = refl }
 kind_good hs h (Abort txn) small f = record { numbers = f; names = refl; some = refl; few = refl; range = refl }
 kind_good hs h (Safe value) small f = record { numbers = f; names = refl; some = refl; few = refl; range = refl }
 kind_good hs h (Split place left right) small f = record { numbers = split_good hs h place left right small (children hs h.id) refl f; names = refl; some = refl; few = refl; range = f }

@@ -1,6 +1,6 @@
 -- What is printed is cut into the same words.
-use Rattle.std.proofs.Common.{◌≡◌, ℕ, ◌+◌, ◌^◌, ◌<◌, ◌≤◌, ◌==◌, Bool, true, false, ◌&&◌, ◌||◌, not, nat_le, nat_lt, nat_eq, List, [], ◌∷◌, ◌++◌, length, take, drop, map, Option, Some, None, refl, sym, ap, ◌∙◌, append_assoc, decimal, arith}
-use Rattle.std.proofs.lemmas.Bool.{and_parts, eq-eqb}
+use Rattle.std.proofs.Common.{◌≡◌, ℕ, ◌+◌, ◌^◌, ◌<◌, ◌≤◌, ◌==◌, ◌/◌, ◌%◌, Bool, true, false, ◌&&◌, ◌||◌, not, if◌then◌else◌, option_map, nat_le, nat_lt, nat_eq, List, [], ◌∷◌, ◌++◌, length, take, drop, map, Option, Some, None, refl, sym, ap, subst, ◌∙◌, append_assoc, decimal, arith}
+use Rattle.std.proofs.lemmas.Bool.{and_parts, eq-eqb, ltb-true}
 use Rattle.std.proofs.lemmas.Bool.Decides.{nat_tests}
 use Rattle.std.proofs.lemmas.List.{take_at, drop_at, length_push, append-nil}
 use Rattle.std.proofs.lemmas.List.Folds.{list_all-append}
@@ -9,12 +9,17 @@ use Rattle.std.specs.Str.{all_ascii_digits, bytes_eq}
 use Rattle.std.specs.List.{list_all, list_any, before_first, after_first, position_or_len}
 use Rattle.std.specs.Option.{option_map_or}
 use Rattle.std.proofs.Math.Nat.{min-eq_left}
-use Rattle.xc_base.specs.Names.{is_key, is_value, in_alphabet}
+use Rattle.xc_base.specs.Names.{within, are_bytes, is_plain, is_key, is_value, in_alphabet}
+use Rattle.xc_base.specs.Escapes.{digit, escaped_byte, escaped, IsReadBack}
+use Rattle.xc_base.proofs.EscapeLaws.{escaped-back}
+use Rattle.xc_base.proofs.NameLemmas.{plain-bytes}
 use Rattle.xc_base.specs.Words.{split_on, number_of, is_number, no_leading_zero}
 use Rattle.xc_base.proofs.WordLaws.{number_of-decimal}
 use Rattle.xc_record.specs.declared.record.Op.{Op}
-use Rattle.xc_text.specs.Lines.{number, op_of, all_ops, ops_of, op_is_named}
-use Rattle.xc_text.specs.Printed.{spaced, line_text, op_by, op_word}
+use Rattle.xc_text.specs.Lines.{number, name_of, op_written, op_meant, op_of, all_ops, ops_of, op_is_named}
+use Rattle.xc_text.specs.Printed.{spaced, line_text, name_word, spelled, op_by, op_word, op_spelled}
+use Rattle.xc_text.specs.declared.line.Version.{Version}
+use Rattle.xc_text.specs.declared.line.Version.TheVariants.{One, Two}
 
 -- no byte is the separator
 abbrev pub lacks : ℕ → List ℕ → Bool
@@ -98,30 +103,62 @@ digits_differ (d ∷ ds) c cs h k = let p = and_parts (is_ascii_digit d) (all_as
 
 -- ---- operations
 
-letter_above : (b : ℕ) → in_alphabet b ≡ true → nat_lt 32 b ≡ true
+-- a byte of the word of a key or of a value
+abbrev is_letter : ℕ → Bool
+is_letter b = in_alphabet b || b == 37
+
+letter_above : (b : ℕ) → is_letter b ≡ true → nat_lt 32 b ≡ true
 letter_above b h = grind (arith, nat_tests)
 
-letter_differs : (b : ℕ) → in_alphabet b ≡ true → not (b == 61) ≡ true
+letter_differs : (b : ℕ) → is_letter b ≡ true → not (b == 61) ≡ true
 letter_differs b h = grind (arith, nat_tests)
 
-name_plain : (w : List ℕ) → list_all in_alphabet w ≡ true → plain w ≡ true
-name_plain [] h = refl
-name_plain (b ∷ w) h = let p = and_parts (in_alphabet b) (list_all in_alphabet w) h in rw (letter_above b p.0) (name_plain w p.1)
+letters_plain : (w : List ℕ) → list_all is_letter w ≡ true → plain w ≡ true
+letters_plain [] h = refl
+letters_plain (b ∷ w) h = let p = and_parts (is_letter b) (list_all is_letter w) h in rw (letter_above b p.0) (letters_plain w p.1)
 
-name_lacks : (w : List ℕ) → list_all in_alphabet w ≡ true → lacks 61 w ≡ true
-name_lacks [] h = refl
-name_lacks (b ∷ w) h = let p = and_parts (in_alphabet b) (list_all in_alphabet w) h in rw (letter_differs b p.0) (name_lacks w p.1)
+letters_lack : (w : List ℕ) → list_all is_letter w ≡ true → lacks 61 w ≡ true
+letters_lack [] h = refl
+letters_lack (b ∷ w) h = let p = and_parts (is_letter b) (list_all is_letter w) h in rw (letter_differs b p.0) (letters_lack w p.1)
 
-key_letters : (k : List ℕ) → is_key k ≡ true → list_all in_alphabet k ≡ true
-key_letters k h =
-    let p = and_parts (nat_le 1 (length k)) (nat_le (length k) 32 && list_all in_alphabet k) h in (and_parts (nat_le (length k) 32) (list_all in_alphabet k) p.1).1
+plain_letters : (w : List ℕ) → is_plain w ≡ true → list_all is_letter w ≡ true
+plain_letters [] h = refl
+plain_letters (b ∷ w) h = let p = and_parts (in_alphabet b) (is_plain w) h in rw p.0 (plain_letters w p.1)
 
-value_letters : (v : List ℕ) → is_value v ≡ true → list_all in_alphabet v ≡ true
-value_letters v h = (and_parts (nat_le (length v) 64) (list_all in_alphabet v) h).1
+digit_letter : (n : ℕ) → n < 16 → is_letter (digit n) ≡ true
+digit_letter n h = grind (arith, nat_tests)
 
-op_plain_by : (key : List ℕ) (value : Option (List ℕ)) → is_key key ≡ true → option_map_or is_value value true ≡ true → plain (op_by key value) ≡ true
-op_plain_by key None k v = name_plain key (key_letters key k)
-op_plain_by key (Some value) k v = list_all-append (λ b. nat_lt 32 b) key (61 ∷ value) ∙ rw (name_plain key (key_letters key k)) (name_plain value (value_letters value v))
+byte_letters : (b : ℕ) → b < 256 → list_all is_letter (escaped_byte b) ≡ true
+byte_letters b l = by (in_alphabet b) refl
+  where
+    by : (t : Bool) → in_alphabet b ≡ t → list_all is_letter (if t then b ∷ [] else (37 ∷ digit (b / 16) ∷ digit (b % 16) ∷ [])) ≡ true
+    by true e = rw e refl
+    by false e = rw (digit_letter (b / 16) (omega arith), digit_letter (b % 16) (omega arith)) refl
+
+escaped_letters : (n : List ℕ) → are_bytes n ≡ true → list_all is_letter (escaped n) ≡ true
+escaped_letters [] h = refl
+escaped_letters (b ∷ n) h =
+    let p = and_parts (nat_lt b 256) (are_bytes n) h in
+    list_all-append is_letter (escaped_byte b) (escaped n) ∙ rw (byte_letters b (ltb-true b 256 p.0)) (escaped_letters n p.1)
+
+-- the word of bytes that it can say
+word_letters : (v : Version) (n : List ℕ) → are_bytes n ≡ true → spelled v n ≡ true → list_all is_letter (name_word v n) ≡ true
+word_letters One n b s = plain_letters n s
+word_letters Two n b s = escaped_letters n b
+
+word_read : (v : Version) (n : List ℕ) → are_bytes n ≡ true → spelled v n ≡ true → name_of v (name_word v n) ≡ n
+word_read One n b s = rw s refl
+word_read Two n b s = let back : IsReadBack n = escaped-back n b in rw back.right back.same
+
+key_bytes : (k : List ℕ) → is_key k ≡ true → are_bytes k ≡ true
+key_bytes k h = (and_parts (within 1 32 (length k)) (are_bytes k) h).1
+
+value_bytes : (v : List ℕ) → is_value v ≡ true → are_bytes v ≡ true
+value_bytes v h = (and_parts (within 0 64 (length v)) (are_bytes v) h).1
+
+op_plain_by : (key : List ℕ) (value : Option (List ℕ)) → list_all is_letter key ≡ true → option_map_or (λ w. list_all is_letter w) value true ≡ true → plain (op_by key value) ≡ true
+op_plain_by key None k v = letters_plain key k
+op_plain_by key (Some value) k v = list_all-append (λ b. nat_lt 32 b) key (61 ∷ value) ∙ rw (letters_plain key k) (letters_plain value v)
 
 any_at : (w rest : List ℕ) → list_any (λ b. b == 61) (w ++ 61 ∷ rest) ≡ true
 any_at [] rest = refl
@@ -139,24 +176,78 @@ after_at : (w rest : List ℕ) → lacks 61 w ≡ true → after_first (λ b. b 
 after_at w rest h =
     ap (λ n. drop (n + 1) (w ++ 61 ∷ rest)) (place_at w rest h) ∙ ap (drop (length w + 1)) (sym (append_assoc w (61 ∷ []) rest)) ∙ drop_at (w ++ 61 ∷ []) rest (length w + 1) (length_push w 61)
 
-op_is_by : (key : List ℕ) (value : Option (List ℕ)) → is_key key ≡ true → op_of (op_by key value) ≡ Some (record { key = key; value = value })
+op_is_by : (key : List ℕ) (value : Option (List ℕ)) → list_all is_letter key ≡ true → op_written (op_by key value) ≡ Some (record { key = key; value = value })
 op_is_by key None k = refl
-op_is_by key (Some value) k = let l = name_lacks key (key_letters key k) in rw (any_at key value, before_at key value l, after_at key value l) refl
+op_is_by key (Some value) k = let l = letters_lack key k in rw (any_at key value, before_at key value l, after_at key value l) refl
 
-pub op_plain : (op : Op) → op_is_named op ≡ true → plain (op_word op) ≡ true
-op_plain op h = let p = and_parts (is_key op.key) (option_map_or is_value op.value true) h in op_plain_by op.key op.value p.0 p.1
+-- what a named operation that can be said has for words
+record IsSaid (v : Version) (op : Op) : Type 0 where
+  key : list_all is_letter (name_word v op.key) ≡ true
+  value : option_map_or (λ w. list_all is_letter w) (option_map (name_word v) op.value) true ≡ true
+  back : op_meant v (record { key = name_word v op.key; value = option_map (name_word v) op.value }) ≡ op
 
-op_is : (op : Op) → op_is_named op ≡ true → op_of (op_word op) ≡ Some op
-op_is op h = let p = and_parts (is_key op.key) (option_map_or is_value op.value true) h in op_is_by op.key op.value p.0
+value_said : (v : Version) (value : Option (List ℕ)) → option_map_or is_value value true ≡ true → option_map_or (spelled v) value true ≡ true
+    → (option_map_or (λ w. list_all is_letter w) (option_map (name_word v) value) true ≡ true) × (option_map (name_of v) (option_map (name_word v) value) ≡ value)
+value_said v None h s = (refl, refl)
+value_said v (Some n) h s = (word_letters v n (value_bytes n h) s, ap Some (word_read v n (value_bytes n h) s))
 
-pub ops_plain : (ops : List Op) → list_all op_is_named ops ≡ true → list_all plain (map op_word ops) ≡ true
-ops_plain [] h = refl
-ops_plain (op ∷ ops) h = let p = and_parts (op_is_named op) (list_all op_is_named ops) h in rw (op_plain op p.0) (ops_plain ops p.1)
+abbrev op_with : List ℕ → Option (List ℕ) → Op
+op_with key value = record { key = key; value = value }
 
-all_ops_are : (ops : List Op) → list_all op_is_named ops ≡ true → all_ops (map op_word ops) ≡ Some ops
-all_ops_are [] h = refl
-all_ops_are (op ∷ ops) h = let p = and_parts (op_is_named op) (list_all op_is_named ops) h in rw (op_is op p.0, all_ops_are ops p.1) refl
+op_same : (key other : List ℕ) (value more : Option (List ℕ)) → key ≡ other → value ≡ more → op_with key value ≡ op_with other more
+op_same key other value more a b = cc
 
-pub ops_are : (ops : List Op) → list_all op_is_named ops ≡ true → nat_le 1 (length ops) ≡ true → ops_of (map op_word ops) ≡ Some ops
-ops_are [] h some = cc
-ops_are (op ∷ ops) h some = all_ops_are (op ∷ ops) h
+said : (v : Version) (op : Op) → op_is_named op ≡ true → op_spelled v op ≡ true → IsSaid v op
+said v op h s =
+    let p = and_parts (is_key op.key) (option_map_or is_value op.value true) h in
+    let q = and_parts (spelled v op.key) (option_map_or (spelled v) op.value true) s in
+    let value = value_said v op.value p.1 q.1 in
+    record {
+      key = word_letters v op.key (key_bytes op.key p.0) q.0;
+      value = value.0;
+      back = op_same _ op.key _ op.value (word_read v op.key (key_bytes op.key p.0) q.0) value.1;
+    }
+
+-- plain names are their own words
+plain-escaped : (n : List ℕ) → is_plain n ≡ true → escaped n ≡ n
+plain-escaped [] h = refl
+plain-escaped (b ∷ n) h = let p = and_parts (in_alphabet b) (is_plain n) h in rw (p.0, plain-escaped n p.1) refl
+
+name_own : (v : Version) (n : List ℕ) → is_plain n ≡ true → name_of v n ≡ n
+name_own One n h = rw h refl
+name_own Two n h = subst (λ w. name_of Two w ≡ n) (plain-escaped n h) (word_read Two n (plain-bytes n h) refl)
+
+value_own : (v : Version) (value : Option (List ℕ)) → option_map_or (spelled One) value true ≡ true → option_map (name_of v) value ≡ value
+value_own v None h = refl
+value_own v (Some n) h = ap Some (name_own v n h)
+
+pub plain_meant : (v : Version) (o : Op) → op_spelled One o ≡ true → op_meant v o ≡ o
+plain_meant v o h =
+    let p = and_parts (spelled One o.key) (option_map_or (spelled One) o.value true) h in
+    op_same (name_of v o.key) o.key (option_map (name_of v) o.value) o.value (name_own v o.key p.0) (value_own v o.value p.1)
+
+pub op_plain : (v : Version) (op : Op) → op_is_named op ≡ true → op_spelled v op ≡ true → plain (op_word v op) ≡ true
+op_plain v op h s = let is : IsSaid v op = said v op h s in op_plain_by (name_word v op.key) (option_map (name_word v) op.value) is.key is.value
+
+op_is : (v : Version) (op : Op) → op_is_named op ≡ true → op_spelled v op ≡ true → op_of v (op_word v op) ≡ Some op
+op_is v op h s =
+    let is : IsSaid v op = said v op h s in
+    ap (option_map (op_meant v)) (op_is_by (name_word v op.key) (option_map (name_word v) op.value) is.key) ∙ ap Some is.back
+
+pub ops_plain : (v : Version) (ops : List Op) → list_all op_is_named ops ≡ true → list_all (op_spelled v) ops ≡ true → list_all plain (map (op_word v) ops) ≡ true
+ops_plain v [] h s = refl
+ops_plain v (op ∷ ops) h s =
+    let p = and_parts (op_is_named op) (list_all op_is_named ops) h in
+    let q = and_parts (op_spelled v op) (list_all (op_spelled v) ops) s in
+    rw (op_plain v op p.0 q.0) (ops_plain v ops p.1 q.1)
+
+all_ops_are : (v : Version) (ops : List Op) → list_all op_is_named ops ≡ true → list_all (op_spelled v) ops ≡ true → all_ops v (map (op_word v) ops) ≡ Some ops
+all_ops_are v [] h s = refl
+all_ops_are v (op ∷ ops) h s =
+    let p = and_parts (op_is_named op) (list_all op_is_named ops) h in
+    let q = and_parts (op_spelled v op) (list_all (op_spelled v) ops) s in
+    rw (op_is v op p.0 q.0, all_ops_are v ops p.1 q.1) refl
+
+pub ops_are : (v : Version) (ops : List Op) → list_all op_is_named ops ≡ true → list_all (op_spelled v) ops ≡ true → nat_le 1 (length ops) ≡ true → ops_of v (map (op_word v) ops) ≡ Some ops
+ops_are v [] h s some = cc
+ops_are v (op ∷ ops) h s some = all_ops_are v (op ∷ ops) h s

@@ -6,6 +6,7 @@ use Rattle.xc_record.specs.declared.record.Record.{Record}
 use Rattle.xc_record.specs.declared.record.Logs.{Logs}
 use Rattle.xc_text.specs.declared.kind.LogKind.{LogKind}
 use Rattle.xc_text.specs.declared.kind.LogKind.TheVariants as kind
+use Rattle.xc_text.specs.declared.line.Version.{Version}
 use Rattle.xc_text.specs.declared.line.LogLine.{LogLine}
 use Rattle.xc_text.specs.declared.line.LogLine.TheVariants as line
 use Rattle.xc_text.specs.declared.reading.Reading.{Reading}
@@ -27,7 +28,7 @@ first_step s (Err k) = Err kind.Form
 
 start_cases : (s : Reading) (o : Option LogLine) → s.stage ≡ Start → step_by s o ≡ first_step s (judge numbers_fit names_fit o)
 start_cases s None start = refl
-start_cases s (Some line.First) start = rw start refl
+start_cases s (Some (line.First v)) start = rw start refl
 start_cases s (Some (line.Tablet h)) start = rw start (by (numbers_fit (line.Tablet h)))
   where
     by : (a : Bool) → Err kind.Form ≡ first_step s (if a then Ok (line.Tablet h) else Err kind.Number)
@@ -41,14 +42,14 @@ start_cases s (Some (line.Entry id r)) start = rw start (by (numbers_fit (line.E
     by false b = refl
 start_cases s (Some line.End) start = rw start refl
 
-at_start : (s : Reading) (bytes : List ℕ) → s.stage ≡ Start → step s bytes ≡ first_step s (line_in (split_on 32 bytes))
+at_start : (s : Reading) (bytes : List ℕ) → s.stage ≡ Start → step s bytes ≡ first_step s (line_in s.version (split_on 32 bytes))
 unfolding step line_in
-at_start s bytes start = start_cases s (line_of (split_on 32 bytes)) start
+at_start s bytes start = start_cases s (line_of s.version (split_on 32 bytes)) start
 
-pub start_read : (s : Reading) (bytes : List ℕ) (l : LogLine) → s.stage ≡ Start → line_in (split_on 32 bytes) ≡ Ok l → step s bytes ≡ starting s l
+pub start_read : (s : Reading) (bytes : List ℕ) (l : LogLine) → s.stage ≡ Start → line_in s.version (split_on 32 bytes) ≡ Ok l → step s bytes ≡ starting s l
 start_read s bytes l start is = at_start s bytes start ∙ ap (first_step s) is
 
-pub start_refused : (s : Reading) (bytes : List ℕ) (k : LogKind) → s.stage ≡ Start → line_in (split_on 32 bytes) ≡ Err k → step s bytes ≡ Err kind.Form
+pub start_refused : (s : Reading) (bytes : List ℕ) (k : LogKind) → s.stage ≡ Start → line_in s.version (split_on 32 bytes) ≡ Err k → step s bytes ≡ Err kind.Form
 start_refused s bytes k start is = at_start s bytes start ∙ ap (first_step s) is
 
 -- ---- the lines after it
@@ -57,11 +58,11 @@ abbrev pub inner_step : Reading → Result LogLine LogKind → Result Reading Lo
 inner_step s (Ok l) = between s l
 inner_step s (Err k) = Err k
 
-first_misplaced : (stage : Stage) → is_inner stage ≡ true → misplaced stage line.First ≡ true
-first_misplaced Start h = cc
-first_misplaced Headers h = refl
-first_misplaced Records h = refl
-first_misplaced Ended h = refl
+first_misplaced : (stage : Stage) (v : Version) → is_inner stage ≡ true → misplaced stage (line.First v) ≡ true
+first_misplaced Start v h = cc
+first_misplaced Headers v h = refl
+first_misplaced Records v h = refl
+first_misplaced Ended v h = refl
 
 header_in_place : (stage : Stage) (h : Header) → is_inner stage ≡ true → misplaced stage (line.Tablet h) ≡ false
 header_in_place Start h i = cc
@@ -83,7 +84,7 @@ end_in_place Ended i = cc
 
 inner_cases : (s : Reading) (o : Option LogLine) → is_inner s.stage ≡ true → step_by s o ≡ inner_step s (judge numbers_fit names_fit o)
 inner_cases s None i = refl
-inner_cases s (Some line.First) i = rw (first_misplaced s.stage i) refl
+inner_cases s (Some (line.First v)) i = rw (first_misplaced s.stage v i) refl
 inner_cases s (Some (line.Tablet h)) i = rw (header_in_place s.stage h i) (by (numbers_fit (line.Tablet h)))
   where
     by : (a : Bool) → unless_bad (if not a then Some kind.Number else first_kind (later_kinds s (line.Tablet h))) (moved s (line.Tablet h)) ≡ inner_step s (if a then Ok (line.Tablet h) else Err kind.Number)
@@ -97,14 +98,14 @@ inner_cases s (Some (line.Entry id r)) i = rw (entry_in_place s.stage id r i) (b
     by false b = refl
 inner_cases s (Some line.End) i = rw (end_in_place s.stage i) refl
 
-at_inner : (s : Reading) (bytes : List ℕ) → is_inner s.stage ≡ true → step s bytes ≡ inner_step s (line_in (split_on 32 bytes))
+at_inner : (s : Reading) (bytes : List ℕ) → is_inner s.stage ≡ true → step s bytes ≡ inner_step s (line_in s.version (split_on 32 bytes))
 unfolding step line_in
-at_inner s bytes inner = inner_cases s (line_of (split_on 32 bytes)) inner
+at_inner s bytes inner = inner_cases s (line_of s.version (split_on 32 bytes)) inner
 
-pub inner_read : (s : Reading) (bytes : List ℕ) (l : LogLine) → is_inner s.stage ≡ true → line_in (split_on 32 bytes) ≡ Ok l → step s bytes ≡ between s l
+pub inner_read : (s : Reading) (bytes : List ℕ) (l : LogLine) → is_inner s.stage ≡ true → line_in s.version (split_on 32 bytes) ≡ Ok l → step s bytes ≡ between s l
 inner_read s bytes l inner is = at_inner s bytes inner ∙ ap (inner_step s) is
 
-pub inner_refused : (s : Reading) (bytes : List ℕ) (e : Fail) → is_inner s.stage ≡ true → Refuses e (line_in (split_on 32 bytes)) → Refuses e (step s bytes)
+pub inner_refused : (s : Reading) (bytes : List ℕ) (e : Fail) → is_inner s.stage ≡ true → Refuses e (line_in s.version (split_on 32 bytes)) → Refuses e (step s bytes)
 inner_refused s bytes (fail.Bad k) inner is = at_inner s bytes inner ∙ ap (inner_step s) is
 inner_refused s bytes fail.NoMemory inner is = tt
 
@@ -112,14 +113,14 @@ inner_refused s bytes fail.NoMemory inner is = tt
 
 ended_cases : (s : Reading) (o : Option LogLine) → s.stage ≡ Ended → step_by s o ≡ Err kind.Form
 ended_cases s None ended = refl
-ended_cases s (Some line.First) ended = rw ended refl
+ended_cases s (Some (line.First v)) ended = rw ended refl
 ended_cases s (Some (line.Tablet h)) ended = rw ended refl
 ended_cases s (Some (line.Entry id r)) ended = rw ended refl
 ended_cases s (Some line.End) ended = rw ended refl
 
 pub at_ended : (s : Reading) (bytes : List ℕ) → s.stage ≡ Ended → step s bytes ≡ Err kind.Form
 unfolding step
-at_ended s bytes ended = ended_cases s (line_of (split_on 32 bytes)) ended
+at_ended s bytes ended = ended_cases s (line_of s.version (split_on 32 bytes)) ended
 
 -- ---- line by line
 

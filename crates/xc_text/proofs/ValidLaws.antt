@@ -8,7 +8,7 @@ use Rattle.std.proofs.lemmas.List.{length_push, append-nil, length-map, map-appe
 use Rattle.std.specs.List.{list_all, list_any}
 use Rattle.xc_base.specs.Words.{split_on}
 use Rattle.xc_record.specs.Grown.{grown, with_record}
-use Rattle.xc_record.specs.Headers.{fit_from, fits, next_after, may_end, headers_fit, children}
+use Rattle.xc_record.specs.Headers.{fit_from, fits, next_after, may_end, headers_fit, are_headers, children}
 use Rattle.xc_record.specs.Valid.{is_time, headers_of, record_fits, ops_in, is_valid}
 use Rattle.xc_record.specs.declared.rules.Next.{Next}
 use Rattle.xc_record.specs.declared.rules.Next.TheVariants.{RootAt}
@@ -19,6 +19,7 @@ use Rattle.xc_record.specs.declared.record.Logs.{Logs}
 use Rattle.std.specs.Result.{IfOk}
 use Rattle.xc_text.specs.declared.kind.LogKind.{LogKind}
 use Rattle.xc_text.specs.declared.kind.LogsFail.{LogsFail}
+use Rattle.xc_text.specs.declared.line.Version.{Version}
 use Rattle.xc_text.specs.declared.line.LogLine.{LogLine}
 use Rattle.xc_text.specs.declared.line.LogLine.TheVariants as line
 use Rattle.xc_text.specs.declared.reading.Reading.{Reading}
@@ -72,14 +73,14 @@ all_false (row ∷ rows) h = let p = none-cases row.0 row.1 (first_kind rows) h 
 
 -- ---- the first line and the headers
 
-bare_at_first : (stage : Stage) (next : Next) (ts : List Tablet) → misplaced stage line.First ≡ false → AtStage stage next ts → list_all (λ t. is_bare t.records) ts ≡ true
-bare_at_first Start next ts m a = a
-bare_at_first Headers next ts m a = cc
-bare_at_first Records next ts m a = cc
-bare_at_first Ended next ts m a = cc
+bare_at_first : (stage : Stage) (v : Version) (next : Next) (ts : List Tablet) → misplaced stage (line.First v) ≡ false → AtStage stage next ts → list_all (λ t. is_bare t.records) ts ≡ true
+bare_at_first Start v next ts m a = a
+bare_at_first Headers v next ts m a = cc
+bare_at_first Records v next ts m a = cc
+bare_at_first Ended v next ts m a = cc
 
-good_first : (s : Reading) → Good s → AllFalse (kinds s line.First) → Good (moved s line.First)
-good_first s g f = record { headers = g.headers; count = g.count; records = g.records; operations = g.operations; grow = g.grow; stage = bare_at_first s.stage s.next s.tablets f.0 g.stage }
+good_first : (s : Reading) (v : Version) → Good s → AllFalse (kinds s (line.First v)) → Good (moved s (line.First v))
+good_first s v g f = record { headers = g.headers; count = g.count; records = g.records; operations = g.operations; grow = g.grow; stage = bare_at_first s.stage v s.next s.tablets f.0 g.stage }
 
 bare_at_header : (stage : Stage) (next : Next) (ts : List Tablet) (h : Header) → misplaced stage (line.Tablet h) ≡ false → records_began stage ≡ false → AtStage stage next ts → (stage ≡ Headers) × (list_all (λ t. is_bare t.records) ts ≡ true)
 bare_at_header Start next ts h m b a = cc
@@ -192,18 +193,18 @@ good_end s g f = record {
 }
 
 pub valid_at_end : (s : Reading) → Good s → s.stage ≡ Ended → is_valid (record { tablets = s.tablets }) ≡ true
-unfolding is_valid headers_fit
+unfolding is_valid headers_fit are_headers
 valid_at_end s g ended =
     let P : Stage → Type 0 = λ stage. AtStage stage s.next s.tablets in
     let at = subst P ended g.stage in
     let headers : fit_from [] (RootAt 0) (headers_of s.tablets) ≡ true = ap (fit_from [] (RootAt 0)) (sym (append-nil (headers_of s.tablets))) ∙ g.headers [] ∙ at.0 in
     let tablets = all_tablets_ok (headers_of s.tablets) s.tablets g.grow at.1 in
-    let count : nat_le (length s.tablets) 64 ≡ true = le-leb _ _ g.count in
+    let count : nat_le (length (headers_of s.tablets)) 64 ≡ true = le-leb _ _ (let few = g.count in let same = length-map s.tablets (λ (t : Tablet). t.header) in omega arith) in
     let records_le : records_of s.tablets ≤ 2 ^ 20 = let e = g.records in omega arith in
     let operations_le : operations_of s.tablets ≤ 2 ^ 22 = let e = g.operations in omega arith in
     let records : nat_le (records_of s.tablets) (2 ^ 20) ≡ true = le-leb _ _ records_le in
     let operations : nat_le (operations_of s.tablets) (2 ^ 22) ≡ true = le-leb _ _ operations_le in
-    rw (headers, tablets, count, records, operations) refl
+    rw (count, headers, tablets, records, operations) refl
 
 -- ---- from line to line
 
@@ -213,14 +214,14 @@ unless_cases (Some k) s next h = cc
 
 step_cases : (s : Reading) (o : Option LogLine) (next : Reading) → Good s → holds_of line_has_ops o ≡ true → step_by s o ≡ Ok next → Good next
 step_cases s None next g some h = cc
-step_cases s (Some line.First) next g some h = let p = unless_cases _ _ next h in subst Good p.1 (good_first s g (all_false (kinds s line.First) p.0))
+step_cases s (Some (line.First v)) next g some h = let p = unless_cases _ _ next h in subst Good p.1 (good_first s v g (all_false (kinds s (line.First v)) p.0))
 step_cases s (Some (line.Tablet t)) next g some h = let p = unless_cases _ _ next h in subst Good p.1 (good_header s t g (all_false (kinds s (line.Tablet t)) p.0))
 step_cases s (Some (line.Entry id r)) next g some h = let p = unless_cases _ _ next h in subst Good p.1 (good_entry s id r g (all_false (kinds s (line.Entry id r)) p.0) some)
 step_cases s (Some line.End) next g some h = let p = unless_cases _ _ next h in subst Good p.1 (good_end s g (all_false (kinds s line.End) p.0))
 
 good_step : (s : Reading) (bytes : List ℕ) (next : Reading) → Good s → step s bytes ≡ Ok next → Good next
 unfolding step
-good_step s bytes next g h = step_cases s (line_of (split_on 32 bytes)) next g (line_some (split_on 32 bytes)) h
+good_step s bytes next g h = step_cases s (line_of s.version (split_on 32 bytes)) next g (line_some s.version (split_on 32 bytes)) h
 
 valid_ending : (s : Reading) (number : ℕ) (logs : Logs) → Good s → ending s.stage s number ≡ Ok logs → is_valid logs ≡ true
 valid_ending s number logs g h = by s.stage refl h

@@ -8,7 +8,7 @@ use Rattle.xc_base.specs.Names.{is_key, is_value}
 use Rattle.xc_record.specs.Hash.{hash_of, holds}
 use Rattle.xc_record.specs.Order.{is_split}
 use Rattle.xc_record.specs.Headers.{children}
-use Rattle.xc_record.specs.Valid.{is_time, op_fits, ops_fit, kind_fits, record_fits, ends_fit, tablet_fits, ops_in}
+use Rattle.xc_record.specs.Valid.{is_time, is_txn, op_fits, ops_fit, kind_fits, record_fits, ends_fit, tablet_fits, ops_in}
 use Rattle.xc_record.specs.declared.record.Op.{Op}
 use Rattle.xc_record.specs.declared.record.Kind.{Kind}
 use Rattle.xc_record.specs.declared.record.Kind.TheVariants.{Write, Intent, Apply, Abort, Safe, Split}
@@ -22,7 +22,7 @@ use Rattle.xc_text.specs.LogText.{in_range, is_split_off, is_orphaned}
 
 abbrev pub has_ops : Kind → Bool
 has_ops (Write ops) = nat_le 1 (length ops)
-has_ops (Intent txn ops) = nat_le 1 (length ops)
+has_ops (Intent txn sub ops) = nat_le 1 (length ops)
 has_ops _ = true
 
 all_fit : (h : Header) (ops : List Op) → list_all op_is_named ops ≡ true → list_all (λ op. holds h (hash_of op.key)) ops ≡ true → list_all (op_fits h) ops ≡ true
@@ -38,8 +38,9 @@ ops_ok h ops some few named held = let few_enough : nat_le (length ops) 64 ≡ t
 
 pub kind_ok : (hs : List Header) (h : Header) (k : Kind) → has_ops k ≡ true → nat_lt 64 (ops_in k) ≡ false → kind_numbers_fit k ≡ true → kind_names_fit k ≡ true → in_range hs h k ≡ true → kind_fits h (children hs h.id) k ≡ true
 kind_ok hs h (Write ops) some few numbers names range = ops_ok h ops some few names range
-kind_ok hs h (Intent txn ops) some few numbers names range = rw numbers (ops_ok h ops some few names range)
-kind_ok hs h (Apply txn commit) some few numbers names range = numbers
+kind_ok hs h (Intent txn sub ops) some few numbers names range =
+    let p = and_parts (is_txn txn) (nat_le sub 64) numbers in rw (p.0, p.1) (ops_ok h ops some few names range)
+kind_ok hs h (Apply txn commit without) some few numbers names range = numbers
 kind_ok hs h (Abort txn) some few numbers names range = numbers
 kind_ok hs h (Safe value) some few numbers names range = numbers
 kind_ok hs h (Split place left right) some few numbers names range = range
@@ -83,8 +84,8 @@ open_push (q ∷ (x ∷ xs)) r h last = by (λ e. open_push (x ∷ xs) r e last)
 
 not_split : (h : Header) (time : ℕ) (k : Kind) → (is_time time && kind_fits h None k) ≡ true → is_split k ≡ false
 not_split h time (Write ops) e = refl
-not_split h time (Intent txn ops) e = refl
-not_split h time (Apply txn commit) e = refl
+not_split h time (Intent txn sub ops) e = refl
+not_split h time (Apply txn commit without) e = refl
 not_split h time (Abort txn) e = refl
 not_split h time (Safe value) e = refl
 not_split h time (Split place left right) e = let p = and_parts (is_time time) false e in cc

@@ -4,6 +4,7 @@ use Rattle.std.specs.Fmt.{digits}
 use Rattle.xc_record.specs.declared.record.Kind.TheVariants.{Intent, Apply, Safe}
 use Rattle.xc_record.specs.declared.record.Tablet.{Tablet}
 use Rattle.xc_record.proofs.WorkedLogs.{at, sets, a, z, two_tablets}
+use Rattle.xc_text.specs.declared.line.Version.TheVariants.{One}
 use Rattle.xc_text.specs.LogText.{logs_of}
 use Rattle.xc_text.specs.Printed.{header_text, record_text}
 use Rattle.xc_text.specs.Spelled.{Entry, Spells, given}
@@ -18,11 +19,11 @@ mixed_text = two (
 
 abbrev pub mixed : List Entry
 mixed =
-    record { id = 0; item = at 10 (Intent 7 (sets a (codes "1") ∷ [])) }
-    ∷ record { id = 1; item = at 11 (Intent 7 (sets z (codes "2") ∷ [])) }
-    ∷ record { id = 0; item = at 20 (Apply 7 15) }
+    record { id = 0; item = at 10 (Intent 7 0 (sets a (codes "1") ∷ [])) }
+    ∷ record { id = 1; item = at 11 (Intent 7 0 (sets z (codes "2") ∷ [])) }
+    ∷ record { id = 0; item = at 20 (Apply 7 15 []) }
     ∷ record { id = 1; item = at 21 (Safe 14) }
-    ∷ record { id = 1; item = at 25 (Apply 7 15) }
+    ∷ record { id = 1; item = at 25 (Apply 7 15 []) }
     ∷ record { id = 0; item = at 22 (Safe 22) }
     ∷ record { id = 1; item = at 30 (Safe 28) }
     ∷ []
@@ -34,7 +35,7 @@ each (suc (suc n)) t e = cc
 
 mixed_spells : Spells mixed_text (two_tablets 14 15)
 unfolding header_text record_text digits
-mixed_spells = record { valid = valid-two; entries = mixed; lines = refl; known = refl; records = each }
+mixed_spells = record { valid = valid-two; version = One; spelled = refl; entries = mixed; lines = refl; known = refl; records = each }
 
 mixed_is_read : logs_of mixed_text ≡ Ok (two_tablets 14 15)
 mixed_is_read = spelled_is_read mixed_text (two_tablets 14 15) mixed_spells

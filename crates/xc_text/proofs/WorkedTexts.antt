@@ -136,7 +136,9 @@ table =
     ([] ++ ([]), Some (record { line = 1; kind = kind.NoEnd })) ∷
     (no_head ++ ([]), Some (record { line = 2; kind = kind.NoEnd })) ∷
     (no_head ++ (codes "end\n"), Some (record { line = 2; kind = kind.Header })) ∷
-    ([] ++ (codes "xclog 2\n"), Some (record { line = 1; kind = kind.Form })) ∷
+    ([] ++ (codes "xclog 2\n"), Some (record { line = 2; kind = kind.NoEnd })) ∷
+    ([] ++ (codes "xclog 3\n"), Some (record { line = 1; kind = kind.Form })) ∷
+    ([] ++ (codes "xclog 1\nxclog 2\n"), Some (record { line = 2; kind = kind.Form })) ∷
     ([] ++ (codes "xclog  1\n"), Some (record { line = 1; kind = kind.Form })) ∷
     ([] ++ (codes "xclog 1 \n"), Some (record { line = 1; kind = kind.Form })) ∷
     ([] ++ (codes "xclog 1"), Some (record { line = 1; kind = kind.Form })) ∷
@@ -207,6 +209,36 @@ table =
     ([] ++ (codes " "), Some (record { line = 1; kind = kind.Form })) ∷
     (one_head ++ (codes " end\n"), Some (record { line = 3; kind = kind.Form })) ∷
     []
+
+-- words for any bytes, and subtransactions
+abbrev pub later_head : List ℕ
+later_head = codes "xclog 2\ntablet 0 0 65535 root\n"
+
+abbrev pub later_table : List (List ℕ × Option BadLine)
+later_table =
+    (one_head ++ (codes "0 10 write +a%20b=2\n"), Some (record { line = 3; kind = kind.Key })) ∷
+    (later_head ++ (codes "0 10 write +a%20b=2 +a%3D=%0A -%25\nend\n"), None) ∷
+    (later_head ++ (codes "0 10 write +a%61=2\n"), Some (record { line = 3; kind = kind.Key })) ∷
+    (later_head ++ (codes "0 10 write +a%3d=2\n"), Some (record { line = 3; kind = kind.Key })) ∷
+    (later_head ++ (codes "0 10 write -a%\n"), Some (record { line = 3; kind = kind.Key })) ∷
+    (later_head ++ (codes "0 10 write -a%2\n"), Some (record { line = 3; kind = kind.Key })) ∷
+    (later_head ++ (codes "0 10 write +a=b=c\n"), Some (record { line = 3; kind = kind.Key })) ∷
+    (one_head ++ (codes "0 10 intent 4 sub 1 +aaa=1\n0 11 intent 4 sub 64 -a\n0 20 apply 4 15 without 1 64\nend\n"), None) ∷
+    (one_head ++ (codes "0 10 intent 4 sub 0 +aaa=1\n"), Some (record { line = 3; kind = kind.Number })) ∷
+    (one_head ++ (codes "0 10 intent 4 sub 65 +aaa=1\n"), Some (record { line = 3; kind = kind.Number })) ∷
+    (one_head ++ (codes "0 10 intent 4 sub 1\n"), Some (record { line = 3; kind = kind.Form })) ∷
+    (one_head ++ (codes "0 10 intent 4 sub\n"), Some (record { line = 3; kind = kind.Form })) ∷
+    (one_head ++ (codes "0 20 apply 4 15 without 2 1\n"), Some (record { line = 3; kind = kind.Number })) ∷
+    (one_head ++ (codes "0 20 apply 4 15 without 1 1\n"), Some (record { line = 3; kind = kind.Number })) ∷
+    (one_head ++ (codes "0 20 apply 4 15 without 65\n"), Some (record { line = 3; kind = kind.Number })) ∷
+    (one_head ++ (codes "0 20 apply 4 15 without 2 1 x\n"), Some (record { line = 3; kind = kind.Form })) ∷
+    (one_head ++ (codes "0 20 apply 4 15 without\n"), Some (record { line = 3; kind = kind.Form })) ∷
+    (one_head ++ (codes "0 20 apply 4 15 1\n"), Some (record { line = 3; kind = kind.Form })) ∷
+    []
+
+later_as_said : map {B = Option BadLine} (λ row. first_bad (read row.0)) later_table ≡ map {B = Option BadLine} (λ row. row.1) later_table
+unfolding read
+later_as_said = refl
 
 as_said : map {B = Option BadLine} (λ row. first_bad (read row.0)) table ≡ map {B = Option BadLine} (λ row. row.1) table
 unfolding read

@@ -21,6 +21,7 @@ use Rattle.xc_record.specs.declared.record.Tablet.{Tablet}
 use Rattle.xc_record.specs.declared.record.Logs.{Logs}
 use Rattle.xc_text.specs.declared.kind.LogKind.{LogKind}
 use Rattle.xc_text.specs.declared.kind.LogKind.TheVariants as kind
+use Rattle.xc_text.specs.declared.line.Version.TheVariants.{One}
 use Rattle.xc_text.specs.declared.line.LogLine.{LogLine}
 use Rattle.xc_text.specs.declared.line.LogLine.TheVariants as line
 use Rattle.xc_text.specs.declared.reading.Reading.{Reading}
@@ -41,10 +42,10 @@ pub record BadLine : Type 0 where
 
 -- the first line comes first and nowhere else, and nothing comes after the last
 abbrev pub misplaced : Stage → LogLine → Bool
-misplaced Start line.First = false
-misplaced Headers line.First = true
-misplaced Records line.First = true
-misplaced Ended line.First = true
+misplaced Start (line.First version) = false
+misplaced Headers (line.First version) = true
+misplaced Records (line.First version) = true
+misplaced Ended (line.First version) = true
 misplaced Start l = true
 misplaced Headers l = false
 misplaced Records l = false
@@ -65,7 +66,7 @@ abbrev pub breaks_headers : Reading → LogLine → Bool
 breaks_headers s (line.Tablet h) = records_began s.stage || not (fits (headers_of s.tablets) s.next h)
 breaks_headers s (line.Entry id r) = not (may_end s.next)
 breaks_headers s line.End = not (may_end s.next)
-breaks_headers s line.First = false
+breaks_headers s (line.First version) = false
 
 abbrev pub is_unknown : Reading → LogLine → Bool
 is_unknown s (line.Entry id r) = nat_le (length s.tablets) id
@@ -74,7 +75,7 @@ is_unknown s _ = false
 -- the keys hash into the tablet's range, and a split names the tablet's children
 abbrev pub in_range : List Header → Header → Kind → Bool
 in_range headers h (Write ops) = list_all (λ op. holds h (hash_of op.key)) ops
-in_range headers h (Intent txn ops) = list_all (λ op. holds h (hash_of op.key)) ops
+in_range headers h (Intent txn sub ops) = list_all (λ op. holds h (hash_of op.key)) ops
 in_range headers h (Split place left right) = split_fits (children headers h.id) place left right
 in_range headers h _ = true
 
@@ -125,11 +126,11 @@ kinds s l =
 
 -- before the first line
 abbrev pub begun : Reading
-begun = record { tablets = []; next = RootAt 0; stage = Start; records_left = 2 ^ 20; operations_left = 2 ^ 22 }
+begun = record { version = One; tablets = []; next = RootAt 0; stage = Start; records_left = 2 ^ 20; operations_left = 2 ^ 22 }
 
 -- with a line that breaks no rule
 abbrev pub moved : Reading → LogLine → Reading
-moved s line.First = record s { stage = Headers }
+moved s (line.First version) = record s { version = version; stage = Headers }
 moved s (line.Tablet h) = record s {
   tablets = s.tablets ++ (record { header = h; records = [] }) ∷ [];
   next = next_after (headers_of s.tablets) s.next h h.parent;
@@ -152,14 +153,14 @@ placed s l = unless_bad (first_kind (later_kinds s l)) (moved s l)
 
 -- with a line that stands by itself, where the first line is wanted
 abbrev pub starting : Reading → LogLine → Result Reading LogKind
-starting s line.First = Ok (record s { stage = Headers })
+starting s (line.First version) = Ok (record s { version = version; stage = Headers })
 starting s (line.Tablet h) = Err kind.Form
 starting s (line.Entry id r) = Err kind.Form
 starting s line.End = Err kind.Form
 
 -- with a line that stands by itself, behind the first line
 abbrev pub between : Reading → LogLine → Result Reading LogKind
-between s line.First = Err kind.Form
+between s (line.First version) = Err kind.Form
 between s (line.Tablet h) = placed s (line.Tablet h)
 between s (line.Entry id r) = placed s (line.Entry id r)
 between s line.End = placed s line.End
@@ -169,7 +170,7 @@ step_by s None = Err kind.Form
 step_by s (Some l) = unless_bad (first_kind (kinds s l)) (moved s l)
 
 unfoldable pub step : Reading → List ℕ → Result Reading LogKind
-step s bytes = step_by s (line_of (split_on 32 bytes))
+step s bytes = step_by s (line_of s.version (split_on 32 bytes))
 
 -- ---- the whole text
 

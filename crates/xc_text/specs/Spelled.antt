@@ -9,14 +9,15 @@ use Rattle.xc_record.specs.declared.record.Record.{Record}
 use Rattle.xc_record.specs.declared.record.Tablet.{Tablet}
 use Rattle.xc_record.specs.declared.record.Logs.{Logs}
 use Rattle.xc_text.specs.LogText.{logs_of}
-use Rattle.xc_text.specs.Printed.{header_text, record_text, text_of}
+use Rattle.xc_text.specs.Printed.{header_text, record_text, kind_spelled, logs_spelled, first_line, text_of}
+use Rattle.xc_text.specs.declared.line.Version.{Version}
 
 pub record Entry : Type 0 where
   pub id : ℕ
   pub item : Record
 
-abbrev pub entry_text : Entry → List ℕ
-entry_text entry = record_text entry.id entry.item
+abbrev pub entry_text : Version → Entry → List ℕ
+entry_text version entry = record_text version entry.id entry.item
 
 abbrev pub given : ℕ → List Entry → List Record
 given id [] = []
@@ -24,9 +25,12 @@ given id (entry ∷ entries) = if entry.id == id then entry.item ∷ given id en
 
 pub record Spells (text : List ℕ) (logs : Logs) : Type 0 where
   pub valid : is_valid logs ≡ true
+  pub version : Version
   pub entries : List Entry
   -- the first line, the headers by number, the entries and the last line
-  pub lines : text ≡ codes "xclog 1\n" ++ (flat_map (λ t. header_text t.header) logs.tablets ++ (flat_map entry_text entries ++ codes "end\n"))
+  pub lines : text ≡ first_line version ++ (flat_map (λ t. header_text t.header) logs.tablets ++ (flat_map (entry_text version) entries ++ codes "end\n"))
+  -- in version 1 all keys and values are plain
+  pub spelled : list_all (λ entry. kind_spelled version entry.item.kind) entries ≡ true
   -- each entry is of a tablet of the logs
   pub known : list_all (λ entry. nat_lt entry.id (length logs.tablets)) entries ≡ true
   -- a tablet's entries are its records
@@ -46,6 +50,7 @@ SpellsOne = (text : List ℕ) (logs other : Logs) → Spells text logs → Spell
 abbrev pub ReadIsSpelled : Type 0
 ReadIsSpelled = (text : List ℕ) (logs : Logs) → logs_of text ≡ Ok logs → Spells text logs
 
--- What is printed of valid logs spells them, so each valid logs are spelled by some text.
+-- What is printed of valid logs spells them: in version 2 always, so each valid logs are spelled by some text, and in version 1 where
+-- all keys and values are plain.
 abbrev pub PrintedIsSpelled : Type 0
-PrintedIsSpelled = (logs : Logs) → is_valid logs ≡ true → Spells (text_of logs) logs
+PrintedIsSpelled = (version : Version) (logs : Logs) → is_valid logs ≡ true → logs_spelled version logs ≡ true → Spells (text_of version logs) logs

@@ -3,7 +3,7 @@ ghost use Rattle.std.specs.Prelude.{◌≡◌, ◌<◌, ◌==◌, [], ◌∷◌,
 ghost use Rattle.std.specs.List.{position_or_len, before_first, after_first, list_any};
 ghost use Rattle.std.specs.Option.{option_map_or};
 ghost use Rattle.xc_base.specs.Words.{split_on};
-ghost use Rattle.xc_text.specs.Lines.{number, first_number, is_over};
+ghost use Rattle.xc_text.specs.Lines.{number, first_number, sub_of, is_over};
 ghost use Rattle.std.specs.Str.{all_ascii_digits};
 ghost use Rattle.std.specs.Str.Parse.{digits_value};
 ghost use Rattle.xc_text.specs.declared.kind.LogKind.TheVariants.{Form};
@@ -44,6 +44,7 @@ pub(crate) fn cut(bytes: &[u8], separator: u8) -> (&[u8], Option<&[u8]>)
 }
 
 // The first line of a text without the byte that ends it, and what stands after that byte where there is one.
+#[inline]
 pub(crate) fn cut_line(text: &[u8]) -> (&[u8], Option<&[u8]>)
     ensures pieces { split_on 10 text.now ≡ result.0.now ∷ option_map_or (λ rest. split_on 10 rest.now) result.1 [] }
     ensures shorter { IfSome result.1 (λ rest. length rest.now < length text.now) }
@@ -71,6 +72,7 @@ impl<'a> Model for Words<'a> {
 }
 
 impl<'a> Words<'a> {
+    #[inline]
     pub(crate) fn of(line: &'a [u8]) -> Words<'a>
         ensures { result ≡ split_on 32 line.now }
     {
@@ -78,6 +80,7 @@ impl<'a> Words<'a> {
     }
 
     // The next word.
+    #[inline]
     pub(crate) fn next(&mut self) -> Option<&'a [u8]>
         ensures { MatchOption result ((self.old ≡ []) × (self.new ≡ [])) (λ word. self.old ≡ word.now ∷ self.new) }
     {
@@ -88,6 +91,7 @@ impl<'a> Words<'a> {
     }
 
     // The number that the next word spells.
+    #[inline]
     pub(crate) fn number(&mut self) -> Result<u64, Fail>
         ensures { MatchResult result (λ n. first_number self.old ≡ Some (n, self.new)) (λ e. (e ≡ Bad Form) × (first_number self.old ≡ None)) }
     {
@@ -103,18 +107,28 @@ impl<'a> Words<'a> {
         number(word)
     }
 
-    // How many words are left.
-    #[inline(always)]
-    pub(crate) fn count(&self) -> usize
-        ensures { result ≡ length self.now }
+    // The number of the subtransaction that the next two words name, or 0 where the next word isn't `sub`.
+    #[inline]
+    pub(crate) fn sub(&mut self) -> Result<u64, Fail>
+        ensures { MatchResult result (λ n. sub_of self.old ≡ Some (n, self.new)) (λ e. (e ≡ Bad Form) × (sub_of self.old ≡ None)) }
     {
-        match self.rest {
-            None => 0,
-            Some(rest) => pieces(rest),
+        let Some(rest) = self.rest else {
+            return Ok(0);
+        };
+        let (word, after) = cut(rest, b' ');
+        if word != b"sub".as_slice() {
+            return Ok(0);
         }
+        self.rest = after;
+        let sub = self.number()?;
+        if sub == 0 {
+            return Ok(65);
+        }
+        Ok(sub)
     }
 
     // Whether no word is left.
+    #[inline]
     pub(crate) fn end(&self) -> Result<(), Fail>
         ensures { MatchResult result (λ _. is_over self.now ≡ true) (λ e. (e ≡ Bad Form) × (is_over self.now ≡ false)) }
     {
@@ -123,13 +137,6 @@ impl<'a> Words<'a> {
             Some(_) => Err(Fail::Bad(LogKind::Form)),
         }
     }
-}
-
-// How many pieces stand between the spaces.
-fn pieces(bytes: &[u8]) -> usize
-    ensures { result ≡ count_by (λ b. b == 32) bytes.now + 1 }
-{
-    bytes.iter().filter(|byte| **byte == b' ').count() + 1
 }
 
 // The digits that bytes begin with, but for those behind the first 19: the number that they spell, and how many they are.

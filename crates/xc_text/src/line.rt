@@ -12,12 +12,21 @@ use crate::cut::{Words, number};
 use crate::kind::{Fail, LogKind, after_numbers};
 use crate::record_line::{hash_in, is_tablet, is_time, read_kind, tablet_in, time_in};
 use std::alloc::Global;
-use xc_record::{Header, Record};
+use xc_record::{Header, Ops, Record};
+
+// How keys and values are written.
+#[derive(Clone, Copy, PartialEq, Eq, Debug)]
+pub(crate) enum Version {
+    // By their bytes, which are plain.
+    One,
+    // By words for any bytes.
+    Two,
+}
 
 // A line by itself.
 #[derive(Drop, Debug)]
 pub(crate) enum LogLine {
-    First,
+    First(Version),
     Tablet(Header),
     // A record of the tablet of this number.
     Entry(u32, Record),
@@ -30,7 +39,11 @@ fn read_version(mut words: Words<'_>) -> Result<LogLine, Fail>
     match words.next() {
         Some(word) if word == b"1".as_slice() => {
             words.end()?;
-            Ok(LogLine::First)
+            Ok(LogLine::First(Version::One))
+        }
+        Some(word) if word == b"2".as_slice() => {
+            words.end()?;
+            Ok(LogLine::First(Version::Two))
         }
         _ => Err(Fail::Bad(LogKind::Form)),
     }
@@ -79,17 +92,25 @@ fn read_header(mut words: Words<'_>) -> Result<Header, Fail>
     })
 }
 
+#[inline]
 fn numbers_fit(id: u64, time: u64) -> bool
     ensures { result ≡ (nat_lt id 64 && is_time time) }
 {
     is_tablet(id) && is_time(time)
 }
 
-fn read_entry(alloc: Global, id: u64, mut words: Words<'_>) -> Result<LogLine, Fail>
-    ensures { Answers (λ line. line) result (judge numbers_fit names_fit (entry_of id words.entry)) }
+#[inline]
+fn read_entry(
+    alloc: Global,
+    version: Version,
+    scratch: &mut Ops,
+    id: u64,
+    mut words: Words<'_>,
+) -> Result<LogLine, Fail>
+    ensures { Answers (λ line. line) result (judge numbers_fit names_fit (entry_of version id words.entry)) }
 {
     let time = words.number()?;
-    match read_kind(alloc, words) {
+    match read_kind(alloc, version, scratch, words) {
         Err(fail) => Err(after_numbers(fail, numbers_fit(id, time))),
         Ok(kind) => Ok(LogLine::Entry(
             tablet_in(id)?,
@@ -101,11 +122,16 @@ fn read_entry(alloc: Global, id: u64, mut words: Words<'_>) -> Result<LogLine, F
     }
 }
 
-// The line that the bytes spell, without the byte that ends it.
+// The line that the bytes spell in a text of the version, without the byte that ends it. The scratch is for the operations.
 #[tactic(auto, unfolding(crate::specs::Lines::line_in, crate::specs::Lines::line_of))]
 #[inline(always)]
-pub(crate) fn read_line(alloc: Global, line: &[u8]) -> Result<LogLine, Fail>
-    ensures { Answers (λ line. line) result (line_in (split_on 32 line.now)) }
+pub(crate) fn read_line(
+    alloc: Global,
+    version: Version,
+    scratch: &mut Ops,
+    line: &[u8],
+) -> Result<LogLine, Fail>
+    ensures { Answers (λ line. line) result (line_in version (split_on 32 line.now)) }
 {
     let mut words = Words::of(line);
     let Some(word) = words.next() else {
@@ -121,5 +147,5 @@ pub(crate) fn read_line(alloc: Global, line: &[u8]) -> Result<LogLine, Fail>
         words.end()?;
         return Ok(LogLine::End);
     }
-    read_entry(alloc, number(word)?, words)
+    read_entry(alloc, version, scratch, number(word)?, words)
 }

@@ -1,17 +1,21 @@
 // The operations of a record's line.
-ghost use Rattle.std.specs.Prelude.{◌≡◌, true, false, is_some, MatchOption, Some, None, if◌then◌else◌};
+ghost use Rattle.std.specs.Prelude.{◌≡◌, ◌&&◌, true, false, is_some, MatchOption, Some, None, if◌then◌else◌};
+ghost use Rattle.std.specs.List.{list_all};
 ghost use Rattle.std.specs.Option.{option_copied};
 ghost use Rattle.xc_text.specs.Kinds.{Answers};
-ghost use Rattle.xc_text.specs.Lines.{set_of, op_of, all_ops, op_is_named, ops_in};
+ghost use Rattle.xc_text.specs.Lines.{set_of, op_written, op_meant, op_is_named, ops_in, with_op};
+ghost use Rattle.xc_text.specs.Printed.{op_spelled};
+ghost use Rattle.xc_text.specs.declared.line.Version.TheVariants.{One, Two};
 ghost use Rattle.xc_text.specs.declared.kind.Fail.TheVariants.{Bad};
 
 use crate::cut::{Words, cut};
 use crate::kind::{Fail, LogKind};
-use std::alloc::Global;
-use xc_base::{Key, Value, is_key, is_value};
+use crate::line::Version;
+use xc_base::{is_key, is_plain, is_value, read_key, read_value};
 use xc_record::{Op, Ops};
 
 // The key and the value of `key=value`.
+#[inline]
 fn set_parts(rest: &[u8]) -> Option<(&[u8], Option<&[u8]>)>
     ensures { MatchOption result (set_of rest.now ≡ None) (λ parts. set_of rest.now ≡ Some (record { key = parts.0.now; value = option_copied parts.1 })) }
 {
@@ -22,8 +26,9 @@ fn set_parts(rest: &[u8]) -> Option<(&[u8], Option<&[u8]>)>
 }
 
 // The key of an operation and its value, where it sets one.
+#[inline]
 fn parts(word: &[u8]) -> Option<(&[u8], Option<&[u8]>)>
-    ensures { MatchOption result (op_of word.now ≡ None) (λ parts. op_of word.now ≡ Some (record { key = parts.0.now; value = option_copied parts.1 })) }
+    ensures { MatchOption result (op_written word.now ≡ None) (λ parts. op_written word.now ≡ Some (record { key = parts.0.now; value = option_copied parts.1 })) }
 {
     let (sign, rest) = word.split_first()?;
     match *sign {
@@ -33,34 +38,55 @@ fn parts(word: &[u8]) -> Option<(&[u8], Option<&[u8]>)>
     }
 }
 
-// Whether both the key and the value are well formed.
-fn is_named(key: &[u8], value: Option<&[u8]>) -> bool
-    ensures { result ≡ op_is_named (record { key = key.now; value = option_copied value.entry }) }
+// Whether a key and a value are plain and well formed, so that they are their own words.
+#[inline]
+fn are_plain(key: &[u8], value: Option<&[u8]>) -> bool
+    ensures { result ≡ (op_is_named (record { key = key.now; value = option_copied value.entry }) && op_spelled One (record { key = key.now; value = option_copied value.entry })) }
 {
     is_key(key)
+        && is_plain(key)
         && match value {
             None => true,
-            Some(value) => is_value(value),
+            Some(value) => is_value(value) && is_plain(value),
         }
 }
 
-// The operation of a key and a value.
-fn named(key: &[u8], value: Option<&[u8]>) -> Op
-    requires { op_is_named (record { key = key.now; value = option_copied value }) ≡ true }
-    ensures { result ≡ record { key = key.now; value = option_copied value.entry } }
+// Puts the operation last that the words of any key and value stand for.
+fn put_words(ops: &mut Ops, key: &[u8], value: Option<&[u8]>) -> Result<(), Fail>
+    ensures { Answers (λ _. ops.new) result (with_op Two ops.old (record { key = key.now; value = option_copied value.entry })) }
 {
-    Op {
-        key: Key::of(key),
-        value: match value {
-            None => None,
-            Some(value) => Some(Value::of(value)),
+    let Ok(key) = read_key(key) else {
+        return Err(Fail::Bad(LogKind::Key));
+    };
+    let value = match value {
+        None => None,
+        Some(word) => match read_value(word) {
+            Ok(value) => Some(value),
+            Err(_) => return Err(Fail::Bad(LogKind::Key)),
         },
+    };
+    ops.push(Op { key, value })?;
+    Ok(())
+}
+
+// Puts the operation last that is written so.
+#[inline]
+fn put_op(version: Version, ops: &mut Ops, key: &[u8], value: Option<&[u8]>) -> Result<(), Fail>
+    ensures { Answers (λ _. ops.new) result (with_op version ops.old (record { key = key.now; value = option_copied value.entry })) }
+{
+    if are_plain(key, value) {
+        ops.push_bytes(key, value)?;
+        return Ok(());
+    }
+    match version {
+        Version::One => Err(Fail::Bad(LogKind::Key)),
+        Version::Two => put_words(ops, key, value),
     }
 }
 
 // Whether each word that is left has the form of an operation.
 fn all_have_form(mut words: Words<'_>) -> bool
-    ensures { result ≡ is_some (all_ops words.entry) }
+    ensures { result ≡ list_all (λ word. is_some (op_written word)) words.entry }
 {
     'words: while let Some(word) = words.next() {
         if parts(word).is_none() {
@@ -72,7 +98,7 @@ fn all_have_form(mut words: Words<'_>) -> bool
 
 // Why operations are refused of which one isn't well named, and these words are left.
 fn misnamed(words: Words<'_>) -> Fail
-    ensures { result ≡ Bad (if is_some (all_ops words.entry) then LogKind.Key else LogKind.Form) }
+    ensures { result ≡ Bad (if list_all (λ word. is_some (op_written word)) words.entry then LogKind.Key else LogKind.Form) }
 {
     if all_have_form(words) {
         Fail::Bad(LogKind::Key)
@@ -81,25 +107,24 @@ fn misnamed(words: Words<'_>) -> Fail
     }
 }
 
-// The operations, with room for no more where they are few enough for a record.
-pub(crate) fn read_ops(alloc: Global, mut words: Words<'_>) -> Result<Ops, Fail>
-    ensures { Answers (λ ops. ops) result (ops_in words.entry) }
+// Makes the operations those that the words say, however many.
+#[inline]
+pub(crate) fn read_ops(version: Version, ops: &mut Ops, mut words: Words<'_>) -> Result<(), Fail>
+    ensures { Answers (λ _. ops.new) result (ops_in version words.entry) }
 {
-    let mut ops = Vec::new(alloc);
+    ops.clear();
     'words: while let Some(word) = words.next() {
         let Some((key, value)) = parts(word) else {
             return Err(Fail::Bad(LogKind::Form));
         };
-        if !is_named(key, value) {
-            return Err(misnamed(words));
+        match put_op(version, ops, key, value) {
+            Ok(()) => {}
+            Err(Fail::Bad(_)) => return Err(misnamed(words)),
+            Err(Fail::NoMemory) => return Err(Fail::NoMemory),
         }
-        if ops.is_empty() {
-            ops.reserve_exact(1 + words.count().min(63))?;
-        }
-        ops.extend_from_slice(&[named(key, value)])?;
     }
     if ops.is_empty() {
         return Err(Fail::Bad(LogKind::Form));
     }
-    Ok(Ops::from_vec(ops))
+    Ok(())
 }

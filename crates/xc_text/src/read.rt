@@ -7,9 +7,9 @@ use crate::cut::cut_line;
 use crate::kind::{Fail, LogKind, LogsFail};
 use crate::reading::{Reading, Stage};
 use std::alloc::Global;
-use xc_record::Logs;
+use xc_record::{Logs, Ops};
 
-/// The logs that a log text of version 1 spells. Nothing is looked at but the text itself: the order of the records isn't.
+/// The logs that a log text of version 1 or 2 spells. Nothing is looked at but the text itself: the order of the records isn't.
 ///
 /// `Bad` comes exactly where the text spells no logs, with its first bad line, counted from 1, and the first kind of
 /// [`LogKind`] for which that line is bad. It takes time and memory in proportion to the text.
@@ -26,6 +26,7 @@ pub fn read_logs(alloc: Global, text: &[u8]) -> Result<Logs, LogsFail>
 fn read_lines(alloc: Global, text: &[u8]) -> Result<Logs, LogsFail>
     ensures { Reads result (logs_of text.now) }
 {
+    let mut scratch = Ops::new(alloc);
     let mut reading = Reading::begun(alloc);
     let mut rest = text;
     let mut number = 1u64;
@@ -34,7 +35,7 @@ fn read_lines(alloc: Global, text: &[u8]) -> Result<Logs, LogsFail>
         let Some(after) = after else {
             return ending(reading, line, number);
         };
-        if let Err(fail) = reading.take_line(alloc, line) {
+        if let Err(fail) = reading.take_line(alloc, &mut scratch, line) {
             return Err(at_line(number, fail));
         }
         rest = after;
@@ -58,6 +59,7 @@ fn ending(reading: Reading, rest: &[u8], number: u64) -> Result<Logs, LogsFail>
     Err(LogsFail::Bad { line: number, kind })
 }
 
+#[inline]
 fn at_line(number: u64, fail: Fail) -> LogsFail
     ensures { result ≡ at_line number fail }
 {

@@ -7,10 +7,10 @@ ghost use Rattle.xc_text.specs.Kinds.{Answers};
 ghost use Rattle.xc_text.specs.LogText.{begun, between, in_range, is_split_off, is_orphaned, is_inner, placed, starting, step};
 
 use crate::kind::{Fail, LogKind};
-use crate::line::{LogLine, read_line};
+use crate::line::{LogLine, Version, read_line};
 use std::alloc::Global;
 use xc_record::{
-    Header, Kind, Next, Op, Record, Records, Tablet, Tablets, children, fits, hash, may_end,
+    Header, Kind, Next, Ops, Record, Records, Tablet, Tablets, children, fits, hash_bytes, may_end,
     next_after,
 };
 
@@ -26,6 +26,7 @@ pub(crate) enum Stage {
 // What the lines so far gave, what header may stand next, and what room is left.
 #[derive(Drop, Debug)]
 pub(crate) struct Reading {
+    version: Version,
     pub(crate) tablets: Tablets,
     next: Next,
     pub(crate) stage: Stage,
@@ -33,17 +34,24 @@ pub(crate) struct Reading {
     operations_left: usize,
 }
 
-fn all_held(header: &Header, ops: &[Op]) -> bool
+#[inline]
+fn all_held(header: &Header, ops: &Ops) -> bool
     ensures { result ≡ list_all (λ op. holds header.now (hash_of op.key)) ops.now }
 {
-    ops.iter().all(|op| header.holds(hash(&op.key)))
+    for op in ops.iter() {
+        if !header.holds(hash_bytes(op.key_bytes())) {
+            return false;
+        }
+    }
+    true
 }
 
+#[inline]
 fn in_range(tablets: &[Tablet], header: &Header, kind: &Kind) -> bool
     ensures { result ≡ in_range (headers_of tablets.now) header.now kind.now }
 {
     match kind {
-        Kind::Write { ops } | Kind::Intent { ops, .. } => all_held(header, ops.as_slice()),
+        Kind::Write { ops } | Kind::Intent { ops, .. } => all_held(header, ops),
         Kind::Split { at, left, right } => match children(tablets, header.id) {
             None => false,
             Some((l, r)) => *at == r.lo && *left == l.id && *right == r.id,
@@ -52,6 +60,7 @@ fn in_range(tablets: &[Tablet], header: &Header, kind: &Kind) -> bool
     }
 }
 
+#[inline]
 fn is_split_off(tablet: &Tablet) -> bool
     ensures { result ≡ is_split_off tablet.now }
 {
@@ -73,11 +82,12 @@ fn any_orphaned(tablets: &[Tablet]) -> bool
     tablets.iter().any(|tablet| is_orphaned(tablets, tablet))
 }
 
+#[inline]
 fn operations_in(kind: &Kind) -> usize
     ensures { result ≡ ops_in kind.now }
 {
     match kind {
-        Kind::Write { ops } | Kind::Intent { ops, .. } => ops.as_slice().len(),
+        Kind::Write { ops } | Kind::Intent { ops, .. } => ops.len(),
         Kind::Apply { .. } | Kind::Abort { .. } | Kind::Safe { .. } | Kind::Split { .. } => 0,
     }
 }
@@ -87,6 +97,7 @@ impl Reading {
         ensures { result ≡ begun }
     {
         Reading {
+            version: Version::One,
             tablets: Tablets::from_vec(Vec::new(alloc)),
             next: Next::RootAt(0),
             stage: Stage::Start,
@@ -109,6 +120,7 @@ impl Reading {
         Ok(())
     }
 
+    #[inline]
     fn take_record(&mut self, id: u32, entry: Record) -> Result<(), Fail>
         ensures { Answers (λ _. self.new) result (placed self.old (LogLine.Entry id entry)) }
     {
@@ -150,22 +162,28 @@ impl Reading {
     }
 
     // Takes the next line, given without the byte that ends it.
-    pub(crate) fn take_line(&mut self, alloc: Global, line: &[u8]) -> Result<(), Fail>
+    #[inline]
+    pub(crate) fn take_line(
+        &mut self,
+        alloc: Global,
+        scratch: &mut Ops,
+        line: &[u8],
+    ) -> Result<(), Fail>
         ensures { Answers (λ _. self.new) result (step self.old line.now) }
     {
         match self.stage {
-            Stage::Start => self.take_first(alloc, line),
-            Stage::Headers | Stage::Records => self.take_inner(alloc, line),
+            Stage::Start => self.take_first(alloc, scratch, line),
+            Stage::Headers | Stage::Records => self.take_inner(alloc, scratch, line),
             Stage::Ended => Err(Fail::Bad(LogKind::Form)),
         }
     }
 
     // Takes the first line.
-    fn take_first(&mut self, alloc: Global, line: &[u8]) -> Result<(), Fail>
+    fn take_first(&mut self, alloc: Global, scratch: &mut Ops, line: &[u8]) -> Result<(), Fail>
         requires { self.old.stage ≡ Stage.Start }
         ensures { Answers (λ _. self.new) result (step self.old line.now) }
     {
-        match read_line(alloc, line) {
+        match read_line(alloc, self.version, scratch, line) {
             Ok(line) => self.start(line),
             Err(Fail::NoMemory) => Err(Fail::NoMemory),
             Err(Fail::Bad(_)) => Err(Fail::Bad(LogKind::Form)),
@@ -176,7 +194,8 @@ impl Reading {
         ensures { Answers (λ _. self.new) result (starting self.old line) }
     {
         match line {
-            LogLine::First => {
+            LogLine::First(version) => {
+                self.version = version;
                 self.stage = Stage::Headers;
                 Ok(())
             }
@@ -185,19 +204,21 @@ impl Reading {
     }
 
     // Takes a line between the first and the last, or the last.
-    fn take_inner(&mut self, alloc: Global, line: &[u8]) -> Result<(), Fail>
+    #[inline]
+    fn take_inner(&mut self, alloc: Global, scratch: &mut Ops, line: &[u8]) -> Result<(), Fail>
         requires { is_inner self.old.stage ≡ true }
         ensures { Answers (λ _. self.new) result (step self.old line.now) }
     {
-        let line = read_line(alloc, line)?;
+        let line = read_line(alloc, self.version, scratch, line)?;
         self.take(alloc, line)
     }
 
+    #[inline]
     fn take(&mut self, alloc: Global, line: LogLine) -> Result<(), Fail>
         ensures { Answers (λ _. self.new) result (between self.old line) }
     {
         match line {
-            LogLine::First => Err(Fail::Bad(LogKind::Form)),
+            LogLine::First(_) => Err(Fail::Bad(LogKind::Form)),
             LogLine::Tablet(header) => self.take_header(alloc, header),
             LogLine::Entry(id, entry) => self.take_record(id, entry),
             LogLine::End => self.take_end(),

@@ -5,6 +5,6 @@ pub mod OneLogs
 pub mod OneSteps
 pub mod Requests
 pub mod Statuses
-pub mod Audits
+pub mod Upgrades
 pub mod RowMaps
 pub mod Shown

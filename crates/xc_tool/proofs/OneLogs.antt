@@ -22,13 +22,13 @@ use Rattle.xc_record.specs.Lists.{sort_by, insert_by}
 use Rattle.xc_record.specs.Order.{Progress, after, accepted_from, safe_value}
 use Rattle.xc_record.specs.Path.{puts}
 use Rattle.xc_record.specs.Rows.{row, ops_to}
-use Rattle.xc_record.specs.SafeTime.{safe_time, floor_after}
+use Rattle.xc_record.specs.SafeTime.{safe_time}
 use Rattle.xc_record.specs.Valid.{record_fits, kind_fits, ends_fit}
 use Rattle.xc_record.proofs.OrderLaws.{accepted-rises, Rises}
 use Rattle.xc_record.proofs.RowLaws.{row-puts, after_puts}
 use Rattle.xc_tool.specs.Later.{is_of_transaction}
 use Rattle.xc_tool.specs.OneTablet.{IsPulled, visible_ops, value_after}
-use Rattle.xc_tool.proofs.OneTablet.{accepted_rest, floor_of, value-puts}
+use Rattle.xc_tool.proofs.OneTablet.{accepted_rest, value-puts}
 
 abbrev header_of : ℕ → ℕ → Header
 header_of lo hi = record { id = 0; lo = lo; hi = hi; parent = None }
@@ -49,8 +49,8 @@ pub record IsOne (logs : Logs) (rs : List Record) : Type 0 where
 
 quiet : (k : Kind) → is_of_transaction k ≡ false → applied_txn k ≡ None
 quiet (Write ops) e = refl
-quiet (Intent txn ops) e = cc
-quiet (Apply txn commit) e = cc
+quiet (Intent txn sub ops) e = cc
+quiet (Apply txn commit without) e = cc
 quiet (Abort txn) e = cc
 quiet (Safe value) e = refl
 quiet (Split at left right) e = refl
@@ -128,8 +128,8 @@ no_split p (r ∷ rs) e s = grind (arith, no_split (after p r) rs)
 
 small_step : (h : Header) (c : Option (Header × Header)) (k : Kind) (f : ℕ) → kind_fits h c k ≡ true → f < 2 ^ 62 → option_map_or (λ value. value) (safe_value k) f < 2 ^ 62
 small_step h c (Write ops) f e low = low
-small_step h c (Intent txn ops) f e low = low
-small_step h c (Apply txn commit) f e low = low
+small_step h c (Intent txn sub ops) f e low = low
+small_step h c (Apply txn commit without) f e low = low
 small_step h c (Abort txn) f e low = low
 small_step h c (Safe value) f e low = grind (arith, nat_tests)
 small_step h c (Split at left right) f e low = low
@@ -150,6 +150,6 @@ pub safe_time-one : (lo hi place : ℕ) (rs : List Record) (order : Progress) �
 unfolding safe_time accepted_tablets
 safe_time-one lo hi place rs order p fits ends =
     let bound : order.floor < 2 ^ 62 = rw p.stands (small (header_of lo hi) None root_start place rs fits (lit< tt)) in
-    let floor : floor_after 0 (take place (accepted_from root_start rs)) ≡ order.floor = rw (pulled_take rs place order p, floor_of root_start (take place rs)) (ap (λ q. q.floor) (sym p.stands)) in
+    let floor : (fold after root_start (take place (accepted_from root_start rs))).floor ≡ order.floor = rw (pulled_take rs place order p) (ap (λ q. q.floor) (sym p.stands)) in
     let whole : (fold after root_start (accepted_from root_start rs)).split ≡ false = no_split root_start rs ends refl in
     rw (whole, and-false (place == length (accepted_from root_start rs))) (omega arith)

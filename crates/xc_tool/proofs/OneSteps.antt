@@ -16,7 +16,7 @@ use Rattle.xc_record.specs.declared.session.Line.{Line}
 use Rattle.xc_record.specs.declared.session.Line.TheVariants as line
 use Rattle.xc_record.specs.declared.session.PollAnswer.{PollAnswer}
 use Rattle.xc_record.specs.declared.session.PollAnswer.TheVariants as poll
-use Rattle.xc_record.specs.Accepted.{accepted_tablets, root_start, halt_from, halt}
+use Rattle.xc_record.specs.Accepted.{accepted_tablets, root_start, halt_from}
 use Rattle.xc_record.specs.Headers.{headers_fit, parent_fits, children, fits}
 use Rattle.xc_record.specs.Order.{Progress, after, accepted_from, break_of}
 use Rattle.xc_record.specs.Step.{step, open_step, poll_step, poll_answer}
@@ -54,7 +54,7 @@ plain_one t e = elim (has_transaction t) as (λ b. (b || false) ≡ false → b 
 one_tablet : (t : Tablet) → IsTaken (logs_of_one t) → IsOne (logs_of_one t) t.records
 one_tablet t taken =
     let parts = valid_parts (logs_of_one t) taken.valid in
-    let head = one_header t.header parts.headers in
+    let head = one_header t.header parts.fit in
     let tablet = and_parts (tablet_fits (t.header ∷ []) t) _ parts.tablets in
     let fit = and_parts (list_all (record_fits t.header (children (t.header ∷ []) t.header.id)) t.records) _ tablet.0 in
     let none : children (t.header ∷ []) t.header.id ≡ None = children_none t.header t.header.id head.1 in
@@ -105,7 +105,7 @@ found_answer found = poll.Halted found.0 found.1
 poll_answer-one : (lo hi place n : ℕ) (rs : List Record) → poll_answer (one lo hi rs) (session_at place) 0 n
     ≡ option_map_or found_answer (if place == length (accepted_from root_start rs) then halt_from root_start 1 rs else None)
     (if place == length rs then poll.AtEnd else poll.Polled (min n (length (accepted_from root_start rs) - place)))
-unfolding poll_answer halt accepted_tablets
+unfolding poll_answer accepted_tablets
 poll_answer-one lo hi place n rs = refl
 
 poll-one : (lo hi place n : ℕ) (rs : List Record) → step (one lo hi rs) (session_at place) (command.Poll 0 n) ≡ poll_step (session_at place) 0 (poll_answer (one lo hi rs) (session_at place) 0 n)

@@ -11,7 +11,6 @@ use Rattle.xc_record.specs.declared.record.Break.{Break}
 use Rattle.xc_record.specs.Accepted.{root_start, halt_from}
 use Rattle.xc_record.specs.Order.{Progress, after, accepted_from, break_of}
 use Rattle.xc_record.specs.Path.{puts}
-use Rattle.xc_record.specs.SafeTime.{floor_after}
 use Rattle.xc_record.proofs.RowLaws.{after_puts}
 use Rattle.std.proofs.lemmas.Grind.{flat_map-append}
 use Rattle.xc_record.proofs.SafeLaws.{break_of-floor}
@@ -105,10 +104,6 @@ pull_stops records i end order r kind goal within is broken count =
     omega arith
 
 -- ---- the safe time
-
-pub floor_of : (p : Progress) (rs : List Record) → floor_after p.floor rs ≡ (fold after p rs).floor
-floor_of p [] = refl
-floor_of p (r ∷ rs) = floor_of (after p r) rs
 
 -- what a record that breaks no rule leaves
 low_step : (p : Progress) (r : Record) → is_none (break_of p r) ≡ true → p.floor ≤ p.last → (after p r).floor ≤ (after p r).last

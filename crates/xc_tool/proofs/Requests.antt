@@ -7,8 +7,8 @@ use Rattle.std.proofs.KnownBytes.{Appends-trans}
 use Rattle.std.proofs.lemmas.Bool.Decides.{nat_tests}
 use Rattle.std.proofs.Math.Bool.{or_assoc, or-false}
 use Rattle.xc_base.specs.Told.{IsPrefix}
-use Rattle.xc_base.specs.Ran.{IsCutShort, Wrote}
-use Rattle.xc_base.specs.Streams.{Stream, RoseIn}
+use Rattle.xc_run.specs.Ran.{IsCutShort, Wrote}
+use Rattle.xc_run.specs.Streams.{Stream, RoseIn, IsQuiet, Tells}
 use Rattle.xc_base.specs.declared.status.Status.TheVariants as status
 use Rattle.xc_record.specs.declared.record.Record.{Record}
 use Rattle.xc_record.specs.declared.record.Tablet.{Tablet}
@@ -43,14 +43,14 @@ pub has_first : (logs : Logs) → IsTaken logs → 0 < length logs.tablets
 has_first logs taken = go logs.tablets taken
   where
     go : (ts : List Tablet) → IsTaken (record { tablets = ts }) → 0 < length ts
-    go [] k = absurd (no_header (valid_parts (record { tablets = [] }) k.valid).headers)
+    go [] k = absurd (no_header (valid_parts (record { tablets = [] }) k.valid).fit)
     go (t ∷ ts) k = omega arith
 
 pub has_records : (logs : Logs) (t : Tablet) (rs : List Record) → IsTaken logs → t ≡ get_or logs.tablets 0 t → rs ≡ t.records → HasRecords logs rs
 has_records logs t rs taken is e = go logs.tablets taken is
   where
     go : (ts : List Tablet) → IsTaken (record { tablets = ts }) → t ≡ get_or ts 0 t → map (λ t. t.records) ts ≡ rs ∷ []
-    go [] k i = absurd (no_header (valid_parts (record { tablets = [] }) k.valid).headers)
+    go [] k i = absurd (no_header (valid_parts (record { tablets = [] }) k.valid).fit)
     go (u ∷ []) k i = let same : t ≡ u = i in ap (λ (t : Tablet). t.records ∷ []) (sym same) ∙ ap (λ r. r ∷ []) (sym e)
     go (u ∷ v ∷ ts) k i = absurd (two_later u v ts k.now)
 
@@ -116,42 +116,48 @@ cut_next before mid after went lines more all said first (front, prefix, second)
     (went ++ front, front_next went lines front more all said prefix, Appends-trans _ _ _ _ _ first second)
 
 pub stopped_before : (out : Stream) (logs : Logs) (all rest : List Request) (went : List ℕ) (halted : Bool) (place : ℕ) → GoesOn logs all went halted place rest → Appends out.before out.after went
-    → Wrote (lines_output (all_lines logs all)) ⊥ status.NoMemory out
-stopped_before out logs all rest went halted place goes first =
-    record { shown = cut_here _ _ went _ _ goes.text first; read_fault = λ e. cc; write_fault = λ e. cc }
+    → IsQuiet out → Tells out → Wrote (lines_output (all_lines logs all)) ⊥ status.NoMemory out
+stopped_before out logs all rest went halted place goes first quiet tells =
+    record { shown = cut_here _ _ went _ _ goes.text first; read_fault = λ e. cc; write_fault = λ e. cc; quiet = λ _. quiet; tells = tells }
 
 pub stopped_memory : (out : Stream) (mid : Option (List ℕ)) (logs : Logs) (all rest : List Request) (went text : List ℕ) (halted : Bool) (place : ℕ) → GoesOn logs all (went ++ text) halted place rest → Appends out.before mid went
-    → (front : List ℕ) × IsPrefix front text × Appends mid out.after front → Wrote (lines_output (all_lines logs all)) ⊥ status.NoMemory out
-stopped_memory out mid logs all rest went text halted place goes first cut =
-    record { shown = cut_next _ mid _ went text _ _ goes.text first cut; read_fault = λ e. cc; write_fault = λ e. cc }
+    → (front : List ℕ) × IsPrefix front text × Appends mid out.after front → IsQuiet out → Tells out
+    → Wrote (lines_output (all_lines logs all)) ⊥ status.NoMemory out
+stopped_memory out mid logs all rest went text halted place goes first cut quiet tells =
+    record { shown = cut_next _ mid _ went text _ _ goes.text first cut; read_fault = λ e. cc; write_fault = λ e. cc; quiet = λ _. quiet; tells = tells }
 
 pub stopped_fault : (out : Stream) (mid : Option (List ℕ)) (logs : Logs) (all rest : List Request) (went text : List ℕ) (halted : Bool) (place : ℕ) → GoesOn logs all (went ++ text) halted place rest → Appends out.before mid went
-    → (front : List ℕ) × IsPrefix front text × Appends mid out.after front → RoseIn out → Wrote (lines_output (all_lines logs all)) ⊥ status.WriteFault out
-stopped_fault out mid logs all rest went text halted place goes first cut rose =
-    record { shown = cut_next _ mid _ went text _ _ goes.text first cut; read_fault = λ e. cc; write_fault = λ _. rose }
+    → (front : List ℕ) × IsPrefix front text × Appends mid out.after front → RoseIn out → Tells out
+    → Wrote (lines_output (all_lines logs all)) ⊥ status.WriteFault out
+stopped_fault out mid logs all rest went text halted place goes first cut rose tells =
+    record { shown = cut_next _ mid _ went text _ _ goes.text first cut; read_fault = λ e. cc; write_fault = λ _. rose; quiet = λ never. absurd (never refl); tells = tells }
 
 -- all requests were answered
 all_text : (logs : Logs) (all : List Request) (went : List ℕ) (halted : Bool) (place : ℕ) → GoesOn logs all went halted place [] → went ≡ lines_text (all_lines logs all)
 all_text logs all went halted place goes = sym (append-nil went) ∙ goes.text
 
 pub ended_halted : (out : Stream) (logs : Logs) (all rest : List Request) (went : List ℕ) (halted : Bool) (place : ℕ) → rest ≡ [] → GoesOn logs all went halted place rest → halted ≡ true → Appends out.before out.after went
-    → Wrote (lines_output (all_lines logs all)) ⊥ status.Halted out
-ended_halted out logs all rest went halted place none goes e wrote =
+    → IsQuiet out → Tells out → Wrote (lines_output (all_lines logs all)) ⊥ status.Halted out
+ended_halted out logs all rest went halted place none goes e wrote quiet tells =
     let at_end : GoesOn logs all went halted place [] = subst (GoesOn logs all went halted place) none goes in
     let met : list_any is_halt (all_lines logs all) ≡ true = sym at_end.halts ∙ or-false halted ∙ e in
     record {
       shown = (sym (ap (λ b. if b then status.Halted else status.Ok) met), subst (Appends out.before out.after) (all_text logs all went halted place at_end) wrote);
       read_fault = λ e. cc;
       write_fault = λ e. cc;
+      quiet = λ _. quiet;
+      tells = tells;
     }
 
 pub ended_ok : (out : Stream) (logs : Logs) (all rest : List Request) (went : List ℕ) (halted : Bool) (place : ℕ) → rest ≡ [] → GoesOn logs all went halted place rest → halted ≡ false → Appends out.before out.after went
-    → Wrote (lines_output (all_lines logs all)) ⊥ status.Ok out
-ended_ok out logs all rest went halted place none goes e wrote =
+    → IsQuiet out → Tells out → Wrote (lines_output (all_lines logs all)) ⊥ status.Ok out
+ended_ok out logs all rest went halted place none goes e wrote quiet tells =
     let at_end : GoesOn logs all went halted place [] = subst (GoesOn logs all went halted place) none goes in
     let met : list_any is_halt (all_lines logs all) ≡ false = sym at_end.halts ∙ or-false halted ∙ e in
     record {
       shown = (sym (ap (λ b. if b then status.Halted else status.Ok) met), subst (Appends out.before out.after) (all_text logs all went halted place at_end) wrote);
       read_fault = λ e. cc;
       write_fault = λ e. cc;
+      quiet = λ _. quiet;
+      tells = tells;
     }

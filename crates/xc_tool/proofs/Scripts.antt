@@ -2,9 +2,10 @@
 use Rattle.std.proofs.Common.{◌≡◌, ℕ, zero, suc, ◌+◌, ◌<◌, Bool, true, false, List, [], ◌∷◌, ◌++◌, length, map, take, get_or, Bor, refl, sym, ap, ◌∙◌, arith}
 use Rattle.std.specs.Prelude.{Option, Some, None, ◌&&◌, codes, if◌then◌else◌}
 use Rattle.std.specs.Str.{bytes_eq}
-use Rattle.xc_base.specs.Names.{is_key, key_fault}
+use Rattle.xc_base.specs.Names.{is_key, is_plain, key_fault}
 use Rattle.xc_base.specs.declared.name.BadName.{BadName}
-use Rattle.xc_base.proofs.NameLemmas.{key-has_no_fault}
+use Rattle.xc_base.proofs.NameLemmas.{key-has_no_fault, key-no_fault, name-no_fault}
+use Rattle.std.proofs.lemmas.Bool.{and_parts, and_from}
 use Rattle.xc_base.specs.Words.{split_on}
 use Rattle.xc_record.specs.declared.session.Command.{Command}
 use Rattle.xc_record.specs.declared.session.Command.TheVariants as command
@@ -61,9 +62,15 @@ too_few [] h = refl
 too_few (a ∷ []) h = refl
 too_few (a ∷ b ∷ lines) h = absurd (omega arith)
 
--- bytes with a fault are no key
+-- bytes without a fault are a key
+pub plain_key : (bytes key : List ℕ) → key ≡ bytes → None ≡ key_fault bytes → Some (command.Read key) ≡ read_of bytes
+plain_key bytes key is e =
+    let whole = and_from (is_key bytes) (is_plain bytes) (key-no_fault bytes (sym e)) (name-no_fault 1 32 bytes (sym e)).inside in
+    ap (λ k. Some (command.Read k)) is ∙ sym (ap (λ b. if b then Some (command.Read bytes) else None) whole)
+
+-- bytes with a fault are none
 pub no_key : (bytes : List ℕ) (bad : BadName) → Some bad ≡ key_fault bytes → None ≡ read_of bytes
-no_key bytes bad e = elim (is_key bytes) as (λ b. is_key bytes ≡ b → None ≡ (if b then Some (command.Read bytes) else None)) [
-  | true ↦ λ h. let none : Some bad ≡ None = e ∙ key-has_no_fault bytes h in cc
+no_key bytes bad e = elim (is_key bytes && is_plain bytes) as (λ b. (is_key bytes && is_plain bytes) ≡ b → None ≡ (if b then Some (command.Read bytes) else None)) [
+  | true ↦ λ h. let parts = and_parts (is_key bytes) (is_plain bytes) h in let none : Some bad ≡ None = e ∙ key-has_no_fault bytes parts.0 parts.1 in cc
   | false ↦ λ h. refl
 ] refl

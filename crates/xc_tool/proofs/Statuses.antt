@@ -3,21 +3,21 @@ use Rattle.std.proofs.Common.{◌≡◌, ℕ, Bool, true, false, List, Option, S
 use Rattle.std.specs.Prelude.{nat_lt, length, ◌^◌}
 use Rattle.xc_base.specs.declared.status.Status.{Status}
 use Rattle.xc_base.specs.declared.status.Status.TheVariants as status
-use Rattle.xc_base.specs.declared.status.Stop.{Stop}
-use Rattle.xc_base.specs.declared.status.Stop.TheVariants as stop
-use Rattle.xc_base.specs.Streams.{Stream, IsUntouched}
-use Rattle.xc_base.specs.Ran.{Output, Reads, Took, Wrote, Ended, Ran, Is, Shows, IsEnded, ◌>>=◌, output_of}
+use Rattle.xc_run.specs.declared.stop.Stop.{Stop}
+use Rattle.xc_run.specs.declared.stop.Stop.TheVariants as stop
+use Rattle.xc_run.specs.Streams.{Stream, IsUntouched}
+use Rattle.xc_run.specs.Ran.{Output, Reads, Took, Wrote, Ended, Ran, Is, Shows, IsEnded, ◌>>=◌, output_of}
 use Rattle.xc_agree.specs.declared.audit.Audit.{Audit}
 use Rattle.xc_record.specs.declared.record.Logs.{Logs}
 use Rattle.xc_record.specs.declared.session.Command.{Command}
-use Rattle.xc_record.specs.Agreement.{disagreement}
+use Rattle.xc_agree.specs.Audit.{audit_of}
 use Rattle.xc_text.specs.LogText.{BadLine, logs_of}
 use Rattle.xc_tool.specs.declared.refusal.Refusal.{Refusal}
 use Rattle.xc_tool.specs.declared.refusal.Refusal.TheVariants.{LogsTooLong, BadLogs, LaterLogs, Disagree, ScriptTooLong, LaterScript}
 use Rattle.xc_tool.specs.declared.words.Form.{Form}
-use Rattle.xc_tool.specs.declared.words.Form.TheVariants.{Audit as AuditForm, Replay}
+use Rattle.xc_tool.specs.declared.words.Form.TheVariants.{Audit as AuditForm, Replay, Upgrade}
 use Rattle.xc_tool.specs.Later.{is_later}
-use Rattle.xc_tool.specs.Outcome.{refusal_output, refusal_status, output_for, replay_input, replay_output, audit_input, audit_in, audit_of_logs, unless_disagree, audit_output, reads_of, logs_input, logs_in, logs_spelled, logs_taken, script_input, script_taken, usage_output, InOrder, StopsInOrder, IsUsage}
+use Rattle.xc_tool.specs.Outcome.{refusal_output, refusal_status, output_for, replay_input, replay_output, audit_input, audit_in, unless_disagree, audit_output, upgrade_input, upgrade_output, reads_of, logs_input, logs_in, logs_spelled, logs_taken, script_input, script_taken, usage_output, InOrder, StopsInOrder, IsUsage}
 use Rattle.xc_tool.specs.Script.{script_of}
 
 -- a refusal's status isn't that of a run that came to its own end
@@ -53,6 +53,7 @@ usage_only : (form : Option Form) (a b : List ℕ) → (output_for form a b).sta
 usage_only None a b e = refl
 usage_only (Some Replay) a b e = absurd (not_usage (replay_input a b) replay_output (λ x e. not_end _ status.Usage ((λ h. cc), (λ h. cc)) e) e)
 usage_only (Some AuditForm) a b e = absurd (not_usage (audit_input a) audit_output (λ x e. not_end _ status.Usage ((λ h. cc), (λ h. cc)) e) e)
+usage_only (Some Upgrade) a b e = absurd (not_usage (upgrade_input a) upgrade_output (λ x h. cc) e)
 
 pub usage_ran : (form : Option Form) (reads : Reads) (result : Status) (logs script out : Stream)
     → Ran (Is (output_for form)) reads result logs script out → result ≡ status.Usage → form ≡ None
@@ -124,10 +125,10 @@ order_second x stop.NoMemory logs script first second = tt
 abbrev logs_alone : Reads
 logs_alone = record { logs = true; script = false }
 
-spelled_status : (d : Result Logs BadLine) (r : Refusal) → (logs_spelled d >>= (λ logs. unless_disagree (disagreement logs) (audit_of_logs logs))) ≡ Err r → refusal_status r ≡ status.BadScript → ⊥
-spelled_status (Ok logs) r e bad = elim (disagreement logs) as (λ o. unless_disagree o (audit_of_logs logs) ≡ Err r → ⊥) [
-  | None ↦ λ h. cc
-  | Some d ↦ λ h. let s : Disagree d.txn d.tablet d.kind ≡ r = cc in let never : status.Disagree ≡ status.BadScript = ap refusal_status s ∙ bad in cc
+spelled_status : (d : Result Logs BadLine) (r : Refusal) → (logs_spelled d >>= (λ logs. unless_disagree (audit_of logs))) ≡ Err r → refusal_status r ≡ status.BadScript → ⊥
+spelled_status (Ok logs) r e bad = elim (audit_of logs) as (λ o. unless_disagree o ≡ Err r → ⊥) [
+  | Ok audit ↦ λ h. cc
+  | Err d ↦ λ h. let s : Disagree d.txn d.tablet d.kind ≡ r = cc in let never : status.Disagree ≡ status.BadScript = ap refusal_status s ∙ bad in cc
 ] e
 spelled_status (Err b) r e bad = let s : BadLogs b.line b.kind ≡ r = cc in let never : status.BadLogs ≡ status.BadScript = ap refusal_status s ∙ bad in cc
 
@@ -138,6 +139,17 @@ audit_refused text r e bad = elim (nat_lt (2 ^ 26) (length text)) as (λ b. (if 
   | false ↦ λ h. spelled_status (logs_of text) r h bad
 ] e
 
+any_status : (d : Result Logs BadLine) (r : Refusal) → logs_spelled d ≡ Err r → refusal_status r ≡ status.BadScript → ⊥
+any_status (Ok logs) r e bad = cc
+any_status (Err b) r e bad = let s : BadLogs b.line b.kind ≡ r = cc in let never : status.BadLogs ≡ status.BadScript = ap refusal_status s ∙ bad in cc
+
+-- and so does an upgrade
+upgrade_refused : (text : List ℕ) (r : Refusal) → upgrade_input text ≡ Err r → refusal_status r ≡ status.BadScript → ⊥
+upgrade_refused text r e bad = elim (nat_lt (2 ^ 26) (length text)) as (λ b. (if b then Err LogsTooLong else logs_spelled (logs_of text)) ≡ Err r → ⊥) [
+  | true ↦ λ h. let s : LogsTooLong ≡ r = cc in let never : status.BadLogs ≡ status.BadScript = ap refusal_status s ∙ bad in cc
+  | false ↦ λ h. any_status (logs_of text) r h bad
+] e
+
 -- the logs of an audit stopped
 pub audit_stops_in_order : (s : Stop Refusal) (logs script : Stream) → Took audit_input (Err s) logs → IsUntouched script → StopsInOrder logs_alone s logs script
 audit_stops_in_order (stop.Refused r) logs script took same = record {
@@ -146,6 +158,15 @@ audit_stops_in_order (stop.Refused r) logs script took same = record {
 }
 audit_stops_in_order stop.ReadFault logs script took same = tt
 audit_stops_in_order stop.NoMemory logs script took same = tt
+
+-- those of an upgrade stopped
+pub upgrade_stops_in_order : (s : Stop Refusal) (logs script : Stream) → Took upgrade_input (Err s) logs → IsUntouched script → StopsInOrder logs_alone s logs script
+upgrade_stops_in_order (stop.Refused r) logs script took same = record {
+  logs_first = λ e. same;
+  script_next = λ e. absurd (upgrade_refused took.bytes r took.found e);
+}
+upgrade_stops_in_order stop.ReadFault logs script took same = tt
+upgrade_stops_in_order stop.NoMemory logs script took same = tt
 
 shown_status : (output : Output) (s result : Status) (out : Stream) → ((o : Output) → Shows o s out → s ≡ o.status) → Shows output result out → result ≡ s → s ≡ output.status
 shown_status output s result out reads shown e = reads output (subst (λ r. Shows output r out) e shown)
@@ -165,6 +186,9 @@ replay_in_order input reads result logs script out wrote =
 pub audit_in_order : (audit : Audit) (reads : Reads) (result : Status) (logs script out : Stream) → Wrote (audit_output audit) ⊥ result out → InOrder reads result logs script
 audit_in_order audit reads result logs script out wrote =
     written_in_order (audit_output audit) reads result logs script out (λ e. not_end _ status.BadLogs ((λ h. cc), (λ h. cc)) (sym e)) (λ e. not_end _ status.BadScript ((λ h. cc), (λ h. cc)) (sym e)) wrote
+
+pub upgrade_in_order : (upgraded : Logs) (reads : Reads) (result : Status) (logs script out : Stream) → Wrote (upgrade_output upgraded) ⊥ result out → InOrder reads result logs script
+upgrade_in_order upgraded reads result logs script out wrote = written_in_order (upgrade_output upgraded) reads result logs script out (λ e. cc) (λ e. cc) wrote
 
 -- the input stopped, and its line was written
 pub ended_in_order : (reads : Reads) (s : Stop Refusal) (result : Status) (logs script out : Stream) → StopsInOrder reads s logs script → Ended refusal_output s result out → InOrder reads result logs script

@@ -8,7 +8,7 @@
 use Rattle.std.specs.Prelude.{ℕ, ◌+◌, Bool, true, false, List, [], ◌∷◌, ◌++◌, codes, decimal}
 use Rattle.std.specs.List.{join_with_byte}
 use Rattle.xc_record.specs.declared.record.AgreeKind.{AgreeKind}
-use Rattle.xc_record.specs.declared.record.AgreeKind.TheVariants.{CommitDiffers, LateIntent, Aborted, Straggler}
+use Rattle.xc_record.specs.declared.record.AgreeKind.TheVariants.{CommitDiffers, RollbackDiffers, LateIntent, Aborted, Straggler}
 use Rattle.xc_agree.specs.declared.audit.Audit.{Audit}
 use Rattle.xc_agree.specs.declared.audit.End.{End}
 use Rattle.xc_agree.specs.declared.audit.EndState.{EndState}
@@ -17,6 +17,7 @@ use Rattle.xc_tool.specs.Lines.{break_name}
 
 abbrev pub agree_name : AgreeKind → List ℕ
 agree_name CommitDiffers = codes "commit-differs"
+agree_name RollbackDiffers = codes "rollback-differs"
 agree_name LateIntent = codes "late-intent"
 agree_name Aborted = codes "aborted"
 agree_name Straggler = codes "straggler"

@@ -11,8 +11,8 @@ use Rattle.xc_record.specs.Valid.{is_valid}
 
 abbrev pub is_of_transaction : Kind → Bool
 is_of_transaction (Write ops) = false
-is_of_transaction (Intent txn ops) = true
-is_of_transaction (Apply txn commit) = true
+is_of_transaction (Intent txn sub ops) = true
+is_of_transaction (Apply txn commit without) = true
 is_of_transaction (Abort txn) = true
 is_of_transaction (Safe value) = false
 is_of_transaction (Split at left right) = false

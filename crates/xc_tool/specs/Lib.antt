@@ -5,3 +5,4 @@ pub mod AuditLines
 pub mod Script
 pub mod OneTablet
 pub mod Outcome
+pub mod Upgrades

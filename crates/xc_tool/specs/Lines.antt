@@ -1,10 +1,11 @@
 -- The lines of output, as they are written.
 --     break_name kind      the name of a break of the order rules
---     value_word value      `=` and the value, or `absent`
+--     value_word value      `=` and the value's word, or `absent`
 --     line_text line      a line with its end
 --     lines_text lines      lines one after the other
 use Rattle.std.specs.Prelude.{ℕ, Bool, true, false, List, [], ◌∷◌, ◌++◌, codes, decimal, Option, Some, None, map, flat_map}
 use Rattle.std.specs.List.{join_with_byte}
+use Rattle.xc_base.specs.Escapes.{escaped}
 use Rattle.xc_record.specs.declared.record.Break.{Break}
 use Rattle.xc_record.specs.declared.record.Break.TheVariants as break
 use Rattle.xc_record.specs.declared.session.Line.{Line}
@@ -20,7 +21,7 @@ break_name break.AfterSplit = codes "after-split"
 
 abbrev pub value_word : Option (List ℕ) → List ℕ
 value_word None = codes "absent"
-value_word (Some value) = codes "=" ++ value
+value_word (Some value) = codes "=" ++ escaped value
 
 -- numbers parted by commas, in brackets
 abbrev pub number_list : List ℕ → List ℕ
@@ -47,14 +48,14 @@ line_words (line.Ack id place) = codes "ack" ∷ decimal id ∷ decimal place �
 line_words (line.Restart id place) = codes "restart" ∷ decimal id ∷ decimal place ∷ []
 line_words (line.Closed t) = codes "closed" ∷ decimal t ∷ []
 line_words (line.Drain t) = codes "drain" ∷ decimal t ∷ []
-line_words (line.Saw reader t key value) = codes "saw" ∷ decimal reader ∷ decimal t ∷ key ∷ value_word value ∷ []
+line_words (line.Saw reader t key value) = codes "saw" ∷ decimal reader ∷ decimal t ∷ escaped key ∷ value_word value ∷ []
 line_words (line.Safe t) = codes "safe" ∷ decimal t ∷ []
-line_words (line.Read t key value) = codes "read" ∷ decimal t ∷ key ∷ value_word value ∷ []
-line_words (line.ReadAt u key value) = codes "readat" ∷ decimal u ∷ key ∷ value_word value ∷ []
+line_words (line.Read t key value) = codes "read" ∷ decimal t ∷ escaped key ∷ value_word value ∷ []
+line_words (line.ReadAt u key value) = codes "readat" ∷ decimal u ∷ escaped key ∷ value_word value ∷ []
 line_words (line.Ahead u safe) = codes "ahead" ∷ decimal u ∷ decimal safe ∷ []
 line_words (line.Pruned u cutoff) = codes "pruned" ∷ decimal u ∷ decimal cutoff ∷ []
 line_words (line.Scan t count) = codes "scan" ∷ decimal t ∷ decimal count ∷ []
-line_words (line.Row key value) = codes "row" ∷ key ∷ value_word (Some value) ∷ []
+line_words (line.Row key value) = codes "row" ∷ escaped key ∷ value_word (Some value) ∷ []
 line_words (line.Prune cutoff) = codes "prune" ∷ decimal cutoff ∷ []
 line_words (line.Failover t count) = codes "failover" ∷ decimal t ∷ decimal count ∷ []
 line_words (line.Report acks closed cursors cutoff places safe) = codes "report" ∷ report_object acks closed cursors cutoff places safe ∷ []

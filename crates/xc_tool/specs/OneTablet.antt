@@ -1,5 +1,5 @@
 -- The session over the one root tablet that a replay takes now. This file goes when a replay takes more.
---     session_at place      the session after so many records were pulled
+--     session_at place      the session after so many records were polled
 --     IsPulled records place order      the first records, so many, were all accepted, and the order of the tablet stands after them
 --     HasRecords logs records      the logs have one tablet, with these records
 --     Answers records before request after line      for all such logs the request is answered with the line, and the session goes on
@@ -29,7 +29,7 @@ use Rattle.xc_tool.specs.Later.{IsTaken}
 use Rattle.xc_tool.specs.Script.{asked}
 
 abbrev pub session_at : ℕ → Session
-session_at place = record { places = place ∷ []; cursors = place ∷ []; acks = 0 ∷ []; cutoff = 0; closed = None }
+session_at place = record { positions = record { place = place; cursor = place; acknowledged = 0 } ∷ []; cutoff = 0; closed = None }
 
 pub record IsPulled (records : List Record) (place : ℕ) (order : Progress) : Type 0 where
   pub within : place ≤ length records

@@ -4,31 +4,29 @@
 --     reads_of form      which sources the command reads
 --     line_of refusal, refusal_status refusal      the line that a refusal writes, and its status
 --     InOrder reads result logs script      a refusal came in the order of work
-use Rattle.std.specs.Prelude.{◌≡◌, ℕ, ◌+◌, ◌^◌, true, false, if◌then◌else◌, List, [], ◌∷◌, ◌++◌, length, codes, decimal, Option, Some, None, Result, Ok, Err}
+use Rattle.std.specs.Prelude.{◌≡◌, ℕ, ◌^◌, true, false, if◌then◌else◌, List, ◌++◌, codes, decimal, Option, Some, None, Result, Ok, Err}
 use Rattle.std.specs.List.{list_any}
 use Rattle.xc_base.specs.declared.status.Status.{Status}
 use Rattle.xc_base.specs.declared.status.Status.TheVariants as status
-use Rattle.xc_base.specs.declared.status.Stop.{Stop}
-use Rattle.xc_base.specs.declared.status.Stop.TheVariants as stop
-use Rattle.xc_base.specs.Streams.{Stream, IsUntouched, Used}
-use Rattle.xc_base.specs.Ran.{Output, Reads, ◌>>=◌, output_of, within}
-use Rattle.xc_agree.specs.Audit.{end_of}
+use Rattle.xc_run.specs.declared.stop.Stop.{Stop}
+use Rattle.xc_run.specs.declared.stop.Stop.TheVariants as stop
+use Rattle.xc_run.specs.Streams.{Stream, IsUntouched, Used}
+use Rattle.xc_run.specs.Ran.{Output, Reads, ◌>>=◌, output_of, within}
+use Rattle.xc_agree.specs.Audit.{audit_of}
 use Rattle.xc_agree.specs.declared.audit.Audit.{Audit}
-use Rattle.xc_agree.specs.declared.audit.End.{End}
 use Rattle.xc_record.specs.declared.record.Logs.{Logs}
 use Rattle.xc_record.specs.declared.session.Command.{Command}
 use Rattle.xc_record.specs.declared.session.Line.{Line}
-use Rattle.xc_record.specs.Accepted.{AcceptedTablet, accepted_tablets}
-use Rattle.xc_record.specs.Agreement.{Disagreement, disagreement}
-use Rattle.xc_record.specs.Commits.{commits}
+use Rattle.xc_record.specs.Agreement.{Disagreement}
 use Rattle.xc_record.specs.Session.{start}
 use Rattle.xc_record.specs.Step.{lines_from}
 use Rattle.xc_text.specs.Kinds.{kind_name}
 use Rattle.xc_text.specs.LogText.{BadLine, logs_of}
+use Rattle.xc_text.specs.Printed.{text2_of}
 use Rattle.xc_tool.specs.declared.refusal.Refusal.{Refusal}
 use Rattle.xc_tool.specs.declared.refusal.Refusal.TheVariants.{LogsTooLong, BadLogs, LaterLogs, Disagree, ScriptTooLong, LaterScript}
 use Rattle.xc_tool.specs.declared.words.Form.{Form}
-use Rattle.xc_tool.specs.declared.words.Form.TheVariants.{Audit as AuditForm, Replay}
+use Rattle.xc_tool.specs.declared.words.Form.TheVariants.{Audit as AuditForm, Replay, Upgrade}
 use Rattle.xc_tool.specs.AuditLines.{agree_name, audit_text, is_halted}
 use Rattle.xc_tool.specs.Later.{is_later}
 use Rattle.xc_tool.specs.Lines.{lines_text, is_halt}
@@ -57,27 +55,23 @@ logs_in text = do
 abbrev pub logs_input : List ℕ → Result Logs Refusal
 logs_input = within (2 ^ 26) LogsTooLong logs_in
 
--- how far the logs of the tablets from the number s on are accepted
-abbrev pub ends_from : Logs → ℕ → List AcceptedTablet → List End
-ends_from logs s [] = []
-ends_from logs s (b ∷ bs) = end_of logs s b ∷ ends_from logs (s + 1) bs
-
--- the same of all tablets, and how many writes and transactions commit
-abbrev pub audit_of_logs : Logs → Audit
-audit_of_logs logs = record { ends = ends_from logs 0 (accepted_tablets logs); commits = length (commits logs) }
-
-abbrev pub unless_disagree : Option Disagreement → Audit → Result Audit Refusal
-unless_disagree None audit = Ok audit
-unless_disagree (Some d) audit = Err (Disagree d.txn d.tablet d.kind)
+-- the audit, where the tablets agree
+abbrev pub unless_disagree : Result Audit Disagreement → Result Audit Refusal
+unless_disagree (Ok audit) = Ok audit
+unless_disagree (Err d) = Err (Disagree d.txn d.tablet d.kind)
 
 abbrev pub audit_in : List ℕ → Result Audit Refusal
 audit_in text = do
   logs ← logs_spelled (logs_of text)
-  unless_disagree (disagreement logs) (audit_of_logs logs)
+  unless_disagree (audit_of logs)
 
 -- the audit of the logs of a source, whatever they hold, where their tablets agree
 abbrev pub audit_input : List ℕ → Result Audit Refusal
 audit_input = within (2 ^ 26) LogsTooLong audit_in
+
+-- the logs of a source, whatever they hold
+abbrev pub upgrade_input : List ℕ → Result Logs Refusal
+upgrade_input = within (2 ^ 26) LogsTooLong (λ text. logs_spelled (logs_of text))
 
 abbrev pub script_taken : Option (List Command) → Result (List Command) Refusal
 script_taken (Some commands) = Ok commands
@@ -102,8 +96,8 @@ lines_output lines = record { text = lines_text lines; status = if list_any is_h
 abbrev pub replay_output : Logs × List Command → Output
 replay_output input = lines_output (lines_from input.0 (start input.0) input.1)
 
-abbrev pub replay_of : List ℕ → List ℕ → Defined
-replay_of logs script = do
+abbrev pub replay_run : List ℕ → List ℕ → Defined
+replay_run logs script = do
   input ← replay_input logs script
   Ok (replay_output input)
 
@@ -111,23 +105,34 @@ replay_of logs script = do
 abbrev pub audit_output : Audit → Output
 audit_output audit = record { text = audit_text audit; status = if list_any is_halted audit.ends then status.Halted else status.Ok }
 
-abbrev pub audit_of : List ℕ → List ℕ → Defined
-audit_of logs script = do
+abbrev pub audit_run : List ℕ → List ℕ → Defined
+audit_run logs script = do
   audit ← audit_input logs
   Ok (audit_output audit)
+
+-- the log text of version 2
+abbrev pub upgrade_output : Logs → Output
+upgrade_output logs = record { text = text2_of logs; status = status.Ok }
+
+abbrev pub upgrade_run : List ℕ → List ℕ → Defined
+upgrade_run logs script = do
+  l ← upgrade_input logs
+  Ok (upgrade_output l)
 
 abbrev pub usage_output : Output
 usage_output = record { text = codes "usage: the words after xcr do not form a command\n"; status = status.Usage }
 
 abbrev pub run_of : Option Form → List ℕ → List ℕ → Defined
 run_of None logs script = Ok usage_output
-run_of (Some Replay) logs script = replay_of logs script
-run_of (Some AuditForm) logs script = audit_of logs script
+run_of (Some Replay) logs script = replay_run logs script
+run_of (Some AuditForm) logs script = audit_run logs script
+run_of (Some Upgrade) logs script = upgrade_run logs script
 
 abbrev pub reads_of : Option Form → Reads
 reads_of None = record { logs = false; script = false }
 reads_of (Some Replay) = record { logs = true; script = true }
 reads_of (Some AuditForm) = record { logs = true; script = false }
+reads_of (Some Upgrade) = record { logs = true; script = false }
 
 -- ---- the line of a refusal, and the statuses
 

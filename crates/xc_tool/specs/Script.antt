@@ -5,7 +5,7 @@
 use Rattle.std.specs.Prelude.{ℕ, ◌^◌, ◌&&◌, nat_le, List, [], ◌∷◌, codes, length, Option, Some, None, option_and_then, if◌then◌else◌}
 use Rattle.std.specs.Option.{option_map}
 use Rattle.std.specs.Str.{bytes_eq}
-use Rattle.xc_base.specs.Names.{is_key}
+use Rattle.xc_base.specs.Names.{is_key, is_plain}
 use Rattle.xc_base.specs.Words.{split_on, number_of}
 use Rattle.xc_record.specs.declared.session.Command.{Command}
 use Rattle.xc_record.specs.declared.session.Command.TheVariants as command
@@ -20,8 +20,9 @@ asked (Read key) = command.Read key
 abbrev pub poll_of : ℕ → Option Command
 poll_of n = if nat_le 1 n && nat_le n (2 ^ 20) then Some (command.Poll 0 n) else None
 
+-- a read of a plain key
 abbrev pub read_of : List ℕ → Option Command
-read_of key = if is_key key then Some (command.Read key) else None
+read_of key = if is_key key && is_plain key then Some (command.Read key) else None
 
 abbrev pub command_of : List (List ℕ) → Option Command
 command_of (name ∷ key ∷ []) = if bytes_eq name (codes "read") then read_of key else None

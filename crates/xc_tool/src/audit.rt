@@ -1,8 +1,8 @@
 // The command `audit`: the logs, whether their tablets agree, and then a line for each tablet and the number of commits.
 ghost use Rattle.std.specs.Prelude.{◌≡◌, ◌++◌, [], ◌∷◌, IfOk, Some, string_bytes};
 ghost use Rattle.std.specs.List.{list_any};
-ghost use Rattle.xc_base.specs.Ran.{Wrote, Ran, Is};
-ghost use Rattle.xc_base.specs.Streams.{Stream, stream, IsUntouched};
+ghost use Rattle.xc_run.specs.Ran.{Wrote, Ran, Is};
+ghost use Rattle.xc_run.specs.Streams.{Stream, stream, IsUntouched};
 ghost use Rattle.xc_tool.specs.AuditLines.{state_words, log_words, line_of_words, log_line, logs_text, agrees_line, is_halted};
 ghost use Rattle.xc_tool.specs.Outcome.{audit_output, output_for, reads_of, InOrder};
 

@@ -3,6 +3,7 @@
 
 mod audit;
 mod later;
+mod laws;
 mod lines;
 mod quiet;
 mod refusal;
@@ -12,8 +13,10 @@ mod script;
 mod session;
 mod steps;
 mod top;
+mod upgrade;
 mod words;
 
+pub use laws::an_upgrade_keeps_the_audit;
 pub use quiet::run_quiet;
 pub use refusal::Refusal;
 pub use top::run;
@@ -36,6 +39,18 @@ mod tests {
     const REPLAY: &str = "replay logs script";
 
     const AUDIT: &str = "audit logs";
+
+    const UPGRADE: &str = "upgrade logs";
+
+    // Of two tablets whose lines are mixed, and which disagree.
+    const MIXED: &str =
+        "xclog 1\ntablet 0 0 32767 root\ntablet 1 32768 65535 root\n1 11 intent 4 sub 1 +zzz=2\n0 10 intent 4 sub 1 +aaa=1\n1 21 apply 4 15\n0 20 apply 4 15 without 1\nend\n";
+
+    const MIXED_UPGRADED: &str =
+        "xclog 2\ntablet 0 0 32767 root\ntablet 1 32768 65535 root\n0 10 intent 4 sub 1 +aaa=1\n0 20 apply 4 15 without 1\n1 11 intent 4 sub 1 +zzz=2\n1 21 apply 4 15\nend\n";
+
+    const ANY_BYTES: &str =
+        "xclog 2\ntablet 0 0 65535 root\n0 10 write +aaa=%201%0A +a%20b=2\n0 12 safe 11\nend\n";
 
     fn bytes(alloc: Global, text: &str) -> Result<Bytes, Fail> {
         Ok(Bytes::from_vec(text.as_bytes().to_vec(alloc)?))
@@ -116,7 +131,26 @@ mod tests {
     }
 
     #[test]
-    fn a_fault_at_any_call_leaves_a_front(rt: HostRuntime) -> Result<(), Fail> {
+    fn an_upgrade_writes_the_logs_as_version_2(rt: HostRuntime) -> Result<(), Fail> {
+        let alloc = rt.alloc();
+        for (logs, status, output) in [
+            (MIXED, Status::Ok, MIXED_UPGRADED),
+            (ANY_BYTES, Status::Ok, ANY_BYTES),
+            ("xclog 3\n", Status::BadLogs, "bad logs 1 form\n"),
+        ] {
+            let mut logs = QuietSource::new(bytes(alloc, logs)?);
+            let mut script = QuietSource::new(bytes(alloc, SCRIPT)?);
+            let mut out = QuietSink::new(alloc);
+            let asked = words(alloc, UPGRADE)?;
+            let found = run_quiet(alloc, &asked, &mut logs, &mut script, &mut out);
+            assert_eq!(rt; found, status);
+            assert_eq!(rt; out.written(), output.as_bytes());
+        }
+        Ok(())
+    }
+
+    #[test]
+    fn a_fault_at_any_call_leaves_a_prefix(rt: HostRuntime) -> Result<(), Fail> {
         let alloc = rt.alloc();
         let asked = words(alloc, REPLAY)?;
         for (logs, script, out, status) in [

@@ -1,10 +1,11 @@
 // The lines of output, as they are written.
 ghost use Rattle.std.specs.Prelude.{◌≡◌, ◌++◌, [], ◌∷◌, IfOk, OnOk, string_bytes, codes, map, decimal};
 ghost use Rattle.std.specs.List.{join_with_byte};
+ghost use Rattle.xc_base.specs.Escapes.{escaped};
 ghost use Rattle.xc_tool.specs.Lines.{break_name, value_word, is_halt, line_text, number_list, report_object, truth};
 
 use std::alloc::{AllocError, Global};
-use xc_base::{Bytes, Key, Value};
+use xc_base::{Bytes, Key, Value, escape};
 use xc_record::{Break, Line};
 
 /// Whether the line is that of a pull that met a break of the order rules.
@@ -114,7 +115,7 @@ fn valued(
     key: &Key,
     value: &Option<Value>,
 ) -> Result<Bytes, AllocError>
-    ensures { IfOk result (λ text. text ≡ join_with_byte 32 (name.now ∷ decimal t ∷ key.now ∷ value_word value.now ∷ []) ++ codes "\n") }
+    ensures { IfOk result (λ text. text ≡ join_with_byte 32 (name.now ∷ decimal t ∷ escaped key.now ∷ value_word value.now ∷ []) ++ codes "\n") }
 {
     let start = format!(in alloc; "{name} {t} ")?;
     let mut text = bytes_of(start);
@@ -146,16 +147,26 @@ fn row(alloc: Global, key: &Key, value: &Value) -> Result<Bytes, AllocError>
     Ok(text)
 }
 
+// Adds the word of the bytes.
+fn add_word(text: &mut Bytes, bytes: &[u8]) -> Result<(), AllocError>
+    ensures { OnOk result (text.new ≡ text.old ++ escaped bytes.now) }
+{
+    match escape(bytes, text) {
+        Ok(()) => Ok(()),
+        Err(_) => Err(AllocError),
+    }
+}
+
 // Adds the key, its value, and the line's end.
 fn add_pair(text: &mut Bytes, key: &Key, value: &Option<Value>) -> Result<(), AllocError>
-    ensures { OnOk result (text.new ≡ text.old ++ (key.now ++ 32 ∷ (value_word value.now ++ codes "\n"))) }
+    ensures { OnOk result (text.new ≡ text.old ++ (escaped key.now ++ 32 ∷ (value_word value.now ++ codes "\n"))) }
 {
-    text.extend(key.bytes())?;
+    add_word(text, key.bytes())?;
     match value {
         None => text.extend(b" absent\n"),
         Some(value) => {
             text.extend(b" =")?;
-            text.extend(value.bytes())?;
+            add_word(text, value.bytes())?;
             text.extend(b"\n")
         }
     }

@@ -81,6 +81,7 @@ fn agree_name(kind: AgreeKind) -> &'static str
 {
     match kind {
         AgreeKind::CommitDiffers => "commit-differs",
+        AgreeKind::RollbackDiffers => "rollback-differs",
         AgreeKind::LateIntent => "late-intent",
         AgreeKind::Aborted => "aborted",
         AgreeKind::Straggler => "straggler",

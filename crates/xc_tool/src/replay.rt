@@ -1,7 +1,7 @@
 // The command `replay`: the logs, the script, and then the requests one by one, the line of each before the next.
 ghost use Rattle.std.specs.Prelude.{◌≡◌, IfOk, IfErr, true};
-ghost use Rattle.xc_base.specs.Ran.{Got, Wrote, Ran, Is};
-ghost use Rattle.xc_base.specs.Streams.{stream};
+ghost use Rattle.xc_run.specs.Ran.{Got, Wrote, Ran, Is};
+ghost use Rattle.xc_run.specs.Streams.{stream};
 ghost use Rattle.xc_record.specs.Session.{start};
 ghost use Rattle.xc_record.specs.Step.{lines_from};
 ghost use Rattle.xc_tool.specs.Later.{IsTaken};
@@ -17,8 +17,9 @@ use crate::session::Session;
 use crate::steps::{end, take_logs, take_script};
 use crate::words::Form;
 use std::alloc::Global;
-use xc_base::{Sink, SinkFail, Source, Status, Stop, write_all};
+use xc_base::{Sink, SinkFail, Source, Status, write_all};
 use xc_record::{Logs, Record};
+use xc_run::Stop;
 
 /// `replay LOGS SCRIPT`
 pub fn replay<L: Source, S: Source, O: Sink>(

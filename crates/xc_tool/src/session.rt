@@ -1,8 +1,6 @@
 // The session over the one root tablet that a replay takes now. This file goes when a replay takes more.
 ghost use Rattle.std.specs.Prelude.{◌≡◌, ◌+◌, ◌≤◌, ℕ, List, [], min, length, take, drop, None, IfOk, OnOk};
-ghost use Rattle.std.specs.Option.{option_map_or};
 ghost use Rattle.xc_record.specs.declared.record.Record.{Record};
-ghost use Rattle.xc_record.specs.Commits.{write_ops};
 ghost use Rattle.xc_record.specs.Accepted.{root_start};
 ghost use Rattle.xc_record.specs.Order.{accepted_from};
 ghost use Rattle.xc_tool.specs.OneTablet.{IsPulled, Stands, Answers, visible_ops, value_after, value_in};
@@ -12,7 +10,7 @@ use crate::script::Request;
 use std::alloc::{AllocError, Global};
 use xc_base::Key;
 use xc_order::Order;
-use xc_record::{Kind, Line, Op, Record};
+use xc_record::{Line, Record};
 
 /// How far the records were pulled, and the rows at the safe time.
 #[derive(Drop)]
@@ -109,20 +107,10 @@ impl Session {
             if rec.time.get() > t {
                 return Ok(());
             }
-            self.rows.put_all(written(rec))?;
+            self.rows.put_record(rec)?;
             self.shown = i + 1;
         }
         Ok(())
-    }
-}
-
-// The operations of a write.
-fn written(rec: &Record) -> &[Op]
-    ensures { result.now ≡ option_map_or (λ ops. ops) (write_ops rec.now.kind) [] }
-{
-    match &rec.kind {
-        Kind::Write { ops } => ops.as_slice(),
-        _ => &[],
     }
 }
 

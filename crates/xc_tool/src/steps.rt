@@ -1,11 +1,12 @@
 // What the commands of the tool are made of: reading a source whole, and writing a text.
 ghost use Rattle.std.specs.Prelude.{◌≡◌, IfOk, IfErr, IsErrOf, Ok, true};
-ghost use Rattle.xc_base.specs.Ran.{StopsAt, Took, Wrote, Ended};
-ghost use Rattle.xc_base.specs.Streams.{stream};
-ghost use Rattle.xc_record.specs.Agreement.{disagreement};
+ghost use Rattle.xc_run.specs.Ran.{StopsAt, Took, Wrote, Ended};
+ghost use Rattle.xc_run.specs.Streams.{stream};
+ghost use Rattle.xc_agree.specs.Audit.{audit_of};
 ghost use Rattle.xc_record.specs.Valid.{is_valid};
 ghost use Rattle.xc_tool.specs.Script.{script_of};
-ghost use Rattle.xc_tool.specs.Outcome.{logs_input, logs_in, audit_input, audit_in, unless_disagree, audit_of_logs, script_input, script_taken, refusal_output, usage_output};
+ghost use Rattle.xc_text.specs.LogText.{logs_of};
+ghost use Rattle.xc_tool.specs.Outcome.{logs_input, logs_in, logs_spelled, upgrade_input, audit_input, audit_in, unless_disagree, script_input, script_taken, refusal_output, usage_output};
 ghost use Rattle.xc_tool.specs.Later.{IsTaken};
 
 use crate::later::is_later;
@@ -13,9 +14,10 @@ use crate::refusal::Refusal;
 use crate::script::{Requests, read_script};
 use std::alloc::Global;
 use xc_agree::{AgreeFail, Audit, agree};
-use xc_base::{ReadAllFail, Sink, SinkFail, Source, Status, Stop, read_all, write_all};
+use xc_base::{Sink, SinkFail, Source, Status, write_all};
 use xc_logs::LogSet;
 use xc_record::Logs;
+use xc_run::{Stop, read_text};
 use xc_text::{LogsFail, read_logs};
 
 const LOGS_LIMIT: u64 = 1 << 26;
@@ -29,12 +31,7 @@ pub fn take_logs<L: Source>(alloc: Global, logs: &mut L) -> Result<Logs, Stop<Re
     ensures took { Took logs_input result (stream L.left L.faults logs.old logs.new) }
     ensures taken { IfOk result IsTaken }
 {
-    let text = match read_all(alloc, logs, LOGS_LIMIT) {
-        Ok(text) => text,
-        Err(ReadAllFail::TooLong) => return Err(Stop::Refused(Refusal::LogsTooLong)),
-        Err(ReadAllFail::Failed) => return Err(Stop::ReadFault),
-        Err(ReadAllFail::NoMemory) => return Err(Stop::NoMemory),
-    };
+    let text = read_text(alloc, logs, LOGS_LIMIT, Refusal::LogsTooLong)?;
     logs_in(alloc, text.as_slice())
 }
 
@@ -53,16 +50,34 @@ fn logs_in(alloc: Global, text: &[u8]) -> Result<Logs, Stop<Refusal>>
     }
 }
 
+/// The logs of a source, whatever they hold.
+pub fn take_any_logs<L: Source>(alloc: Global, logs: &mut L) -> Result<Logs, Stop<Refusal>>
+    ensures took { Took upgrade_input result (stream L.left L.faults logs.old logs.new) }
+    ensures valid { IfOk result (λ logs. is_valid logs ≡ true) }
+{
+    let text = read_text(alloc, logs, LOGS_LIMIT, Refusal::LogsTooLong)?;
+    spelled_logs(alloc, text.as_slice())
+}
+
+// The logs that a text spells.
+fn spelled_logs(alloc: Global, text: &[u8]) -> Result<Logs, Stop<Refusal>>
+    ensures read { IfOk result (λ logs. logs_spelled (logs_of text.now) ≡ Ok logs) }
+    ensures refused { IfErr result (StopsAt (logs_spelled (logs_of text.now))) }
+    ensures memory { IsErrOf result Stop.ReadFault → ⊥ }
+    ensures valid { IfOk result (λ logs. is_valid logs ≡ true) }
+{
+    match read_logs(alloc, text) {
+        Ok(logs) => Ok(logs),
+        Err(LogsFail::Bad { line, kind }) => Err(Stop::Refused(Refusal::BadLogs { line, kind })),
+        Err(LogsFail::NoMemory) => Err(Stop::NoMemory),
+    }
+}
+
 /// The audit of the logs of a source.
 pub fn take_audit<L: Source>(alloc: Global, logs: &mut L) -> Result<Audit, Stop<Refusal>>
     ensures { Took audit_input result (stream L.left L.faults logs.old logs.new) }
 {
-    let text = match read_all(alloc, logs, LOGS_LIMIT) {
-        Ok(text) => text,
-        Err(ReadAllFail::TooLong) => return Err(Stop::Refused(Refusal::LogsTooLong)),
-        Err(ReadAllFail::Failed) => return Err(Stop::ReadFault),
-        Err(ReadAllFail::NoMemory) => return Err(Stop::NoMemory),
-    };
+    let text = read_text(alloc, logs, LOGS_LIMIT, Refusal::LogsTooLong)?;
     audit_in(alloc, text.as_slice())
 }
 
@@ -81,8 +96,8 @@ fn audit_in(alloc: Global, text: &[u8]) -> Result<Audit, Stop<Refusal>>
 
 fn audit_of_logs(alloc: Global, logs: Logs) -> Result<Audit, Stop<Refusal>>
     requires { is_valid logs ≡ true }
-    ensures read { IfOk result (λ audit. unless_disagree (disagreement logs) (audit_of_logs logs) ≡ Ok audit) }
-    ensures refused { IfErr result (StopsAt (unless_disagree (disagreement logs) (audit_of_logs logs))) }
+    ensures read { IfOk result (λ audit. unless_disagree (audit_of logs) ≡ Ok audit) }
+    ensures refused { IfErr result (StopsAt (unless_disagree (audit_of logs))) }
     ensures memory { IsErrOf result Stop.ReadFault → ⊥ }
 {
     let logs = LogSet::new(logs);
@@ -99,12 +114,7 @@ fn audit_of_logs(alloc: Global, logs: Logs) -> Result<Audit, Stop<Refusal>>
 pub fn take_script<S: Source>(alloc: Global, script: &mut S) -> Result<Requests, Stop<Refusal>>
     ensures { Took script_input result (stream S.left S.faults script.old script.new) }
 {
-    let text = match read_all(alloc, script, SCRIPT_LIMIT) {
-        Ok(text) => text,
-        Err(ReadAllFail::TooLong) => return Err(Stop::Refused(Refusal::ScriptTooLong)),
-        Err(ReadAllFail::Failed) => return Err(Stop::ReadFault),
-        Err(ReadAllFail::NoMemory) => return Err(Stop::NoMemory),
-    };
+    let text = read_text(alloc, script, SCRIPT_LIMIT, Refusal::ScriptTooLong)?;
     script_in(alloc, text.as_slice())
 }
 

@@ -1,14 +1,16 @@
 // The top call, and the command that the words name.
 ghost use Rattle.std.specs.Prelude.{◌≡◌, List, ℕ, None, Some, map, string_bytes};
 ghost use Rattle.xc_base.specs.Causes.{Rose};
-ghost use Rattle.xc_base.specs.Ran.{Ran, Is, Shows, IsEnded, FaultIn};
-ghost use Rattle.xc_base.specs.Streams.{stream, Gave, Used, IsUntouched};
+ghost use Rattle.xc_base.specs.Told.{TellsAlike};
+ghost use Rattle.xc_run.specs.Ran.{Ran, Is, Shows, IsEnded, FaultIn, AreQuiet, AreTold};
+ghost use Rattle.xc_run.specs.Streams.{stream, Gave, Used, IsUntouched};
 ghost use Rattle.xc_tool.specs.Outcome.{outcome, output_for, reads_of, InOrder, IsUsage};
 ghost use Rattle.xc_tool.specs.Words.{form_of};
 
 use crate::audit::audit;
 use crate::replay::replay;
 use crate::steps::usage;
+use crate::upgrade::upgrade;
 use crate::words::{Form, form_of};
 use std::alloc::Global;
 use xc_base::{Sink, Source, Status};
@@ -18,7 +20,7 @@ use xc_base::{Sink, Source, Status};
 ///
 /// The sources and the sink may fail at any call. The status is `Usage` where the words form no command, `BadLogs` and
 /// `BadScript` where an input is refused, `Disagree` where the tablets of the logs of an audit disagree, `Halted` where a
-/// pull or an audit met a break of the order rules, and else `Ok`: with each of these the whole output was written. After `ReadFault`, `WriteFault` and `NoMemory` a front of it was.
+/// pull or an audit met a break of the order rules, and else `Ok`: with each of these the whole output was written. After `ReadFault`, `WriteFault` and `NoMemory` a prefix of it was.
 pub fn run<L: Source, S: Source, O: Sink>(
     alloc: Global,
     words: &[String],
@@ -26,8 +28,8 @@ pub fn run<L: Source, S: Source, O: Sink>(
     script: &mut S,
     out: &mut O,
 ) -> Status
-    // The output and the status are those of the words and of the bytes of the sources, or a front of the output
-    // went out before a fault or want of memory. The bytes are those that a source told, and any where it told none.
+    // The output and the status are those of the words and of the bytes of the sources, or a prefix of the output
+    // went out before a fault or out of memory. The bytes are those that a source told, and any where it told none.
     ensures defined { (a b : List ℕ) × Gave (L.left logs.old) a × Gave (S.left script.old) b
         × Shows (outcome (map string_bytes words.now) a b) result (stream O.written O.faults out.old out.new) }
 
@@ -39,6 +41,13 @@ pub fn run<L: Source, S: Source, O: Sink>(
     ensures read_fault { result ≡ Status.ReadFault → FaultIn (reads_of (form_of (map string_bytes words.now)))
         (stream L.left L.faults logs.old logs.new) (stream S.left S.faults script.old script.new) }
     ensures write_fault { result ≡ Status.WriteFault → Rose (O.faults out.old) (O.faults out.new) }
+
+    // Where no such fault is answered, none came. What told its bytes still does.
+    ensures read_quiet { (result ≡ Status.ReadFault → ⊥) →
+        AreQuiet (stream L.left L.faults logs.old logs.new) (stream S.left S.faults script.old script.new) }
+    ensures write_quiet { (result ≡ Status.WriteFault → ⊥) → O.faults out.new ≡ O.faults out.old }
+    ensures told_sources { AreTold (stream L.left L.faults logs.old logs.new) (stream S.left S.faults script.old script.new) }
+    ensures told_sink { TellsAlike (O.written out.old) (O.written out.new) }
 
     // What the command reads was read to its end, and what it doesn't read wasn't touched.
     ensures logs { Used (reads_of (form_of (map string_bytes words.now))).logs (IsEnded result) (stream L.left L.faults logs.old logs.new) }
@@ -87,5 +96,6 @@ fn command<L: Source, S: Source, O: Sink>(
     match form {
         Form::Replay => replay(alloc, logs, script, out),
         Form::Audit => audit(alloc, logs, out),
+        Form::Upgrade => upgrade(alloc, logs, out),
     }
 }

@@ -9,6 +9,8 @@ pub enum Form {
     Replay,
     /// `audit LOGS` says how far each log is accepted and whether the tablets agree.
     Audit,
+    /// `upgrade LOGS` prints the logs as a text of version 2.
+    Upgrade,
 }
 
 fn is_name(word: &str) -> bool
@@ -30,6 +32,7 @@ pub fn form_of(words: &[String]) -> Option<Form>
             Some(Form::Replay)
         }
         [word, logs] if word.as_str() == "audit" && is_name(logs.as_str()) => Some(Form::Audit),
+        [word, logs] if word.as_str() == "upgrade" && is_name(logs.as_str()) => Some(Form::Upgrade),
         _ => None,
     }
 }

@@ -1,13 +1,13 @@
-//! The program: opens the files that the words name, runs, and ends with the status of the run.
+//! The program: runs over the files that the words name, and ends with the status of the run.
 #![tactic(auto)]
 
 mod outside;
 
 use outside::{FileSource, StdSink};
-use std::fs::File;
+use std::io::ErrorKind;
 use std::process::ExitCode;
 use std::{env, io};
-use xc_tool::run;
+use xc_tool::{Status, run};
 
 // The words after the program's name.
 fn words(rt: &HostRuntime) -> io::Result<Vec<String>> {
@@ -18,16 +18,20 @@ fn words(rt: &HostRuntime) -> io::Result<Vec<String>> {
     Ok(words)
 }
 
-// The file that a word names.
-fn source(rt: &HostRuntime, word: Option<&String>) -> FileSource<File> {
-    match word {
-        Some(path) => FileSource::new(File::open(rt, path.as_str())),
-        None => FileSource::none(),
-    }
+// The file that a word names. It is opened once it is read, so none is where the words form no command.
+fn source<'a>(rt: &'a HostRuntime, word: Option<&'a String>) -> FileSource<'a> {
+    FileSource::new(rt, word.map(|word| word.as_str()))
 }
 
 fn main(rt: HostRuntime) -> ExitCode {
-    let words = words(&rt).unwrap_or(Vec::new(rt.alloc()));
+    let words = match words(&rt) {
+        Ok(words) => words,
+        Err(error) if error.kind() == ErrorKind::OutOfMemory => {
+            return ExitCode::from(Status::NoMemory.code());
+        }
+        // A word that is not UTF-8 is in no command.
+        Err(_) => Vec::new(rt.alloc()),
+    };
     let mut logs = source(&rt, words.get(1));
     let mut script = source(&rt, words.get(2));
     let mut out = StdSink::new(io::writer(&rt));

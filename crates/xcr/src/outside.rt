@@ -2,49 +2,52 @@
 // what the proofs say of them is only that a fault has its cause in them. The operating system's calls are trusted.
 ghost use Rattle.std.specs.Prelude.{◌≡◌, None};
 
-use std::io;
+use std::fs::File;
 use std::io::{ErrorKind, Read, Write};
 use xc_base::{Failed, Sink, SinkFail, Source};
 
-/// A file, or one that could not be opened, which fails at its first read. A read that a signal cut off is made again.
+/// A file that is opened at its first read. One that can't be opened, and no file at all, fail at each read. A read that a
+/// signal cut off is made again.
 #[derive(Drop)]
-pub struct FileSource<R: Read> {
-    file: Option<R>,
+pub struct FileSource<'a> {
+    rt: &'a HostRuntime,
+    path: Option<&'a str>,
+    file: Option<File>,
     faults: u64,
 }
 
-impl<R: Read> FileSource<R> {
-    /// The source of a file, or of the error of opening it. It has not failed yet, and does not tell its bytes.
-    pub fn new(file: io::Result<R>) -> FileSource<R>
-    where
-        R: Drop,
-        ensures left { ⟦<FileSource<R> as Source>⟧.left result ≡ None }
-        ensures faults { ⟦<FileSource<R> as Source>⟧.faults result ≡ 0 }
+impl<'a> FileSource<'a> {
+    /// The source of the file of this path, or of none. It has not failed yet, and does not tell its bytes.
+    pub fn new(rt: &'a HostRuntime, path: Option<&'a str>) -> FileSource<'a>
+        ensures left { ⟦<FileSource<'a> as Source>⟧.left result ≡ None }
+        ensures faults { ⟦<FileSource<'a> as Source>⟧.faults result ≡ 0 }
     {
         FileSource {
-            file: file.ok(),
-            faults: 0,
-        }
-    }
-
-    /// The source of no file, which fails at its first read.
-    pub fn none() -> FileSource<R>
-        ensures left { ⟦<FileSource<R> as Source>⟧.left result ≡ None }
-        ensures faults { ⟦<FileSource<R> as Source>⟧.faults result ≡ 0 }
-    {
-        FileSource {
+            rt,
+            path,
             file: None,
             faults: 0,
         }
     }
 }
 
-impl<R: Read> Source for FileSource<R> {
+// The file of the path.
+fn open(rt: &HostRuntime, path: Option<&str>) -> Option<File> {
+    match path {
+        Some(path) => File::open(rt, path).ok(),
+        None => None,
+    }
+}
+
+impl<'a> Source for FileSource<'a> {
     ghost left = { λ _. None };
 
     ghost faults = { λ s. s.faults };
 
     fn read(&mut self, buf: &mut [u8]) -> Result<usize, Failed> {
+        if self.file.is_none() {
+            self.file = open(self.rt, self.path);
+        }
         if let Some(file) = &mut self.file {
             for _ in 0..u64::MAX {
                 match file.read(buf) {

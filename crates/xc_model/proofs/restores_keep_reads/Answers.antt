@@ -1,4 +1,4 @@
-use Rattle.xc_model.proofs.KeepLaws.{restores-keep}
+use Rattle.xc_model.proofs.Restores.{restores-keep}
 use Rattle.xc_model.proofs.restores_keep_reads.Goals as goal
 
 pub returns : goal.returns

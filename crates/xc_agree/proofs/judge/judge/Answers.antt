@@ -14,12 +14,12 @@ take_all-requires c = omega (arith, c.in_ok-begin.ensures.place)
 
 pub returns-clause-idle : goal.returns-clause-idle
 returns-clause-idle c = λ idle slots.
-    c.clear.ensures c.args.commits.now (seen_at_end c.args.header.now c.args.held.now c.args.records.now)
+    c.clear.ensures c.args.commits.now (seen_at_end c.args.commits.now c.args.header.now c.args.held.now c.args.records.now)
     (c.in_ok-take_all.ensures (λ n x. unseen (waits_from c.args.header.now c.args.held.now n)) (c.in_ok-begin.ensures.begun c.args.commits.now idle slots))
 
 pub returns-clause-found : goal.returns-clause-found
 returns-clause-found c = λ idle slots.
-    c.finish-found.ensures (seen_at_end c.args.header.now c.args.held.now c.args.records.now)
+    c.finish-found.ensures (seen_at_end c.args.commits.now c.args.header.now c.args.held.now c.args.records.now)
     (c.in_ok-take_all.ensures (λ n x. unseen (waits_from c.args.header.now c.args.held.now n)) (c.in_ok-begin.ensures.begun c.args.commits.now idle slots))
 
 pub returns-clause-left : goal.returns-clause-left

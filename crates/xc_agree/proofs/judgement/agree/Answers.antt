@@ -1,6 +1,9 @@
 use Rattle.std.proofs.Common.{refl}
-use Rattle.xc_agree.proofs.AuditLaws.{fails, audits}
+use Rattle.xc_agree.proofs.AuditLaws.{fails, audits, undone-here}
 use Rattle.xc_agree.proofs.judgement.agree.Goals as goal
+
+pub first_case-requires-clause-undone : goal.first_case-requires-clause-undone
+first_case-requires-clause-undone c = undone-here c.tablets-tablets.result.now c.in-Ok-note_commits.tally c.in-Ok-note_commits.ensures
 
 pub returns-in-Some-clause-fail : goal.returns-in-Some-clause-fail
 returns-in-Some-clause-fail c =

@@ -41,7 +41,7 @@ loop-i-preserved c =
     let slots = held-in c.loop-i.lefts.items c.as_slice.result.now c.in_ok-lasts.lasts.items c.args.commits.now (accepted_tablets_after [] (take c.loop-i.i c.args.tablets.now)) c.index-tablets-i.result.header.parent c.as_slice.ensures.value h.left in
     let next = tablet-next c.args.tablets.now c.loop-i.i c.index-tablets-i.result c.index-runs-i.result c.in_ok-lasts.lasts.items c.args.commits.now c.loop-i.lefts.items c.as_slice.result.now c.drop_left.new.lefts.items
     c.in_ok-judged.judged.left c.in_ok-judged.judged.found c.loop-i.first c.first_of-first.result c.index.result.now
-    c.as_slice.ensures.value (valid_parts (of_tablets c.args.tablets.now) c.requires.valid) c.loop-i-test.true c.index-tablets-i.is
+    c.as_slice.ensures.value (valid_parts (of_tablets c.args.tablets.now) c.requires.valid) c.requires.undone c.loop-i-test.true c.index-tablets-i.is
     (run-here c.args.runs.now c.args.tablets.now c.loop-i.i c.index-runs-i.result c.index-tablets-i.result c.requires.runs c.loop-i-test.true c.index-tablets-i.is c.index-runs-i.is)
     c.in_ok-lasts.ensures.count c.index.ensures c.in_ok-lasts.ensures.last h.left h.first (c.in_ok-judged.ensures.found h.idle) (c.in_ok-judged.ensures.left h.idle) c.in_ok-judged.ensures.slots c.first_of-first.ensures
     (subst (λ xs. Drops xs c.drop_left.new.lefts.items c.in_ok-lasts.lasts.items c.index-tablets-i.result.header.parent c.loop-i.i) c.in_ok-push.ensures.items

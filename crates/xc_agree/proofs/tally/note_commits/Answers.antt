@@ -33,5 +33,5 @@ overflow_add-count c =
 
 pub returns : goal.returns
 returns c =
-    tally-noted c.args.tablets.now c.loop-i.applies _ (noted-all c.args.tablets.now c.loop-i.i c.loop-i.applies c.loop-i-test.false c.loop-i.invariant) c.in_ok-commits.ensures.times c.in_ok-commits.ensures.count
+    tally-noted c.args.tablets.now c.loop-i.applies _ (noted-all c.args.tablets.now c.loop-i.i c.loop-i.applies c.loop-i-test.false c.loop-i.invariant) c.in_ok-commits.ensures.times c.in_ok-commits.ensures.undone c.in_ok-commits.ensures.count
     (ap (λ k. c.loop-i.applies.writes + k) c.len.ensures)

@@ -1,16 +1,15 @@
-use Rattle.std.proofs.Common.{◌≡◌, sym, ◌∙◌, arith}
-use Rattle.std.proofs.lemmas.Bool.Decides.{nat_tests}
-use Rattle.xc_text.proofs.OpsLaws.{at_left, seen_form, seen_misnamed, seen_all, seen_empty}
+use Rattle.std.proofs.lemmas.Bool.{both_ways}
+use Rattle.xc_text.proofs.OpsLaws.{at_left, put_form, put_misnamed, seen_all, seen_empty}
 use Rattle.xc_text.proofs.operations.read_ops.Goals as goal
 
 pub returns-in_default-parts : goal.returns-in_default-parts
-returns-in_default-parts c = seen_form _ _ _ _ (at_left _ _ _ _ c.words.invariant c.in-Some.ensures) c.in_default-parts.ensures
+returns-in_default-parts c = put_form c.args.version _ _ _ _ (at_left c.args.version _ _ _ _ c.words.invariant c.in-Some.ensures) c.in_default-parts.ensures
 
-pub returns-then-not-is_named : goal.returns-then-not-is_named
-returns-then-not-is_named c = rw c.misnamed.ensures (seen_misnamed _ _ _ _ _ (at_left _ _ _ _ c.words.invariant c.in-Some.ensures) c.in-Some-parts.ensures (sym c.is_named.ensures ∙ c.if-not-is_named.true))
+pub returns-in-Err-Bad : goal.returns-in-Err-Bad
+returns-in-Err-Bad c = rw c.misnamed.ensures (put_misnamed c.args.version _ _ _ _ _ _ (at_left c.args.version _ _ _ _ c.words.invariant c.in-Some.ensures) c.in-Some-parts.ensures (rw c.in-Err-Bad.field-0-is at c.in-Err-Bad.ensures))
 
-pub returns-then-is_empty-2 : goal.returns-then-is_empty-2
-returns-then-is_empty-2 c = seen_empty c.words.ops.items c.args.words (at_left _ _ _ _ c.words.invariant c.in_default.ensures.0) (grind (arith, nat_tests))
+pub returns-then-is_empty : goal.returns-then-is_empty
+returns-then-is_empty c = seen_empty c.args.version c.words.ops c.args.words (at_left c.args.version _ _ _ _ c.words.invariant c.in_default.ensures.0) (c.is_empty.ensures.0 c.if-is_empty.true)
 
 pub returns : goal.returns
-returns c = rw c.from_vec.ensures (seen_all c.words.ops.items c.args.words (at_left _ _ _ _ c.words.invariant c.in_default.ensures.0) (λ e. let f : c.words.ops.len ≡ 0 = omega arith in grind (arith, nat_tests)))
+returns c = seen_all c.args.version c.words.ops c.args.words (at_left c.args.version _ _ _ _ c.words.invariant c.in_default.ensures.0) (λ e. both_ways _ c.if-is_empty.false (c.is_empty.ensures.1 e))

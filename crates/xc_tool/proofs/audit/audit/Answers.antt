@@ -1,5 +1,5 @@
-use Rattle.xc_base.proofs.Gets.{got_logs}
-use Rattle.xc_base.proofs.Runs.{ran_written, ran_ended}
+use Rattle.xc_run.proofs.Gets.{got_logs}
+use Rattle.xc_run.proofs.Runs.{ran_written, ran_ended}
 use Rattle.xc_tool.specs.Outcome.{audit_input, audit_output, refusal_output}
 use Rattle.xc_tool.proofs.Statuses.{never_ended, audit_in_order, ended_in_order, audit_stops_in_order}
 use Rattle.xc_tool.proofs.audit.audit.Goals as goal

@@ -1,4 +1,4 @@
-use Rattle.xc_base.proofs.Runs.{ran_ended}
+use Rattle.xc_run.proofs.Runs.{ran_ended}
 use Rattle.xc_tool.proofs.Statuses.{never_ended, replay_in_order, ended_in_order}
 use Rattle.xc_tool.specs.Outcome.{replay_input, replay_output, refusal_output}
 use Rattle.xc_tool.proofs.replay.replay.Goals as goal

@@ -1,11 +1,11 @@
-use Rattle.xc_base.proofs.Reading.{took_too_long, took_fault, took_no_memory}
+use Rattle.std.specs.Prelude.{◌^◌}
+use Rattle.std.proofs.lemmas.Result.{err_from_is_err_and}
+use Rattle.xc_run.proofs.Reading.{took_stopped}
+use Rattle.xc_tool.specs.declared.refusal.Refusal.TheVariants.{LogsTooLong}
+use Rattle.xc_tool.specs.Outcome.{audit_in}
 use Rattle.xc_tool.proofs.steps.take_audit.Goals as goal
 
-pub returns-in-Err-TooLong : goal.returns-in-Err-TooLong
-returns-in-Err-TooLong g c = took_too_long _ _ _ _ (c.read_all.ensures.too_long (cc))
-
-pub returns-in-Err-Failed : goal.returns-in-Err-Failed
-returns-in-Err-Failed g c = took_fault _ _ (c.read_all.ensures.failed (cc))
-
-pub returns-in-Err-NoMemory : goal.returns-in-Err-NoMemory
-returns-in-Err-NoMemory g c = took_no_memory _ _
+pub returns-in_err-text : goal.returns-in_err-text
+returns-in_err-text g c =
+    let p = err_from_is_err_and c.from_residual.result c.from_residual.ensures.1 in
+    rw (p.1, p.2) (took_stopped (2 ^ 26) LogsTooLong (audit_in) _ _ c.in_err-text.ensures)

@@ -6,3 +6,9 @@ returns-in-Audit-clause-ran g c = rw c.in-Audit.is (c.audit.ensures.ran _ (recor
 
 pub returns-in-Audit-clause-order : goal.returns-in-Audit-clause-order
 returns-in-Audit-clause-order g c = rw c.in-Audit.is (c.audit.ensures.order _ (record { same = refl; faults = refl }))
+
+pub returns-in-Upgrade-clause-ran : goal.returns-in-Upgrade-clause-ran
+returns-in-Upgrade-clause-ran g c = rw c.in-Upgrade.is (c.upgrade.ensures.ran _ (record { same = refl; faults = refl }))
+
+pub returns-in-Upgrade-clause-order : goal.returns-in-Upgrade-clause-order
+returns-in-Upgrade-clause-order g c = rw c.in-Upgrade.is (c.upgrade.ensures.order _ (record { same = refl; faults = refl }))

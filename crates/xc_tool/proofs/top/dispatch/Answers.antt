@@ -1,5 +1,5 @@
 use Rattle.std.proofs.Common.{refl}
-use Rattle.xc_base.proofs.Runs.{ran_alone}
+use Rattle.xc_run.proofs.Runs.{ran_alone}
 use Rattle.xc_tool.specs.Outcome.{usage_output}
 use Rattle.xc_tool.proofs.Statuses.{written_in_order}
 use Rattle.xc_tool.proofs.top.dispatch.Goals as goal

@@ -18,7 +18,7 @@ none_there (Some p) e = cc
 pub loop-i-init : goal.loop-i-init
 loop-i-init c =
     subst (λ ts. HasRoot c.args.hash (headers_of ts)) (sym c.tablets-tablet-items.ensures.tablets)
-    (some_root (headers_of c.args.self.now.tablets) c.args.hash (valid_parts _ c.tablets-tablet-items.ensures.valid).headers (omega arith))
+    (some_root (headers_of c.args.self.now.tablets) c.args.hash (valid_parts _ c.tablets-tablet-items.ensures.valid).fit (omega arith))
 
 pub overflow_cast-result : goal.overflow_cast-result
 overflow_cast-result c =

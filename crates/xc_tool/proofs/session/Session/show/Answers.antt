@@ -12,8 +12,8 @@ loop-i-preserved c =
     record {
       cursor = kept.cursor;
       at = refl;
-      rows = shown_more c.args.records.now c.args.self.now.cursor.place c.args.t c.loop-i.i c.index-records-i.result c.loop-i.self.rows.map c.put_all.new.self.map rows c.loop-i-test.true here c.index-records-i.is (omega (arith, c.get.ensures.value))
-          (rw c.written.ensures at c.in_ok-put_all.ensures);
+      rows = shown_more c.args.records.now c.args.self.now.cursor.place c.args.t c.loop-i.i c.index-records-i.result c.loop-i.self.rows.map c.put_record.new.self.map rows c.loop-i-test.true here c.index-records-i.is (omega (arith, c.get.ensures.value))
+          c.in_ok-put_record.ensures;
     }
 
 pub returns-then-get-t-clause-rows : goal.returns-then-get-t-clause-rows

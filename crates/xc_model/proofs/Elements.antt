@@ -1,0 +1,62 @@
+-- Laws of what holds of each element of a list, and of some element.
+use Rattle.std.proofs.Common.{◌≡◌, ℕ, zero, suc, Some, Bool, true, false, cond, List, [], ◌∷◌, ◌++◌, refl, sym, subst, inl, inr, ⊎_elim}
+use Rattle.std.specs.List.{filter, slice_get}
+use Rattle.std.proofs.lemmas.Option.{same_Some}
+use Rattle.xc_model.proofs.StableSort.{Each, Exists}
+
+pub exists-filter : {A : Type 0} (P Q : A → Type 0) (p : A → Bool) → ((x : A) → P x → (p x ≡ true) × Q x) → (xs : List A) → Exists P xs → Exists Q (filter p xs)
+exists-filter P Q p f [] i = i
+exists-filter P Q p f (x ∷ xs) i =
+    ⊎_elim
+    (λ h. let k = f x h in subst (λ b. Exists Q (cond b (x ∷ filter p xs) (filter p xs))) (sym k.0) (inl k.1))
+    (λ r. elim (p x) as (λ b. Exists Q (cond b (x ∷ filter p xs) (filter p xs))) [ true ↦ inr (exists-filter P Q p f xs r) | false ↦ exists-filter P Q p f xs r ])
+    i
+
+pub each-passes : {A : Type 0} (p : A → Bool) (xs : List A) → Each (λ x. p x ≡ true) (filter p xs)
+each-passes p [] = tt
+each-passes p (x ∷ xs) =
+    let at : (b : Bool) → p x ≡ b → Each (λ x. p x ≡ true) (cond b (x ∷ filter p xs) (filter p xs)) =
+    λ b. elim b as (λ b. p x ≡ b → Each (λ x. p x ≡ true) (cond b (x ∷ filter p xs) (filter p xs))) [ true ↦ λ e. (e, each-passes p xs) | false ↦ λ e. each-passes p xs ]
+    in at (p x) refl
+
+pub each-both : {A : Type 0} (P Q : A → Type 0) (xs : List A) → Each P xs → Each Q xs → Each (λ x. P x × Q x) xs
+each-both P Q [] h k = tt
+each-both P Q (x ∷ xs) h k = ((h.0, k.0), each-both P Q xs h.1 k.1)
+
+-- each element is one of the list's
+pub each-itself : {A : Type 0} (P : A → Type 0) (xs : List A) → ((x : A) → Exists (λ y. y ≡ x) xs → P x) → Each P xs
+each-itself P [] f = tt
+each-itself P (x ∷ xs) f = (f x (inl refl), each-itself P xs (λ y i. f y (inr i)))
+
+pub exists-weaker : {A : Type 0} (P Q : A → Type 0) → ((x : A) → P x → Q x) → (xs : List A) → Exists P xs → Exists Q xs
+exists-weaker P Q f [] i = i
+exists-weaker P Q f (x ∷ xs) i = ⊎_elim (λ h. inl (f x h)) (λ r. inr (exists-weaker P Q f xs r)) i
+
+pub each-at : {A : Type 0} (P : A → Type 0) (xs : List A) (x : A) → Each P xs → Exists (λ y. y ≡ x) xs → P x
+each-at P [] x h i = absurd i
+each-at P (y ∷ ys) x h i = ⊎_elim (λ e. subst P e h.0) (λ r. each-at P ys x h.1 r) i
+
+pub exists-each : {A : Type 0} (P : A → Type 0) (xs : List A) → Exists P xs → Each (λ x. P x → ⊥) xs → ⊥
+exists-each P [] i h = i
+exists-each P (x ∷ xs) i h = ⊎_elim (λ a. h.0 a) (λ r. exists-each P xs r h.1) i
+
+pub exists-left : {A : Type 0} (P : A → Type 0) (xs ys : List A) → Exists P xs → Exists P (xs ++ ys)
+exists-left P [] ys i = absurd i
+exists-left P (x ∷ xs) ys i = ⊎_elim (λ a. inl a) (λ r. inr (exists-left P xs ys r)) i
+
+pub exists-right : {A : Type 0} (P : A → Type 0) (xs ys : List A) → Exists P ys → Exists P (xs ++ ys)
+exists-right P [] ys i = i
+exists-right P (x ∷ xs) ys i = inr (exists-right P xs ys i)
+
+pub exists-at : {A : Type 0} (xs : List A) (i : ℕ) (x : A) → slice_get xs i ≡ Some x → Exists (λ y. y ≡ x) xs
+exists-at [] i x e = cc
+exists-at (y ∷ xs) zero x e = inl (same_Some y x e)
+exists-at (y ∷ xs) (suc i) x e = inr (exists-at xs i x e)
+
+pub each-front : {A : Type 0} (P : A → Type 0) (xs ys : List A) → Each P (xs ++ ys) → Each P xs
+each-front P [] ys h = tt
+each-front P (x ∷ xs) ys h = (h.0, each-front P xs ys h.1)
+
+pub each-back : {A : Type 0} (P : A → Type 0) (xs ys : List A) → Each P (xs ++ ys) → Each P ys
+each-back P [] ys h = h
+each-back P (x ∷ xs) ys h = each-back P xs ys h.1

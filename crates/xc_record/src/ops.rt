@@ -1,0 +1,231 @@
+// Operations of a record, packed into bytes, which contracts see as a list.
+ghost use Rattle.std.specs.Prelude.{◌≡◌, true, bytes_eq, ◌++◌, ◌∷◌, ◌↔◌, ◌<◌, ◌^◌, [], length, is_ok, IsTrue, IfOk, if◌then◌else◌, slice_get};
+ghost use Rattle.std.specs.Cmp.{partial_equiv_from_equiv};
+ghost use Rattle.std.specs.Ordering.{on};
+ghost use Rattle.std.specs.Cmp.Lexicographic.{on_texts_equal};
+ghost use Rattle.xc_record.specs.Packed.{encode, is_op};
+ghost use Rattle.std.specs.Iterator.{YieldsFirst, item_count};
+ghost use Rattle.std.specs.Option.{option_map_or, option_copied};
+ghost use Rattle.xc_base.specs.Names.{is_key, is_value};
+
+use crate::packed::{after_op, after_text, put_op, put_parts, text, value};
+use crate::record::Op;
+use std::alloc::{AllocError, Global};
+use std::marker::Model;
+use xc_base::{Key, Value};
+
+/// The operations of a record, one after another in bytes. Contracts see them as a list.
+#[derive(Drop, Debug)]
+pub struct Ops {
+    bytes: Vec<u8>,
+}
+
+impl Model for Ops {
+    ghost use Rattle.std.specs.Prelude.{List};
+    ghost use Rattle.xc_record.specs.declared.record.Op.{Op};
+    ghost use Rattle.xc_record.specs.Packed.{decode, IsPacked};
+
+    ghost Value = { List Op };
+
+    ghost view = { λ l. decode l.bytes.items };
+
+    ghost invariant = { λ l. IsPacked l.bytes.items };
+}
+
+impl Ops {
+    /// No operations. It keeps the allocator for its growth.
+    pub fn new(alloc: Global) -> Ops
+        ensures { result ≡ [] }
+    {
+        Ops {
+            bytes: Vec::new(alloc),
+        }
+    }
+
+    /// Puts an operation last. After an error they are as before.
+    pub fn push(&mut self, op: Op) -> Result<(), AllocError>
+        ensures { self.new ≡ (if is_ok result then self.old ++ op ∷ [] else self.old) }
+    {
+        put_op(&mut self.bytes, &op)
+    }
+
+    /// Puts the operation of a key and a value last, or of a key and None, which removes it, given by their bytes. After an
+    /// error they are as before.
+    #[inline]
+    pub fn push_bytes(&mut self, key: &[u8], value: Option<&[u8]>) -> Result<(), AllocError>
+        requires key { is_key key.now ≡ true }
+        requires value { option_map_or is_value (option_copied value) true ≡ true }
+        ensures { self.new ≡ (if is_ok result then self.old ++ record { key = key.now; value = option_copied value.entry } ∷ [] else self.old) }
+    {
+        put_parts(&mut self.bytes, key, value)
+    }
+
+    /// Removes them all, and keeps the memory.
+    #[inline]
+    pub fn clear(&mut self)
+        ensures { self.new ≡ [] }
+    {
+        self.bytes.clear();
+    }
+
+    /// Whether there are none.
+    #[inline]
+    pub fn is_empty(&self) -> bool
+        ensures { IsTrue result ↔ (self.now ≡ []) }
+    {
+        self.bytes.as_slice().is_empty()
+    }
+
+    /// The operations where they lie, first to last.
+    #[inline]
+    pub fn iter(&self) -> OpsIter<'_>
+        ensures all { result ≡ self.now }
+        ensures small { length self.now < 2 ^ 64 }
+    {
+        OpsIter { rest: &self.bytes }
+    }
+
+    /// How many there are. It goes over them.
+    pub fn len(&self) -> usize
+        ensures { result ≡ length self.now }
+    {
+        self.iter().count()
+    }
+
+    /// The operation of this number, from 0. It goes over those before.
+    pub fn op(&self, n: usize) -> Option<Op>
+        ensures { result ≡ slice_get self.now n }
+    {
+        let mut before = n;
+        for op in self.iter() {
+            if before == 0 {
+                return Some(op.get());
+            }
+            before -= 1;
+        }
+        None
+    }
+
+    /// The same operations in memory of their exact size.
+    pub fn clone_in(&self, alloc: Global) -> Result<Ops, AllocError>
+        ensures { IfOk result (λ ops. ops ≡ self.now) }
+    {
+        Ok(Ops {
+            bytes: Vec::from_slice(alloc, &self.bytes)?,
+        })
+    }
+}
+
+/// An operation where it lies in the bytes. Contracts see it as the operation.
+#[derive(Clone, Drop)]
+pub struct OpAt<'a> {
+    // its bytes, and those behind it
+    bytes: &'a [u8],
+}
+
+impl<'a> Model for OpAt<'a> {
+    ghost use Rattle.xc_record.specs.declared.record.Op.{Op};
+    ghost use Rattle.xc_record.specs.Packed.{op_of, IsAt};
+
+    ghost Value = { Op };
+
+    ghost view = { λ o. op_of o.bytes.now };
+
+    ghost invariant = { λ o. IsAt o.bytes.now };
+}
+
+impl<'a> OpAt<'a> {
+    /// The bytes of its key, without making one.
+    #[inline]
+    pub fn key_bytes(&self) -> &'a [u8]
+        ensures bytes { result.now ≡ self.now.key }
+        ensures well { is_op self.now ≡ true }
+    {
+        text(self.bytes)
+    }
+
+    /// Its key.
+    #[inline]
+    pub fn key(&self) -> Key
+        ensures { result ≡ self.now.key }
+    {
+        Key::of(self.key_bytes())
+    }
+
+    /// Its value.
+    pub fn value(&self) -> Option<Value>
+        ensures { result ≡ self.now.value }
+    {
+        value(after_text(self.bytes))
+    }
+
+    /// The operation by value.
+    pub fn get(&self) -> Op
+        ensures { result ≡ self.now }
+    {
+        Op {
+            key: self.key(),
+            value: self.value(),
+        }
+    }
+}
+
+/// Operations that are left to be gone over where they lie. Contracts see them as a list.
+#[derive(Clone, Drop)]
+pub struct OpsIter<'a> {
+    rest: &'a [u8],
+}
+
+impl<'a> Model for OpsIter<'a> {
+    ghost use Rattle.std.specs.Prelude.{List};
+    ghost use Rattle.xc_record.specs.declared.record.Op.{Op};
+    ghost use Rattle.xc_record.specs.Packed.{decode, IsPacked};
+
+    ghost Value = { List Op };
+
+    ghost view = { λ l. decode l.rest.now };
+
+    ghost invariant = { λ l. IsPacked l.rest.now };
+}
+
+impl<'a> Iterator for OpsIter<'a> {
+    type Item = OpAt<'a>;
+
+    ghost next_gives = { YieldsFirst (λ left. left) };
+
+    ghost remaining = { item_count (λ left. left) };
+
+    #[inline]
+    fn next(&mut self) -> Option<OpAt<'a>> {
+        if self.rest.is_empty() {
+            return None;
+        }
+        let bytes = self.rest;
+        self.rest = after_op(bytes);
+        Some(OpAt { bytes })
+    }
+}
+
+impl PartialEq for Ops {
+    ghost eq = { on encode bytes_eq };
+
+    ghost laws = { partial_equiv_from_equiv (on_texts_equal encode) };
+
+    fn eq(&self, other: &Ops) -> bool {
+        self.bytes.as_slice() == other.bytes.as_slice()
+    }
+}
+
+impl Eq for Ops {
+    ghost laws = { on_texts_equal encode };
+}
+
+impl Clone for Ops {
+    ghost is_clone = { λ ops copy. copy ≡ ops };
+
+    fn clone(&self) -> Result<Ops, AllocError> {
+        Ok(Ops {
+            bytes: self.bytes.clone()?,
+        })
+    }
+}

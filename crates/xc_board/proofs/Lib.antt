@@ -1,0 +1,11 @@
+pub mod TreeLaws
+pub mod WordLaws
+pub mod FitLaws
+pub mod LeastLaws
+pub mod StateLaws
+pub mod SeatLaws
+pub mod StepLaws
+pub mod KeepLaws
+pub mod StartLaws
+pub mod ValueLaws
+pub mod RuleLaws

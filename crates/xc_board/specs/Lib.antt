@@ -1,0 +1,10 @@
+pub mod Tree
+pub mod Words
+pub mod States
+pub mod Rule
+pub mod Steps
+pub mod Seats
+pub mod Inside
+pub mod Scans
+pub mod Laws
+pub mod Worked

@@ -1,0 +1,16 @@
+use Rattle.std.proofs.Common.{◌≡◌, ◌≤◌, ◌∙◌, ap, arith, length}
+use Rattle.xc_record.specs.Order.{accepted_from}
+use Rattle.xc_record.proofs.OrderLaws.{accepted-length}
+use Rattle.std.proofs.lemmas.List.{length-drop, length-take}
+use Rattle.std.specs.Prelude.{T}
+use Rattle.xc_change.specs.Reader.{ReaderState}
+use Rattle.xc_change.proofs.ReaderLaws.{drop-min}
+use Rattle.xc_change.proofs.reader.Reader.check.Goals as goal
+
+pub overflow_add-self : goal.overflow_add-self
+overflow_add-self c =
+    let found = c.walk_records-walk.ensures.accepted in
+    let small = c.requires.small in
+    let size = c.requires.few in
+    let is = ap (λ (r : ReaderState). r.checked) c.self.view_is in
+    grind (arith, found, small, size, is, accepted-length, length-take, length-drop)

@@ -1,0 +1,184 @@
+-- What is left of slots and chains where the dead and the unused are dropped, and what is linked anew.
+use Rattle.std.proofs.Common.{◌≡◌, ℕ, zero, suc, ◌+◌, ◌<◌, ◌≤◌, Bool, true, false, cond, List, [], ◌∷◌, ◌++◌, length, set, map, filter}
+use Rattle.std.proofs.Common.{take, drop, Option, Some, None, is_some, refl, sym, ◌∙◌, ap, subst, arith, ◌==◌, ◌&&◌}
+use Rattle.std.proofs.lemmas.Bool.{eq-eqb}
+use Rattle.std.proofs.lemmas.List.{length-map, get_or-map, get_or_at, set_at, drop_more, take_more, length-take-le, append_assoc}
+use Rattle.std.proofs.lemmas.List.{map-append}
+use Rattle.std.proofs.lemmas.List.Elements.{All-filter, All-from_get_or, filter_passes}
+use Rattle.std.specs.List.{All}
+use Rattle.xc_record.specs.Hash.{hash_of}
+use Rattle.xc_intents.specs.declared.slots.Slot.{Slot}
+use Rattle.xc_intents.specs.declared.slots.Chain.{Chain}
+use Rattle.xc_intents.specs.Slots.{at, chain_at, no_chain, blank, bare, is_live, is_used, cut, slot_op, held_in, mine, NextTo, ChainFits}
+use Rattle.xc_intents.specs.Slots.{HasChain, Rises, Linked, IsChained}
+use Rattle.xc_intents.proofs.Chains.{Fewer-set, Linked-fewer, at-set_other, length-bare}
+use Rattle.xc_intents.proofs.Walks.{Hashed, held-same, hashed-same, at-bare}
+
+-- ---- chains are cut
+
+pub cut-step : (xs : List Chain) (i : ℕ) → i < length xs
+    → set (map cut (take i xs) ++ drop i xs) i (cut (chain_at (map cut (take i xs) ++ drop i xs) i)) ≡ map cut (take (i + 1) xs) ++ drop
+    (i + 1) xs
+cut-step xs i h =
+    let c = chain_at xs i in
+    let front = map cut (take i xs) in
+    let long : length front ≡ i = length-map (take i xs) cut ∙ length-take-le i xs (omega arith) in
+    let split : front ++ drop i xs ≡ front ++ (c ∷ drop (i + 1) xs) = ap (λ ys. front ++ ys) (drop_more xs i (no_chain 0) h) in
+    let here : chain_at (front ++ drop i xs) i ≡ c = ap (λ ys. chain_at ys i) split
+    ∙ get_or_at front c (drop (i + 1) xs) (no_chain 0) i long in
+    let more : map cut (take (i + 1) xs) ≡ front ++ cut c ∷ [] = ap (map cut) (take_more xs i (no_chain 0) h)
+    ∙ map-append cut (take i xs) (c ∷ []) in
+    ap (λ d. set (front ++ drop i xs) i (cut d)) here ∙ ap (λ ys. set ys i (cut c)) split ∙ set_at front c (drop (i + 1) xs) (cut c) i long
+    ∙ sym (append_assoc front (cut c ∷ []) (drop (i + 1) xs)) ∙ ap (λ ys. ys ++ drop (i + 1) xs) (sym more)
+
+cut-txn : (cs : List Chain) (k : ℕ) → k < length cs → (chain_at (map cut cs) k).txn ≡ (chain_at cs k).txn
+cut-txn cs k h = ap (λ (c : Chain). c.txn) (get_or-map cut cs k (no_chain 0) (no_chain 0) h)
+
+pub cut-has : (cs : List Chain) (t : ℕ) → HasChain cs t → HasChain (map cut cs) t
+cut-has cs t h = (h.0, omega (arith, length-map cs cut, h.1), cut-txn cs h.0 h.1 ∙ h.2)
+
+-- no slot is linked
+pub Linked-cut : (xs : List Slot) (cs : List Chain) → Rises cs → Linked xs (map cut cs) 0
+Linked-cut xs cs rises = record {
+  links = λ i a. absurd (omega arith);
+  chains = λ e b.
+      let low : e < length cs = omega (arith, length-map cs cut) in
+      subst (ChainFits xs 0) (sym (get_or-map cut cs e (no_chain 0) (no_chain 0) low)) (cut-fits xs (chain_at cs e));
+  has = λ i a. absurd (omega arith);
+  sorted = λ a b lt high.
+      let low : b < length cs = omega (arith, length-map cs cut) in
+      let r : (chain_at cs a).txn < (chain_at cs b).txn = rises a b lt low in
+      omega (arith, cut-txn cs a (omega arith), cut-txn cs b low);
+}
+  where
+    cut-fits : (xs : List Slot) (c : Chain) → ChainFits xs 0 (cut c)
+    cut-fits xs c = record {
+      first = λ k a b. absurd (omega arith);
+      last = λ k a b. absurd
+          (omega arith);
+      passed = tt;
+      ends = λ e. refl;
+      lasts = λ i a t e. absurd (omega arith);
+    }
+
+-- ---- a slot is linked anew
+
+pub Linked-bare : (xs : List Slot) (cs : List Chain) (i : ℕ) → i < length xs → Linked xs cs i → Linked (set xs i (bare (at xs i))) cs i
+Linked-bare xs cs i b l =
+    Linked-fewer i xs (set xs i (bare (at xs i))) (Fewer-set i xs i (bare (at xs i)) b refl refl (λ live. live)) cs
+    (λ k low. ap (λ (s : Slot). s.next) (at-set_other xs i k (bare (at xs i)) (omega arith))) l
+
+-- ---- what a filter keeps
+
+filter-twice : (xs : List Slot) → filter is_live (filter is_live xs) ≡ filter is_live xs
+filter-twice [] = refl
+filter-twice (x ∷ xs) = go x.live refl (filter-twice xs)
+  where
+    go : (b : Bool) → x.live ≡ b → filter is_live (filter is_live xs) ≡ filter is_live xs
+        → filter is_live (cond b (x ∷ filter is_live xs) (filter is_live xs)) ≡ cond b (x ∷ filter is_live xs) (filter is_live xs)
+    go true e rest = ap (λ b. cond b (x ∷ filter is_live (filter is_live xs)) (filter is_live (filter is_live xs))) e
+        ∙ ap (λ ys. x ∷ ys) rest
+    go false e rest = rest
+
+pub held-filter : (xs : List Slot) → held_in (filter is_live xs) ≡ held_in xs
+held-filter xs = ap (map slot_op) (filter-twice xs)
+
+pub length-held_filter : (xs : List Slot) → length (held_in (filter is_live xs)) ≡ length (filter is_live xs)
+length-held_filter xs = length-map (filter is_live (filter is_live xs)) slot_op ∙ ap length (filter-twice xs)
+
+pub live-filter : (xs : List Slot) (k : ℕ) → k < length (filter is_live xs) → (at (filter is_live xs) k).live ≡ true
+live-filter xs k h = filter_passes is_live xs k blank h
+
+-- what holds of each slot holds of each that is kept
+slots-filter : (P : Slot → Type 0) (xs : List Slot) → ((k : ℕ) → k < length xs → P (at xs k)) → (k : ℕ) → k < length (filter is_live xs)
+    → P (at (filter is_live xs) k)
+slots-filter P xs h k low = All-filter is_live P xs (All-from_get_or P xs blank h) k blank low
+
+pub hashed-filter : (xs : List Slot) → Hashed xs → Hashed (filter is_live xs)
+hashed-filter xs h = slots-filter (λ s. s.hash ≡ hash_of s.op.key) xs h
+
+pub has-filter : (xs : List Slot) (cs : List Chain) → Linked xs cs (length xs) → (k : ℕ) → k < length (filter is_live xs)
+    → HasChain cs (at (filter is_live xs) k).txn
+has-filter xs cs l = slots-filter (λ s. HasChain cs s.txn) xs l.has
+
+-- where an element that passes stands in a filter
+kept-at : (p : Chain → Bool) (cs : List Chain) (e : ℕ) → e < length cs → p (chain_at cs e) ≡ true
+    → (d : ℕ) × (d < length (filter p cs)) × (chain_at (filter p cs) d ≡ chain_at cs e)
+kept-at p [] e b h = absurd (omega arith)
+kept-at p (c ∷ cs) zero b h = rw h (0, omega arith, refl)
+kept-at p (c ∷ cs) (suc e) b h =
+    let r = kept-at p cs e (omega arith) h in
+    let low = r.1 in
+    elim (p c) as (λ t. (d : ℕ) × (d < length (cond t (c ∷ filter p cs) (filter p cs)))
+    × (chain_at (cond t (c ∷ filter p cs) (filter p cs)) d ≡ chain_at cs e)) [
+      | true ↦ (suc r.0, omega arith, r.2)
+      | false ↦ r
+    ]
+
+-- chains stay in order
+rises-tail : (c : Chain) (cs : List Chain) → Rises (c ∷ cs) → Rises cs
+rises-tail c cs r = λ a b lt high. r (suc a) (suc b) (omega arith) (omega arith)
+
+rises-head : (c : Chain) (cs : List Chain) → Rises (c ∷ cs) → All (λ (d : Chain). c.txn < d.txn) cs
+rises-head c cs r = All-from_get_or (λ (d : Chain). c.txn < d.txn) cs (no_chain 0) (λ k low. r 0 (suc k) (omega arith) (omega arith))
+
+rises-cons : (c : Chain) (cs : List Chain) → All (λ (d : Chain). c.txn < d.txn) cs → Rises cs → Rises (c ∷ cs)
+rises-cons c cs above r zero zero lt high = absurd (omega arith)
+rises-cons c cs above r zero (suc b) lt high = above b (no_chain 0) (omega arith)
+rises-cons c cs above r (suc a) zero lt high = absurd (omega arith)
+rises-cons c cs above r (suc a) (suc b) lt high = r a b (omega arith) (omega arith)
+
+rises-filter : (p : Chain → Bool) (cs : List Chain) → Rises cs → Rises (filter p cs)
+rises-filter p [] r = r
+rises-filter p (c ∷ cs) r =
+    let rest = rises-filter p cs (rises-tail c cs r) in
+    elim (p c) as (λ t. Rises (cond t (c ∷ filter p cs) (filter p cs))) [
+      | true ↦ rises-cons c (filter p cs) (All-filter p (λ (d : Chain). c.txn < d.txn) cs (rises-head c cs r)) rest
+      | false ↦ rest
+    ]
+
+-- the chains without slots go, where all slots are live
+pub Linked-used : (xs : List Slot) (cs : List Chain) (n : ℕ) → ((i : ℕ) → i < n → (at xs i).live ≡ true) → Linked xs cs n
+    → Linked xs (filter is_used cs) n
+Linked-used xs cs n live l = record {
+  links = l.links;
+  chains = λ e b. All-filter is_used (ChainFits xs n) cs (All-from_get_or (ChainFits xs n) cs (no_chain 0) l.chains) e (no_chain 0) b;
+  has = λ i a.
+      let h : HasChain cs (at xs i).txn = l.has i a in
+      let fits : ChainFits xs n (chain_at cs h.0) = l.chains h.0 h.1 in
+      let kept = kept-at is_used cs h.0 h.1 (used i a (chain_at cs h.0) h.2 (chain_at cs h.0).first fits.first) in
+      (kept.0, kept.1, ap (λ (c : Chain). c.txn) kept.2 ∙ h.2);
+  sorted = rises-filter is_used cs l.sorted;
+}
+  where
+    used : (i : ℕ) → i < n → (c : Chain) → c.txn ≡ (at xs i).txn → (o : Option ℕ) → NextTo c.txn xs 0 n o → is_some o ≡ true
+    used i a c t None skips =
+        let no_slot : mine c.txn (at xs i) ≡ false = skips i (omega arith) a in
+        let is_mine : mine c.txn (at xs i) ≡ true = ap (λ b. b && c.txn == (at xs i).txn) (live i a) ∙ eq-eqb c.txn (at xs i).txn t in
+        absurd (cc)
+    used i a c t (Some j) next = refl
+
+-- slots that are live, and linked anew
+module _ (xs ys : List Slot) (cs ds : List Chain) (chained : IsChained xs cs) (same : map bare ys ≡ map bare (filter is_live xs))
+    (l : Linked ys ds (length ys)) where
+  anew-long : length ys ≡ length (filter is_live xs)
+  anew-long = length-bare (filter is_live xs) ys same
+
+  anew-live : (k : ℕ) → k < length ys → (at ys k).live ≡ true
+  anew-live k b =
+      let long = anew-long in
+      let low : k < length (filter is_live xs) = omega arith in
+      ap (λ (s : Slot). s.live) (at-bare (filter is_live xs) ys k same low) ∙ live-filter xs k low
+
+  pub anew-held : held_in ys ≡ held_in xs
+  anew-held = held-same (filter is_live xs) ys same ∙ held-filter xs
+
+  pub anew-all : length (held_in ys) ≡ length ys
+  anew-all = ap length (held-same (filter is_live xs) ys same) ∙ length-held_filter xs ∙ sym anew-long
+
+  pub anew-chained : length (filter is_live xs) ≤ length xs → IsChained ys (filter is_used ds)
+  anew-chained short = record {
+    linked = Linked-used ys ds (length ys) anew-live l;
+    hashed = hashed-same (filter is_live xs) ys same (hashed-filter xs chained.hashed);
+    small = omega (arith, anew-long, chained.small);
+  }

@@ -1,0 +1,238 @@
+-- What a walk finds, and what the slots hold.
+use Rattle.std.proofs.Common.{◌≡◌, ◌≢◌, ℕ, zero, suc, ◌<◌, ◌≤◌, ◌^◌, Bool, true, false, cond, List, [], ◌∷◌, ◌++◌, length, set, map, filter}
+use Rattle.std.proofs.Common.{Option, Some, None, refl, sym, ◌∙◌, ap, subst, arith, ◌==◌, ◌&&◌, ⊎_elim}
+use Rattle.std.specs.List.{find}
+use Rattle.std.specs.Prelude.{nat_le, if◌then◌else◌}
+use Rattle.std.proofs.lemmas.Bool.{cases_eq, and_parts}
+use Rattle.std.proofs.lemmas.List.{length-set, get_or-map, map-append, get_or_append_left, get_or_at, length_push}
+use Rattle.std.proofs.lemmas.List.Elements.{filter-append}
+use Rattle.xc_record.specs.Hash.{hash_of}
+use Rattle.xc_record.specs.Kept.{KeyWaiting}
+use Rattle.xc_intents.specs.HeldOps.{in_range, is_part, without_first}
+use Rattle.xc_intents.specs.declared.slots.Slot.{Slot}
+use Rattle.xc_intents.specs.declared.slots.Chain.{Chain}
+use Rattle.xc_intents.specs.Slots.{at, chain_at, blank, bare, is_live, slot_op, held_in, mine, in_walk, PassedTo, ChainFits, HasChain}
+use Rattle.xc_intents.specs.Slots.{NoChain, Linked, begun, walk_of, IsFirst, IsFound, IsChained, dead}
+use Rattle.xc_intents.proofs.Chains.{Linked-fewer, Linked-chain, length-bare, false-and, Linked-dies, at-field}
+use Rattle.xc_intents.proofs.Links.{not-mine}
+use Rattle.std.proofs.lemmas.Bool.Decides.{nat_tests}
+
+-- ---- slots but for their links
+
+held-bare : (xs : List Slot) → held_in (map bare xs) ≡ held_in xs
+held-bare [] = refl
+held-bare (x ∷ xs) = elim x.live as
+    (λ b. map slot_op (cond b (bare x ∷ filter is_live (map bare xs)) (filter is_live (map bare xs))) ≡ map slot_op
+    (cond b (x ∷ filter is_live xs) (filter is_live xs)))
+    [ true ↦ ap (λ ys. slot_op x ∷ ys) (held-bare xs) | false ↦ held-bare xs ]
+
+pub held-same : (xs ys : List Slot) → map bare ys ≡ map bare xs → held_in ys ≡ held_in xs
+held-same xs ys e = sym (held-bare ys) ∙ ap held_in e ∙ held-bare xs
+
+pub at-bare : (xs ys : List Slot) (k : ℕ) → map bare ys ≡ map bare xs → k < length xs → bare (at ys k) ≡ bare (at xs k)
+at-bare xs ys k e h =
+    let long = length-bare xs ys e in
+    sym (get_or-map bare ys k blank blank (omega arith)) ∙ ap (λ zs. at zs k) e ∙ get_or-map bare xs k blank blank h
+
+abbrev pub Hashed : List Slot → Type 0
+Hashed xs = (i : ℕ) → i < length xs → (at xs i).hash ≡ hash_of (at xs i).op.key
+
+pub hashed-same : (xs ys : List Slot) → map bare ys ≡ map bare xs → Hashed xs → Hashed ys
+hashed-same xs ys e h = λ i b.
+    let long = length-bare xs ys e in
+    let same = at-bare xs ys i e (omega arith) in
+    ap (λ (z : Slot). z.hash) same ∙ h i (omega arith) ∙ ap (λ (z : Slot). hash_of z.op.key) (sym same)
+
+-- ---- one more slot
+
+pub at-push : (xs : List Slot) (s : Slot) → at (xs ++ s ∷ []) (length xs) ≡ s
+at-push xs s = get_or_at xs s [] blank (length xs) refl
+
+pub at-before : (xs : List Slot) (s : Slot) (k : ℕ) → k < length xs → at (xs ++ s ∷ []) k ≡ at xs k
+at-before xs s k h = get_or_append_left xs (s ∷ []) blank k h
+
+pub held-push : (xs : List Slot) (s : Slot) → s.live ≡ true → held_in (xs ++ s ∷ []) ≡ held_in xs ++ slot_op s ∷ []
+held-push xs s e = ap (map slot_op) (filter-append is_live xs (s ∷ []) ∙ rw e refl) ∙ map-append slot_op (filter is_live xs) (s ∷ [])
+
+pub hashed-push : (xs : List Slot) (s : Slot) → s.hash ≡ hash_of s.op.key → Hashed xs → Hashed (xs ++ s ∷ [])
+hashed-push xs s e h = λ i b.
+    let long = length_push xs s in
+    ⊎_elim
+    (λ (here : i ≡ length xs). subst (λ k. (at (xs ++ s ∷ []) k).hash ≡ hash_of (at (xs ++ s ∷ []) k).op.key) (sym here)
+    (subst (λ (z : Slot). z.hash ≡ hash_of z.op.key) (sym (at-push xs s)) e))
+    (λ (other : i ≢ length xs). subst (λ (z : Slot). z.hash ≡ hash_of z.op.key) (sym (at-before xs s i (omega arith))) (h i (omega arith)))
+    (cases_eq i (length xs))
+
+pub Linked-push : (xs : List Slot) (cs : List Chain) (s : Slot) → Linked xs cs (length xs) → Linked (xs ++ s ∷ []) cs (length xs)
+Linked-push xs cs s l =
+    Linked-fewer (length xs) xs (xs ++ s ∷ [])
+    (record {
+      txn = λ k b. ap (λ (z : Slot). z.txn) (at-before xs s k b);
+      hash = λ k b. ap (λ (z : Slot). z.hash) (at-before xs s k b);
+      live = λ k b e. ap (λ (z : Slot). z.live) (sym (at-before xs s k b)) ∙ e;
+    }) cs (λ k b. ap (λ (z : Slot). z.next) (at-before xs s k b)) l
+
+-- ---- where a walk begins
+
+narrower : (p q lo hi h : ℕ) → p ≤ lo → hi ≤ q → in_range p q h ≡ false → in_range lo hi h ≡ false
+narrower p q lo hi h a b e = grind (arith, nat_tests)
+
+and-narrow : (m r s : Bool) → (r ≡ false → s ≡ false) → (m && r) ≡ false → (m && s) ≡ false
+and-narrow true r s f e = f e
+and-narrow false r s f e = refl
+
+nat_le-holds : (a b : ℕ) → nat_le a b ≡ true → a ≤ b
+nat_le-holds a b e = grind (arith, nat_tests)
+
+PassedTo-narrow : (xs : List Slot) (n : ℕ) (c d : Chain) (o : Option ℕ) → d.txn ≡ c.txn → c.lo ≤ d.lo → d.hi ≤ c.hi → PassedTo xs n c o
+    → PassedTo xs n d o
+PassedTo-narrow xs n c d None t a b s = tt
+PassedTo-narrow xs n c d (Some p) t a b s = record {
+  below = s.below;
+  same = s.same ∙ sym t;
+  none = λ k h.
+      subst (λ u. (mine u (at xs k) && in_range d.lo d.hi (at xs k).hash) ≡ false) (sym t)
+      (and-narrow (mine c.txn (at xs k)) (in_range c.lo c.hi (at xs k).hash) (in_range d.lo d.hi (at xs k).hash)
+      (narrower c.lo c.hi d.lo d.hi (at xs k).hash a b) (s.none k h));
+}
+
+PassedTo-begun : (xs : List Slot) (n : ℕ) (c : Chain) (lo hi : ℕ) → PassedTo xs n c c.passed
+    → PassedTo xs n (begun lo hi c) (if nat_le c.lo lo && nat_le hi c.hi then c.passed else None)
+PassedTo-begun xs n c lo hi s = go (nat_le c.lo lo && nat_le hi c.hi) refl
+  where
+    go : (b : Bool) → (nat_le c.lo lo && nat_le hi c.hi) ≡ b → PassedTo xs n (begun lo hi c) (cond b c.passed None)
+    go false e = tt
+    go true e =
+        let parts = and_parts (nat_le c.lo lo) (nat_le hi c.hi) e in
+        PassedTo-narrow xs n c (begun lo hi c) c.passed refl (nat_le-holds c.lo lo parts.0) (nat_le-holds hi c.hi parts.1) s
+
+pub Linked-begun : (xs : List Slot) (cs : List Chain) (n e lo hi : ℕ) → e < length cs → Linked xs cs n
+    → Linked xs (set cs e (begun lo hi (chain_at cs e))) n
+Linked-begun xs cs n e lo hi b l =
+    let c = chain_at cs e in
+    let fits : ChainFits xs n c = l.chains e b in
+    Linked-chain xs cs n e (begun lo hi c) b refl
+    (record {
+      first = fits.first;
+      last = fits.last;
+      passed = PassedTo-begun xs n c lo hi fits.passed;
+      ends = fits.ends;
+      lasts = fits.lasts;
+    }) l
+
+pub found-none : (xs : List Slot) (cs : List Chain) (t lo hi : ℕ) → Linked xs cs (length xs) → NoChain cs t
+    → IsFound xs (walk_of t lo hi) None
+found-none xs cs t lo hi l none = λ k b.
+    let h : HasChain cs (at xs k).txn = l.has k b in
+    false-and (mine t (at xs k)) (in_range lo hi (at xs k).hash) (not-mine t (at xs k) (λ same. none h.0 h.1 (h.2 ∙ sym same)))
+
+-- ---- what is held
+
+held-cons : (x : Slot) (xs : List Slot) → held_in (x ∷ xs) ≡ cond x.live (slot_op x ∷ held_in xs) (held_in xs)
+held-cons x xs = elim x.live as
+    (λ b. map slot_op (cond b (x ∷ filter is_live xs) (filter is_live xs)) ≡ cond b (slot_op x ∷ held_in xs)
+    (held_in xs)) [ true ↦ refl | false ↦ refl ]
+
+held-live : (x : Slot) (xs : List Slot) → x.live ≡ true → held_in (x ∷ xs) ≡ slot_op x ∷ held_in xs
+held-live x xs e = held-cons x xs ∙ rw e refl
+
+held-dead : (x : Slot) (xs : List Slot) → x.live ≡ false → held_in (x ∷ xs) ≡ held_in xs
+held-dead x xs e = held-cons x xs ∙ rw e refl
+
+-- the first slot that is live and passes gives the first operation that passes
+module _ (p : KeyWaiting → Bool) where
+  find-yes : (w : KeyWaiting) (ws : List KeyWaiting) → p w ≡ true → find p (w ∷ ws) ≡ Some w
+  find-yes w ws e = rw e refl
+
+  find-no : (w : KeyWaiting) (ws : List KeyWaiting) → p w ≡ false → find p (w ∷ ws) ≡ find p ws
+  find-no w ws e = rw e refl
+
+  without-yes : (w : KeyWaiting) (ws : List KeyWaiting) → p w ≡ true → without_first p (w ∷ ws) ≡ ws
+  without-yes w ws e = rw e refl
+
+  without-no : (w : KeyWaiting) (ws : List KeyWaiting) → p w ≡ false → without_first p (w ∷ ws) ≡ w ∷ without_first p ws
+  without-no w ws e = rw e refl
+
+  abbrev pub lives : Slot → Bool
+  lives s = s.live && p (slot_op s)
+
+  abbrev pub FirstHeld : List Slot → ℕ → Type 0
+  FirstHeld xs i = (find p (held_in xs) ≡ Some (slot_op (at xs i))) × (held_in (set xs i (dead (at xs i))) ≡ without_first p (held_in xs))
+
+  first-step : (x : Slot) (xs : List Slot) (i : ℕ) (b : Bool) → x.live ≡ b → (b && p (slot_op x)) ≡ false → FirstHeld xs i
+      → FirstHeld (x ∷ xs) (suc i)
+  first-step x xs i false e f r = (
+    ap (find p) (held-dead x xs e) ∙ r.0,
+    held-dead x (set xs i (dead (at xs i))) e ∙ r.1 ∙ ap (without_first p) (sym (held-dead x xs e)),
+  )
+  first-step x xs i true e f r = (
+    ap (find p) (held-live x xs e) ∙ find-no (slot_op x) (held_in xs) f ∙ r.0,
+    held-live x (set xs i (dead (at xs i))) e ∙ ap (λ ys. slot_op x ∷ ys) r.1
+        ∙ sym (ap (without_first p) (held-live x xs e) ∙ without-no (slot_op x) (held_in xs) f),
+  )
+
+  pub first-held : (xs : List Slot) (i : ℕ) → i < length xs → lives (at xs i) ≡ true → ((k : ℕ) → k < i → lives (at xs k) ≡ false)
+      → FirstHeld xs i
+  first-held [] i h e n = absurd (omega arith)
+  first-held (x ∷ xs) zero h e n =
+      let parts = and_parts x.live (p (slot_op x)) e in (
+        ap (find p) (held-live x xs parts.0) ∙ find-yes (slot_op x) (held_in xs) parts.1,
+        held-dead (dead x) xs refl ∙ sym (ap (without_first p) (held-live x xs parts.0) ∙ without-yes (slot_op x) (held_in xs) parts.1),
+      )
+  first-held (x ∷ xs) (suc i) h e n =
+      first-step x xs i x.live refl (n 0 (omega arith)) (first-held xs i (omega arith) e (λ k b. n (suc k) (omega arith)))
+
+  none-step : (x : Slot) (xs : List Slot) (b : Bool) → x.live ≡ b → (b && p (slot_op x)) ≡ false → find p (held_in xs) ≡ None
+      → find p (held_in (x ∷ xs)) ≡ None
+  none-step x xs false e f r = ap (find p) (held-dead x xs e) ∙ r
+  none-step x xs true e f r = ap (find p) (held-live x xs e) ∙ find-no (slot_op x) (held_in xs) f ∙ r
+
+  pub none-held : (xs : List Slot) → ((k : ℕ) → k < length xs → lives (at xs k) ≡ false) → find p (held_in xs) ≡ None
+  none-held [] n = refl
+  none-held (x ∷ xs) n = none-step x xs x.live refl (n 0 (omega arith)) (none-held xs (λ k b. n (suc k) (omega arith)))
+
+and-assoc : (a b c : Bool) → ((a && b) && c) ≡ (a && (b && c))
+and-assoc true b c = refl
+and-assoc false b c = refl
+
+-- what a walk looks for is a live slot of a part
+pub sought : (t lo hi : ℕ) (s : Slot) → s.hash ≡ hash_of s.op.key → in_walk (walk_of t lo hi) s ≡ lives (is_part t lo hi) s
+sought t lo hi s e = and-assoc s.live (t == s.txn) (in_range lo hi s.hash) ∙ ap (λ h. s.live && (t == s.txn && in_range lo hi h)) e
+
+-- ---- what is found is taken out
+
+module _ (xs ys : List Slot) (t lo hi : ℕ) (same : map bare ys ≡ map bare xs) (hashed : Hashed xs) where
+  -- what the walk passes over
+  fails : (k : ℕ) → k < length ys → in_walk (walk_of t lo hi) (at ys k) ≡ false → lives (is_part t lo hi) (at ys k) ≡ false
+  fails k b e = sym (sought t lo hi (at ys k) (hashed-same xs ys same hashed k b)) ∙ e
+
+  pub none-found : IsFound ys (walk_of t lo hi) None → find (is_part t lo hi) (held_in xs) ≡ None
+  none-found found = ap (find (is_part t lo hi)) (sym (held-same xs ys same))
+      ∙ none-held (is_part t lo hi) ys (λ k b. fails k b (found k b))
+
+  first-found : (i : ℕ) → IsFirst ys (walk_of t lo hi) i → FirstHeld (is_part t lo hi) ys i
+  first-found i found =
+      let low : i < length ys = found.below in
+      first-held (is_part t lo hi) ys i low (sym (sought t lo hi (at ys i) (hashed-same xs ys same hashed i low)) ∙ found.found)
+      (λ k b. fails k (omega arith) (found.none k b))
+
+  pub found-op : (i : ℕ) → IsFirst ys (walk_of t lo hi) i → find (is_part t lo hi) (held_in xs) ≡ Some (slot_op (at ys i))
+  found-op i found = ap (find (is_part t lo hi)) (sym (held-same xs ys same)) ∙ (first-found i found).0
+
+  pub found-left : (i : ℕ) → IsFirst ys (walk_of t lo hi) i
+      → held_in (set ys i (dead (at ys i))) ≡ without_first (is_part t lo hi) (held_in xs)
+  found-left i found = (first-found i found).1 ∙ ap (without_first (is_part t lo hi)) (held-same xs ys same)
+
+  pub chained-same : (cs : List Chain) → Linked ys cs (length ys) → length xs ≤ 2 ^ 32 → IsChained ys cs
+  chained-same cs l small = record { linked = l; hashed = hashed-same xs ys same hashed; small = omega (arith, length-bare xs ys same) }
+
+pub chained-dies : (ys : List Slot) (cs : List Chain) (i : ℕ) → i < length ys → IsChained ys cs → IsChained (set ys i (dead (at ys i))) cs
+chained-dies ys cs i b c =
+    let long = length-set ys i (dead (at ys i)) in
+    record {
+      linked = subst (Linked (set ys i (dead (at ys i))) cs) (sym long) (Linked-dies (length ys) ys cs i (dead (at ys i)) b refl c.linked);
+      hashed = λ k low.
+          at-field (λ (z : Slot). z.hash) ys i k (dead (at ys i)) b refl ∙ c.hashed k (omega arith)
+          ∙ sym (at-field (λ (z : Slot). hash_of z.op.key) ys i k (dead (at ys i)) b refl);
+      small = omega (arith, c.small);
+    }

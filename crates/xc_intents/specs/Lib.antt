@@ -1,0 +1,2 @@
+pub mod HeldOps
+pub mod Slots

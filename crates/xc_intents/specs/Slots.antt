@@ -1,0 +1,199 @@
+-- How the operations lie in slots, and how the slots of a transaction are chained.
+--     held_in xs      the operations of the slots that are live, in their order
+--     NextTo t xs from n o      o is the first slot of t from `from` on, up to n; dead slots of t may stand before it
+--     next_of xs c      where the walk of the chain c goes on; WalkTo xs n c o      what is known there
+--     ChainFits xs n c      the chain's ends, and what its last walk passed, are right for the first n slots
+--     Linked xs cs n      so are all links and chains, and each of these slots has a chain
+--     IsChained xs cs      all slots are linked, and know their keys' hashes
+use Rattle.std.specs.Prelude.{◌≡◌, ◌≢◌, ℕ, ◌+◌, ◌-◌, ◌≤◌, ◌<◌, ◌^◌, min, Bool, true, false, ◌&&◌, ◌==◌, List, [], Option, Some, None}
+use Rattle.std.specs.Prelude.{length, map, filter, slice_index_or, slice_set, nat_le, is_some, if◌then◌else◌}
+use Rattle.std.specs.Option.{option_map_or}
+use Rattle.xc_record.specs.Hash.{hash_of}
+use Rattle.xc_record.specs.Kept.{KeyWaiting}
+use Rattle.xc_record.specs.declared.record.Op.{Op}
+use Rattle.xc_intents.specs.HeldOps.{held_op, in_range}
+use Rattle.xc_intents.specs.declared.slots.Slot.{Slot}
+use Rattle.xc_intents.specs.declared.slots.Chain.{Chain}
+
+-- ---- slots
+
+abbrev pub is_live : Slot → Bool
+is_live s = s.live
+
+abbrev pub slot_op : Slot → KeyWaiting
+slot_op s = held_op s.txn s.sub s.op
+
+abbrev pub held_in : List Slot → List KeyWaiting
+held_in xs = map slot_op (filter is_live xs)
+
+-- for how many more operations there is room, by the capacities and the lengths
+abbrev pub room_in : ℕ → ℕ → ℕ → ℕ → ℕ
+room_in slot_cap slot_len chain_cap chain_len = min (min slot_cap (2 ^ 32) - slot_len) (chain_cap - chain_len)
+
+abbrev pub blank : Slot
+blank = record { next = None; txn = 0; hash = 0; sub = 0; live = false; op = record { key = []; value = None } }
+
+abbrev pub at : List Slot → ℕ → Slot
+at xs i = slice_index_or xs i blank
+
+abbrev pub no_chain : ℕ → Chain
+no_chain t = record { txn = t; first = None; last = None; lo = 0; hi = 0; passed = None }
+
+abbrev pub chain_at : List Chain → ℕ → Chain
+chain_at cs e = slice_index_or cs e (no_chain 0)
+
+-- the slot of an operation that is in no chain yet
+abbrev pub fresh : ℕ → ℕ → Op → Slot
+fresh t sub op = record { next = None; txn = t; hash = hash_of op.key; sub = sub; live = true; op = op }
+
+-- ---- links
+
+abbrev pub mine : ℕ → Slot → Bool
+mine t s = s.live && t == s.txn
+
+abbrev pub Skips : ℕ → List Slot → ℕ → ℕ → Type 0
+Skips t xs from n = (k : ℕ) → from ≤ k → k < n → mine t (at xs k) ≡ false
+
+pub record IsNext (t : ℕ) (xs : List Slot) (from n j : ℕ) : Type 0 where
+  pub above : from ≤ j
+  pub below : j < n
+  pub same : (at xs j).txn ≡ t
+  pub skips : Skips t xs from j
+
+abbrev pub NextTo : ℕ → List Slot → ℕ → ℕ → Option ℕ → Type 0
+NextTo t xs from n None = Skips t xs from n
+NextTo t xs from n (Some j) = IsNext t xs from n j
+
+pub record IsLast (t : ℕ) (xs : List Slot) (n l : ℕ) : Type 0 where
+  pub below : l < n
+  pub same : (at xs l).txn ≡ t
+  pub skips : Skips t xs (l + 1) n
+
+abbrev pub LastTo : ℕ → List Slot → ℕ → Option ℕ → Type 0
+LastTo t xs n None = Skips t xs 0 n
+LastTo t xs n (Some l) = IsLast t xs n l
+
+abbrev pub in_walk : Chain → Slot → Bool
+in_walk c s = mine c.txn s && in_range c.lo c.hi s.hash
+
+-- no slot up to p is one that the walk looks for
+pub record IsPassed (xs : List Slot) (n : ℕ) (c : Chain) (p : ℕ) : Type 0 where
+  pub below : p < n
+  pub same : (at xs p).txn ≡ c.txn
+  pub none : (k : ℕ) → k ≤ p → in_walk c (at xs k) ≡ false
+
+abbrev pub PassedTo : List Slot → ℕ → Chain → Option ℕ → Type 0
+PassedTo xs n c None = Unit {0}
+PassedTo xs n c (Some p) = IsPassed xs n c p
+
+pub record ChainFits (xs : List Slot) (n : ℕ) (c : Chain) : Type 0 where
+  pub first : NextTo c.txn xs 0 n c.first
+  pub last : LastTo c.txn xs n c.last
+  pub passed : PassedTo xs n c c.passed
+  pub ends : c.first ≡ None → c.last ≡ None
+  pub lasts : (i : ℕ) → i < n → (at xs i).txn ≡ c.txn → (at xs i).next ≡ None → c.last ≡ Some i
+
+-- where the walk of a chain goes on
+abbrev pub next_of : List Slot → Chain → Option ℕ
+next_of xs c = option_map_or (λ p. (at xs p).next) c.passed c.first
+
+-- what is known where it goes on at o
+pub record IsReached (xs : List Slot) (n : ℕ) (c : Chain) (i : ℕ) : Type 0 where
+  pub below : i < n
+  pub same : (at xs i).txn ≡ c.txn
+  pub none : (k : ℕ) → k < i → in_walk c (at xs k) ≡ false
+
+abbrev pub WalkTo : List Slot → ℕ → Chain → Option ℕ → Type 0
+WalkTo xs n c None = (k : ℕ) → k < n → in_walk c (at xs k) ≡ false
+WalkTo xs n c (Some i) = IsReached xs n c i
+
+-- a slot but for its link
+abbrev pub bare : Slot → Slot
+bare s = record s { next = None }
+
+-- a slot whose operation was taken out
+abbrev pub dead : Slot → Slot
+dead s = record s { live = false }
+
+-- a chain whose walk looks for these hashes: it goes on where the last one stood, where that looked for them too
+abbrev pub begun : ℕ → ℕ → Chain → Chain
+begun lo hi c = record c { lo = lo; hi = hi; passed = if nat_le c.lo lo && nat_le hi c.hi then c.passed else None }
+
+-- the chain looks for the same
+pub record SameWalk (c d : Chain) : Type 0 where
+  pub txn : d.txn ≡ c.txn
+  pub lo : d.lo ≡ c.lo
+  pub hi : d.hi ≡ c.hi
+
+-- the link behind what was passed leads to o
+abbrev pub chain_to : Chain → Option ℕ → Chain
+chain_to c o = option_map_or (λ p. c) c.passed (record c { first = o })
+
+abbrev pub slots_to : List Slot → Option ℕ → Option ℕ → List Slot
+slots_to xs passed o = option_map_or (λ p. slice_set xs p (record (at xs p) { next = o })) passed xs
+
+-- the slot n comes behind the others of its chain
+abbrev pub slots_and : List Slot → Option ℕ → ℕ → List Slot
+slots_and xs last n = slots_to xs last (Some n)
+
+abbrev pub chain_and : Chain → ℕ → Chain
+chain_and c n = record c { first = option_map_or (λ l. c.first) c.last (Some n); last = Some n }
+
+-- a chain of which no slot is linked yet, and whether one is
+abbrev pub cut : Chain → Chain
+cut c = record c { first = None; last = None; passed = None }
+
+abbrev pub is_used : Chain → Bool
+is_used c = is_some c.first
+
+abbrev pub HasChain : List Chain → ℕ → Type 0
+HasChain cs t = (e : ℕ) × (e < length cs) × ((chain_at cs e).txn ≡ t)
+
+abbrev pub Rises : List Chain → Type 0
+Rises cs = (a b : ℕ) → a < b → b < length cs → (chain_at cs a).txn < (chain_at cs b).txn
+
+-- so many chains are of transactions below t
+pub record IsPlace (cs : List Chain) (t e : ℕ) : Type 0 where
+  pub within : e ≤ length cs
+  pub below : (k : ℕ) → k < e → (chain_at cs k).txn < t
+  pub above : (k : ℕ) → e ≤ k → k < length cs → t ≤ (chain_at cs k).txn
+
+abbrev pub NoChain : List Chain → ℕ → Type 0
+NoChain cs t = (k : ℕ) → k < length cs → (chain_at cs k).txn ≢ t
+
+pub record Linked (xs : List Slot) (cs : List Chain) (n : ℕ) : Type 0 where
+  pub links : (i : ℕ) → i < n → NextTo (at xs i).txn xs (i + 1) n (at xs i).next
+  pub chains : (e : ℕ) → e < length cs → ChainFits xs n (chain_at cs e)
+  pub has : (i : ℕ) → i < n → HasChain cs (at xs i).txn
+  pub sorted : Rises cs
+
+pub record IsChained (xs : List Slot) (cs : List Chain) : Type 0 where
+  pub linked : Linked xs cs (length xs)
+  pub hashed : (i : ℕ) → i < length xs → (at xs i).hash ≡ hash_of (at xs i).op.key
+  pub small : length xs ≤ 2 ^ 32
+
+-- and so many of them are dead
+pub record AreSlots (xs : List Slot) (cs : List Chain) (dead : ℕ) : Type 0 where
+  pub chained : IsChained xs cs
+  pub count : length (held_in xs) + dead ≡ length xs
+
+-- links and chains were changed, and the operations are where they were
+pub record Moves (xs : List Slot) (cs : List Chain) (ys : List Slot) (ds : List Chain) (e : ℕ) : Type 0 where
+  pub linked : Linked ys ds (length ys)
+  pub slots : map bare ys ≡ map bare xs
+  pub chains : length ds ≡ length cs
+  pub walk : SameWalk (chain_at cs e) (chain_at ds e)
+
+-- the first slot that the walk looks for, or none
+pub record IsFirst (xs : List Slot) (c : Chain) (i : ℕ) : Type 0 where
+  pub below : i < length xs
+  pub found : in_walk c (at xs i) ≡ true
+  pub none : (k : ℕ) → k < i → in_walk c (at xs k) ≡ false
+
+abbrev pub IsFound : List Slot → Chain → Option ℕ → Type 0
+IsFound xs c None = (k : ℕ) → k < length xs → in_walk c (at xs k) ≡ false
+IsFound xs c (Some i) = IsFirst xs c i
+
+-- a chain of which a walk looks for hashes of the transaction in this range
+abbrev pub walk_of : ℕ → ℕ → ℕ → Chain
+walk_of t lo hi = record (no_chain t) { lo = lo; hi = hi }

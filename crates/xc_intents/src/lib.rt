@@ -1,0 +1,12 @@
+//! The operations of intents that wait in a target tablet for their transactions' applies and aborts.
+#![tactic(auto)]
+
+mod held;
+mod intents;
+mod slots;
+
+pub use held::Held;
+pub use intents::Intents;
+
+#[cfg(test)]
+mod tests;

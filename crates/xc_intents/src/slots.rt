@@ -1,0 +1,432 @@
+// The slots that hold operations, in the order held, and the chains of the transactions through them. A slot whose
+// operation was taken out is dead, and stays in its place until the slots are gathered.
+ghost use Rattle.std.specs.Prelude.{◌≡◌, ◌<◌, ◌≤◌, ◌+◌, ◌-◌, ◌^◌, ◌++◌, ◌∷◌, ◌&&◌, ◌==◌, ℕ, List, nat_lt, [], true};
+ghost use Rattle.std.specs.Prelude.{false, length, map, filter, slice_set, slice_index_or, insert, ⊤, None, Some};
+ghost use Rattle.std.specs.Prelude.{MatchOption, if◌then◌else◌, OnOk};
+ghost use Rattle.std.specs.Vec.{vec_len, vec_capacity};
+ghost use Rattle.xc_intents.specs.declared.slots.Slot.{Slot};
+ghost use Rattle.xc_record.specs.Hash.{hash_of};
+ghost use Rattle.std.specs.List.{find};
+ghost use Rattle.std.specs.Option.{option_map};
+ghost use Rattle.xc_intents.specs.HeldOps.{in_range, is_part, without_first, given};
+ghost use Rattle.xc_intents.specs.Slots.{Linked, IsPlace, Rises, HasChain, chain_at, no_chain, at, in_walk, mine};
+ghost use Rattle.xc_intents.specs.Slots.{held_in, next_of, chain_to, slots_to, begun, Moves, IsFound, bare, NoChain};
+ghost use Rattle.xc_intents.specs.Slots.{chain_and, slots_and, walk_of, IsChained, fresh, dead, slot_op, is_live};
+ghost use Rattle.xc_intents.specs.Slots.{is_used, cut};
+
+use crate::held::Held;
+use xc_base::{Key, Value};
+use xc_record::{Op, hash};
+
+/// An operation, the slot after it in its transaction's chain, and whether it is still held.
+#[derive(Drop, Debug, Clone, Copy)]
+pub(crate) struct Slot {
+    pub(crate) next: Option<u32>,
+    pub(crate) txn: u32,
+    pub(crate) hash: u16,
+    pub(crate) sub: u8,
+    pub(crate) live: bool,
+    pub(crate) op: Op,
+}
+
+/// The chain of a transaction: its ends, and how far its last walk came, which looked for hashes from `lo` to `hi`.
+#[derive(Drop, Debug, Clone, Copy)]
+pub(crate) struct Chain {
+    pub(crate) txn: u32,
+    pub(crate) first: Option<u32>,
+    pub(crate) last: Option<u32>,
+    pub(crate) lo: u16,
+    pub(crate) hi: u16,
+    pub(crate) passed: Option<u32>,
+}
+
+// How many chains are of transactions below this one, by halves.
+pub(crate) fn place(chains: &[Chain], txn: u32) -> usize
+    requires { Rises chains.now }
+    ensures { IsPlace chains.now txn result }
+{
+    let mut low = 0;
+    let mut high = chains.len();
+    while low < high {
+        let middle = low + (high - low) / 2;
+        if chains[middle].txn < txn {
+            low = middle + 1;
+        } else {
+            high = middle;
+        }
+    }
+    low
+}
+
+// Whether the walk of the chain looks for the slot.
+#[inline]
+fn in_walk(chain: &Chain, slot: &Slot) -> bool
+    ensures { result ≡ in_walk chain.now slot.now }
+{
+    (slot.live && chain.txn == slot.txn) && (chain.lo <= slot.hash && slot.hash <= chain.hi)
+}
+
+// The slot at which the walk of the chain goes on.
+fn next_of(slots: &[Slot], chain: &Chain) -> Option<u32>
+    requires { (p : ℕ) → chain.now.passed ≡ Some p → p < length slots.now }
+    ensures { result ≡ next_of slots.now chain.now }
+{
+    match chain.passed {
+        None => chain.first,
+        Some(p) => slots[p as usize].next,
+    }
+}
+
+// Lets the link behind what the walk passed lead to `next`.
+fn relink(slots: &mut [Slot], chain: &mut Chain, next: Option<u32>)
+    requires { (p : ℕ) → chain.old.passed ≡ Some p → p < length slots.old }
+    ensures chain { chain.new ≡ chain_to chain.old next }
+    ensures slots { slots.new ≡ slots_to slots.old chain.old.passed next }
+{
+    match chain.passed {
+        None => chain.first = next,
+        Some(p) => slots[p as usize].next = next,
+    }
+}
+
+// The walk looks for hashes from `lo` to `hi` from now on.
+pub(crate) fn begin(chain: &mut Chain, lo: u16, hi: u16)
+    ensures { chain.new ≡ begun lo hi chain.old }
+{
+    if !(chain.lo <= lo && hi <= chain.hi) {
+        chain.passed = None;
+    }
+    chain.lo = lo;
+    chain.hi = hi;
+}
+
+// The slot to which a dead slot leads, if there is one.
+fn behind(slots: &[Slot], i: u32) -> Option<u32>
+    requires { i < length slots.now }
+    ensures { MatchOption result ⊤ (λ j. ((at slots.now i).live ≡ false) × ((at slots.now i).next ≡ Some j)) }
+{
+    let slot = &slots[i as usize];
+    if slot.live { None } else { slot.next }
+}
+
+// Moves on past the slot at which the walk goes on, which it does not look for: a dead one is left out of the chain,
+// unless it is the last.
+fn pass(slots: &mut [Slot], chains: &mut [Chain], e: usize, i: u32) -> Option<u32>
+    requires linked { Linked slots.old chains.old (length slots.old) }
+    requires chain { e < length chains.old }
+    requires here { next_of slots.old (chain_at chains.old e) ≡ Some i }
+    requires out { in_walk (chain_at chains.old e) (at slots.old i) ≡ false }
+    ensures moves { Moves slots.old chains.old slots.new chains.new e }
+    ensures there { next_of slots.new (chain_at chains.new e) ≡ result }
+    ensures later { MatchOption result ⊤ (λ j. i < j) }
+{
+    match behind(slots, i) {
+        Some(next) => {
+            relink(slots, &mut chains[e], Some(next));
+            Some(next)
+        }
+        None => {
+            chains[e].passed = Some(i);
+            slots[i as usize].next
+        }
+    }
+}
+
+// The next slot that the walk of the chain looks for, which stays where it is.
+pub(crate) fn seek(slots: &mut [Slot], chains: &mut [Chain], e: usize) -> Option<usize>
+    requires linked { Linked slots.old chains.old (length slots.old) }
+    requires chain { e < length chains.old }
+    ensures moves { Moves slots.old chains.old slots.new chains.new e }
+    ensures found { IsFound slots.new (chain_at chains.new e) result }
+{
+    let mut cur = next_of(slots, &chains[e]);
+    while let Some(i) = cur {
+        if in_walk(&chains[e], &slots[i as usize]) {
+            return Some(i as usize);
+        }
+        cur = pass(slots, chains, e, i);
+    }
+    None
+}
+
+// Lets the chain end at the slot.
+fn put_behind(slots: &mut [Slot], chain: &mut Chain, i: u32)
+    requires { (l : ℕ) → chain.old.last ≡ Some l → l < length slots.old }
+    ensures chain { chain.new ≡ chain_and chain.old i }
+    ensures slots { slots.new ≡ slots_and slots.old chain.old.last i }
+{
+    match chain.last {
+        None => chain.first = Some(i),
+        Some(last) => slots[last as usize].next = Some(i),
+    }
+    chain.last = Some(i);
+}
+
+// Links the slot behind the others of its transaction's chain, which is `e`.
+fn link(slots: &mut [Slot], chains: &mut [Chain], e: usize, i: u32)
+    requires linked { Linked slots.old chains.old i }
+    requires slot { i < length slots.old }
+    requires chain { e < length chains.old }
+    requires txn { (at slots.old i).txn ≡ (chain_at chains.old e).txn }
+    requires end { (at slots.old i).next ≡ None }
+    ensures linked { Linked slots.new chains.new (i + 1) }
+    ensures same { map bare slots.new ≡ map bare slots.old }
+    ensures chains { length chains.new ≡ length chains.old }
+    ensures has { (t : ℕ) → HasChain chains.old t → HasChain chains.new t }
+{
+    put_behind(slots, &mut chains[e], i);
+}
+
+// The chain of the transaction, if it has one.
+fn find(chains: &[Chain], txn: u32) -> Option<usize>
+    requires { Rises chains.now }
+    ensures { MatchOption result (NoChain chains.now txn)
+        (λ e. (e < length chains.now) × ((chain_at chains.now e).txn ≡ txn)) }
+{
+    let e = place(chains, txn);
+    if e < chains.len() && chains[e].txn == txn {
+        Some(e)
+    } else {
+        None
+    }
+}
+
+// Puts a chain without slots at this place.
+fn put_chain(chains: &mut Vec<Chain>, e: usize, txn: u32)
+    requires place { e ≤ vec_len chains.old }
+    requires room { vec_len chains.old < vec_capacity chains.old }
+    ensures chains { chains.new.items ≡ insert chains.old.items e (no_chain txn) }
+    ensures len { vec_len chains.new ≡ vec_len chains.old + 1 }
+    ensures capacity { vec_capacity chains.new ≡ vec_capacity chains.old }
+{
+    let chain = Chain {
+        txn,
+        first: None,
+        last: None,
+        lo: 0,
+        hi: 0,
+        passed: None,
+    };
+    let _ = chains.insert(e, chain);
+}
+
+// The chain of the transaction, which is made where there is none.
+fn open(chains: &mut Vec<Chain>, txn: u32) -> usize
+    requires rises { Rises chains.old.items }
+    requires room { vec_len chains.old < vec_capacity chains.old }
+    ensures linked { (xs : List Slot) (n : ℕ) → Linked xs chains.old.items n → Linked xs chains.new.items n }
+    ensures chain { result < length chains.new.items }
+    ensures txn { (chain_at chains.new.items result).txn ≡ txn }
+    ensures len { vec_len chains.new ≤ vec_len chains.old + 1 }
+    ensures capacity { vec_capacity chains.new ≡ vec_capacity chains.old }
+{
+    if let Some(e) = find(chains, txn) {
+        return e;
+    }
+    let e = place(chains, txn);
+    put_chain(chains, e, txn);
+    e
+}
+
+// Puts an operation into a slot behind all others, which is in no chain yet.
+fn put_last(slots: &mut Vec<Slot>, txn: u32, sub: u8, key: Key, value: Option<Value>)
+    requires { vec_len slots.old < vec_capacity slots.old }
+    ensures slots { slots.new.items ≡ slots.old.items ++ fresh txn sub (record { key = key; value = value }) ∷ [] }
+    ensures len { vec_len slots.new ≡ vec_len slots.old + 1 }
+    ensures capacity { vec_capacity slots.new ≡ vec_capacity slots.old }
+{
+    slots.push_reserved(Slot {
+        next: None,
+        txn,
+        hash: hash(&key),
+        sub,
+        live: true,
+        op: Op { key, value },
+    });
+}
+
+// Holds an operation in a slot behind all others.
+pub(crate) fn append(
+    slots: &mut Vec<Slot>,
+    chains: &mut Vec<Chain>,
+    txn: u32,
+    sub: u8,
+    key: Key,
+    value: Option<Value>,
+)
+    requires chained { IsChained slots.old.items chains.old.items }
+    requires slot { vec_len slots.old < vec_capacity slots.old }
+    requires small { vec_len slots.old < 2 ^ 32 }
+    requires chain { vec_len chains.old < vec_capacity chains.old }
+    ensures chained { IsChained slots.new.items chains.new.items }
+    ensures held { held_in slots.new.items ≡ held_in slots.old.items
+        ++ record { key = key; txn = txn; sub = sub; value = value } ∷ [] }
+    ensures slots { vec_len slots.new ≡ vec_len slots.old + 1 }
+    ensures chains { vec_len chains.new ≤ vec_len chains.old + 1 }
+    ensures slots_capacity { vec_capacity slots.new ≡ vec_capacity slots.old }
+    ensures chains_capacity { vec_capacity chains.new ≡ vec_capacity chains.old }
+{
+    let i = slots.len();
+    put_last(slots, txn, sub, key, value);
+    let e = open(chains, txn);
+    link(slots, chains, e, i as u32);
+}
+
+// The first slot that is live, of the transaction, and with a hash from `lo` to `hi`.
+fn first(slots: &mut [Slot], chains: &mut [Chain], txn: u32, lo: u16, hi: u16) -> Option<usize>
+    requires { Linked slots.old chains.old (length slots.old) }
+    ensures linked { Linked slots.new chains.new (length slots.new) }
+    ensures same { map bare slots.new ≡ map bare slots.old }
+    ensures found { IsFound slots.new (walk_of txn lo hi) result }
+{
+    match find(chains, txn) {
+        None => None,
+        Some(e) => {
+            begin(&mut chains[e], lo, hi);
+            seek(slots, chains, e)
+        }
+    }
+}
+
+// Takes out the operation of the slot, which dies.
+fn take_out(slots: &mut [Slot], i: usize) -> Held
+    requires { i < length slots.old }
+    ensures slots { slots.new ≡ slice_set slots.old i (dead (at slots.old i)) }
+    ensures held { result ≡ given (slot_op (at slots.old i)) }
+{
+    let slot = &mut slots[i];
+    slot.live = false;
+    Held {
+        sub: slot.sub,
+        op: slot.op,
+    }
+}
+
+// Takes out the first operation of the transaction with a hash from `lo` to `hi`: its slot dies.
+pub(crate) fn take(
+    slots: &mut [Slot],
+    chains: &mut [Chain],
+    txn: u32,
+    lo: u16,
+    hi: u16,
+) -> Option<Held>
+    requires { IsChained slots.old chains.old }
+    ensures chained { IsChained slots.new chains.new }
+    ensures taken { result ≡ option_map given (find (is_part txn lo hi) (held_in slots.old)) }
+    ensures left { held_in slots.new ≡ without_first (is_part txn lo hi) (held_in slots.old) }
+{
+    match first(slots, chains, txn, lo, hi) {
+        None => None,
+        Some(i) => {
+            let _value: Option<Value> = slots[i].op.value;
+            Some(take_out(slots, i))
+        }
+    }
+}
+
+// Drops the dead slots.
+fn drop_dead(slots: &mut Vec<Slot>)
+    ensures slots { slots.new.items ≡ filter is_live slots.old.items }
+    ensures len { vec_len slots.new ≤ vec_len slots.old }
+    ensures capacity { vec_capacity slots.new ≡ vec_capacity slots.old }
+{
+    slots.retain(|slot| slot.live);
+}
+
+// Drops the chains without slots.
+fn drop_unused(chains: &mut Vec<Chain>)
+    ensures chains { chains.new.items ≡ filter is_used chains.old.items }
+    ensures len { vec_len chains.new ≤ vec_len chains.old }
+    ensures capacity { vec_capacity chains.new ≡ vec_capacity chains.old }
+{
+    chains.retain(|chain| chain.first.is_some());
+}
+
+// Takes all slots out of the chain.
+fn cut_one(chain: &mut Chain)
+    ensures { chain.new ≡ cut chain.old }
+{
+    chain.first = None;
+    chain.last = None;
+    chain.passed = None;
+}
+
+// Takes all slots out of the chains.
+fn cut(chains: &mut [Chain])
+    ensures { chains.new ≡ map cut chains.old }
+{
+    for chain in chains.iter_mut() {
+        cut_one(chain);
+    }
+}
+
+// Takes the slot out of its chain, and says which transaction's it is.
+fn unlink(slots: &mut [Slot], i: usize) -> u32
+    requires { i < length slots.old }
+    ensures slots { slots.new ≡ slice_set slots.old i (bare (at slots.old i)) }
+    ensures txn { result ≡ (at slots.old i).txn }
+{
+    let slot = &mut slots[i];
+    slot.next = None;
+    slot.txn
+}
+
+// Links the slot anew, behind the others of its transaction's chain.
+fn link_again(slots: &mut [Slot], chains: &mut [Chain], i: usize)
+    requires linked { Linked slots.old chains.old i }
+    requires slot { i < length slots.old }
+    requires small { i < 2 ^ 32 }
+    requires has { HasChain chains.old (at slots.old i).txn }
+    ensures linked { Linked slots.new chains.new (i + 1) }
+    ensures same { map bare slots.new ≡ map bare slots.old }
+    ensures chains { length chains.new ≡ length chains.old }
+    ensures kept { (t : ℕ) → HasChain chains.old t → HasChain chains.new t }
+{
+    let txn = unlink(slots, i);
+    if let Some(e) = find(chains, txn) {
+        link(slots, chains, e, i as u32);
+    }
+}
+
+// Moves the live slots together, and drops the dead ones and the chains without slots.
+pub(crate) fn gather(slots: &mut Vec<Slot>, chains: &mut Vec<Chain>)
+    requires { IsChained slots.old.items chains.old.items }
+    ensures chained { IsChained slots.new.items chains.new.items }
+    ensures held { held_in slots.new.items ≡ held_in slots.old.items }
+    ensures all { length (held_in slots.new.items) ≡ length slots.new.items }
+    ensures slots { vec_len slots.new ≤ vec_len slots.old }
+    ensures chains { vec_len chains.new ≤ vec_len chains.old }
+    ensures slots_capacity { vec_capacity slots.new ≡ vec_capacity slots.old }
+    ensures chains_capacity { vec_capacity chains.new ≡ vec_capacity chains.old }
+{
+    drop_dead(slots);
+    chain_anew(slots, chains);
+    drop_unused(chains);
+}
+
+// Links all slots anew, into chains that are cut first.
+fn chain_anew(slots: &mut [Slot], chains: &mut [Chain])
+    requires rises { Rises chains.old }
+    requires small { length slots.old ≤ 2 ^ 32 }
+    requires has { (k : ℕ) → k < length slots.old → HasChain chains.old (at slots.old k).txn }
+    ensures linked { Linked slots.new chains.new (length slots.new) }
+    ensures same { map bare slots.new ≡ map bare slots.old }
+    ensures chains { length chains.new ≡ length chains.old }
+{
+    cut(chains);
+    link_all(slots, chains);
+}
+
+// Links all slots anew.
+fn link_all(slots: &mut [Slot], chains: &mut [Chain])
+    requires linked { Linked slots.old chains.old 0 }
+    requires small { length slots.old ≤ 2 ^ 32 }
+    requires has { (k : ℕ) → k < length slots.old → HasChain chains.old (at slots.old k).txn }
+    ensures linked { Linked slots.new chains.new (length slots.new) }
+    ensures same { map bare slots.new ≡ map bare slots.old }
+    ensures chains { length chains.new ≡ length chains.old }
+{
+    for i in 0..slots.len() {
+        link_again(slots, chains, i);
+    }
+}

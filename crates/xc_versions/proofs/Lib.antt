@@ -1,0 +1,10 @@
+pub mod StoredOrder
+pub mod VersionLaws
+pub mod ShownLaws
+pub mod RowsSeenLaws
+pub mod SplitLaws
+pub mod PageLaws
+pub mod AddLaws
+pub mod PruneLaws
+pub mod SubLaws
+pub mod ShrinkLaws

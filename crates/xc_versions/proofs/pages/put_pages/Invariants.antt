@@ -1,0 +1,7 @@
+use Rattle.std.proofs.Common.{drop}
+use Rattle.xc_versions.specs.Pages.{items_of}
+use Rattle.xc_versions.proofs.RowsSeenLaws.{Left}
+use Rattle.xc_versions.proofs.pages.put_pages.Given as goal
+
+abbrev pub invariant-loop-page : goal.invariant-loop-page
+invariant-loop-page l = Left l.t l.initial.rows.items l.rows.items (items_of l.pages) (items_of (drop l.page-index l.pages))

@@ -1,0 +1,21 @@
+use Rattle.std.proofs.Common.{◌≡◌, length, ap, arith}
+use Rattle.std.proofs.lemmas.Grind.{common_steps}
+use Rattle.xc_versions.specs.Pages.{items_of}
+use Rattle.xc_versions.proofs.AddLaws.{some-pages, few-pages}
+use Rattle.xc_versions.proofs.versions.Versions.pages.Goals as goal
+
+pub returns-clause-some : goal.returns-clause-some
+returns-clause-some c =
+    let ps = c.self.inside.pages.items in
+    let count : c.len.result ≡ length ps = grind (arith, common_steps) in
+    let same : length (items_of ps) ≡ length c.args.self.now.items = ap (λ s. length s.items) c.self.view_is in
+    let some = some-pages ps c.self.invariant.paged.pages in
+    omega arith
+
+pub returns-clause-few : goal.returns-clause-few
+returns-clause-few c =
+    let ps = c.self.inside.pages.items in
+    let count : c.len.result ≡ length ps = grind (arith, common_steps) in
+    let same : length (items_of ps) ≡ length c.args.self.now.items = ap (λ s. length s.items) c.self.view_is in
+    let few = few-pages ps c.self.invariant.paged.pages in
+    omega arith

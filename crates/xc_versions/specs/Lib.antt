@@ -1,0 +1,6 @@
+pub mod Stored
+pub mod Splits
+pub mod RowsSeen
+pub mod Pages
+pub mod Pool
+pub mod Around

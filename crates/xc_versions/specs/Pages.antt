@@ -1,0 +1,60 @@
+-- Pages of versions.
+--     items_of ps      the versions of the pages, one page after another
+--     IsPage p, IsEmptyPage v      1 to 64 versions, and room for one more; no version, and room for 65
+--     is_first_passed test p      the page's first version passes the test
+--     Idle u xs rest      no version of xs is replaced at u by a later one of xs or of rest
+--     IdleNext u xs rest      no version of xs is replaced at u by the next one
+--     Dues ps rest      a cutoff below a page's `due` takes nothing from the page, where rest stands behind the pages
+--     load ps      how many versions the pages have above 32 each; 32 of no page
+--     spare_of ps n      how many versions can be added for certain where there are n empty pages
+use Rattle.std.specs.Prelude.{◌≡◌, ℕ, ◌+◌, ◌-◌, ◌*◌, ◌<◌, ◌≤◌, max, Bool, false, List, [], ◌∷◌, ◌++◌, length, flat_map, vec_capacity, Vec}
+use Rattle.std.specs.List.{AllByRecursion}
+use Rattle.std.specs.declared.alloc.Global.{Global}
+use Rattle.xc_versions.specs.declared.stored.StoredVersion.{StoredVersion}
+use Rattle.xc_versions.specs.declared.page.Page.{Page}
+use Rattle.xc_versions.specs.Stored.{is_replaced, next_replaces, InOrder}
+
+abbrev pub items_of : List Page → List StoredVersion
+items_of ps = flat_map (λ p. p.items.items) ps
+
+pub record IsPage (p : Page) : Type 0 where
+  pub some : 0 < length p.items.items
+  pub few : length p.items.items ≤ 64
+  pub room : 65 ≤ vec_capacity p.items
+
+pub record IsEmptyPage (v : Vec StoredVersion Global) : Type 0 where
+  pub none : v.items ≡ []
+  pub room : 65 ≤ vec_capacity v
+
+abbrev pub is_first_passed : (StoredVersion → Bool) → List StoredVersion → Bool
+is_first_passed test [] = false
+is_first_passed test (x ∷ xs) = test x
+
+abbrev pub Idle : ℕ → List StoredVersion → List StoredVersion → Type 0
+Idle u [] rest = Unit {0}
+Idle u (x ∷ xs) rest = (is_replaced u x (xs ++ rest) ≡ false) × Idle u xs rest
+
+-- the same, as each next version tells
+abbrev pub IdleNext : ℕ → List StoredVersion → List StoredVersion → Type 0
+IdleNext u [] rest = Unit {0}
+IdleNext u (x ∷ xs) rest = (next_replaces u x (xs ++ rest) ≡ false) × IdleNext u xs rest
+
+abbrev pub Dues : List Page → List StoredVersion → Type 0
+Dues [] rest = Unit {0}
+Dues (p ∷ ps) rest = ((u : ℕ) → u < p.due → Idle u p.items.items (items_of ps ++ rest)) × Dues ps rest
+
+abbrev pub over : List Page → ℕ
+over [] = 0
+over (p ∷ ps) = (length p.items.items - 32) + over ps
+
+abbrev pub load : List Page → ℕ
+load [] = 32
+load (p ∷ ps) = over (p ∷ ps)
+
+abbrev pub spare_of : List Page → ℕ → ℕ
+spare_of ps n = max n ((32 * n + 31) - load ps)
+
+pub record IsPaged (ps : List Page) (rest : List StoredVersion) : Type 0 where
+  pub ordered : InOrder (items_of ps)
+  pub pages : AllByRecursion IsPage ps
+  pub dues : Dues ps rest

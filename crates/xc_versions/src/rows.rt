@@ -1,0 +1,114 @@
+// Rows in byte order of keys, and how they come about while versions are gone over in order.
+ghost use Rattle.std.specs.Prelude.{◌≡◌, ℕ, List, ◌++◌, ◌-◌, [], length, slice_get, OnOk};
+ghost use Rattle.std.specs.List.{AllByRecursion};
+ghost use Rattle.xc_record.specs.Path.{Written};
+ghost use Rattle.xc_record.specs.Rows.{put_row, rows_after};
+ghost use Rattle.xc_versions.specs.Stored.{InOrder};
+ghost use Rattle.xc_versions.specs.RowsSeen.{row_of, is_row_of, Below, Under, ops_to};
+
+use crate::stored::StoredVersion;
+use std::alloc::{AllocError, Global};
+use std::marker::Model;
+use xc_base::{Key, Value};
+
+/// Rows, each a key and its value, which contracts see as a list of pairs.
+#[derive(Drop, Debug)]
+pub struct Rows {
+    items: Vec<(Key, Value)>,
+}
+
+impl Model for Rows {
+    ghost use Rattle.std.specs.Prelude.{List, ℕ};
+
+    ghost Value = { List (List ℕ × List ℕ) };
+
+    ghost view = { λ l. l.items.items };
+}
+
+impl Rows {
+    /// No rows. It keeps the allocator for its growth.
+    pub fn new(alloc: Global) -> Rows
+        ensures { result ≡ [] }
+    {
+        Rows {
+            items: Vec::new(alloc),
+        }
+    }
+
+    /// The rows of a vector, which it takes over.
+    pub fn from_vec(items: Vec<(Key, Value)>) -> Rows
+        ensures { result ≡ items.items }
+    {
+        Rows { items }
+    }
+
+    /// Gives the vector back, without taking memory.
+    pub fn into_vec(self) -> Vec<(Key, Value)>
+        ensures { result.items ≡ self }
+    {
+        self.items
+    }
+
+    /// The rows, to be read.
+    pub fn as_slice(&self) -> &[(Key, Value)]
+        ensures { result.now ≡ self.now }
+    {
+        self.items.as_slice()
+    }
+
+    /// How many rows there are.
+    pub fn len(&self) -> usize
+        ensures { result ≡ length self.now }
+    {
+        self.items.len()
+    }
+}
+
+// Whether the last row is of this key.
+fn ends_at(rows: &[(Key, Value)], key: &Key) -> bool
+    ensures { result ≡ is_row_of key.now (slice_get rows.now (length rows.now - 1)) }
+{
+    match rows.last() {
+        Some(row) => row.0 == *key,
+        None => false,
+    }
+}
+
+// Removes the last row, where it is of this key.
+fn drop_row(rows: &mut Vec<(Key, Value)>, key: &Key)
+    ensures { (lesser : List (List ℕ × List ℕ)) (at : Written) → rows.old.items ≡ lesser ++ row_of key.now at → Below lesser key.now → rows.new.items ≡ lesser }
+{
+    if ends_at(rows, key) {
+        let _ = rows.pop();
+    }
+}
+
+// Puts what the version leaves at its key, which is at least the rows' keys.
+fn put_version(rows: &mut Vec<(Key, Value)>, version: &StoredVersion) -> Result<(), AllocError>
+    requires { Under rows.old.items version.now.key }
+    ensures { OnOk result (rows.new.items ≡ put_row version.now.key version.now.value rows.old.items) }
+{
+    drop_row(rows, &version.key);
+    if let Some(value) = version.value {
+        rows.push((version.key, value))?;
+    }
+    Ok(())
+}
+
+/// Puts what the versions with commit at most t leave at their keys, which are at least the rows' keys.
+pub fn put_versions(
+    rows: &mut Vec<(Key, Value)>,
+    versions: &[StoredVersion],
+    t: u64,
+) -> Result<(), AllocError>
+    requires under { AllByRecursion (λ x. Under rows.old.items x.key) versions.now }
+    requires ordered { InOrder versions.now }
+    ensures { OnOk result (rows.new.items ≡ rows_after (ops_to t versions.now) rows.old.items) }
+{
+    for version in versions {
+        if version.commit <= t {
+            put_version(rows, version)?;
+        }
+    }
+    Ok(())
+}

@@ -1,0 +1,113 @@
+// Prunes and drops over pages: pages that became empty go to the pool.
+ghost use Rattle.std.specs.Prelude.{◌≡◌, ◌++◌, ◌<◌, ◌≤◌, ◌+◌, nat_lt, remove, take, drop, length, slice_get, slice_index_or, vec_capacity};
+ghost use Rattle.std.specs.List.{AllByRecursion};
+ghost use Rattle.xc_versions.specs.Stored.{kept, pruned_before, up_to};
+ghost use Rattle.xc_versions.specs.Pages.{IsPage, IsEmptyPage, items_of, spare_of};
+ghost use Rattle.xc_versions.specs.declared.page.Page.{Page};
+ghost use Rattle.xc_versions.specs.Pool.{IsStore};
+
+use crate::page::Page;
+use crate::stored::{StoredVersion, drop_later};
+
+// The first version of the pages from i on.
+fn first_from(pages: &[Page], i: usize) -> Option<StoredVersion>
+    requires { AllByRecursion IsPage pages.now }
+    ensures { result ≡ slice_get (items_of (drop i pages.now)) 0 }
+{
+    if i < pages.len() {
+        let page = &pages[i];
+        page.items.first().copied()
+    } else {
+        None
+    }
+}
+
+// Moves the empty page i to the pool.
+fn free(pages: &mut Vec<Page>, pool: &mut Vec<Vec<StoredVersion>>, i: usize)
+    requires within { i < length pages.old.items }
+    requires none { (q : Page) → q ≡ slice_index_or pages.old.items i q → IsEmptyPage q.items }
+    requires empty { AllByRecursion IsEmptyPage pool.old.items }
+    requires room { length pool.old.items < vec_capacity pool.old }
+    ensures pages { pages.new.items ≡ remove pages.old.items i }
+    ensures empty { AllByRecursion IsEmptyPage pool.new.items }
+    ensures len { length pool.new.items ≡ length pool.old.items + 1 }
+    ensures pages_capacity { vec_capacity pages.new ≡ vec_capacity pages.old }
+    ensures pool_capacity { vec_capacity pool.new ≡ vec_capacity pool.old }
+{
+    let Page { items, due: _ } = pages.remove(i);
+    pool.push_reserved(items);
+}
+
+// Removes from the page i what the next version replaces at the cutoff.
+fn prune_at(pages: &mut Vec<Page>, pool: &mut Vec<Vec<StoredVersion>>, i: usize, cutoff: u64)
+    requires store { IsStore pages.old pool.old }
+    requires within { i < length pages.old.items }
+    ensures store { IsStore pages.new pool.new }
+    ensures front { take i pages.new.items ≡ take i pages.old.items }
+    ensures tail { (q : Page) → q ≡ slice_index_or pages.old.items i q → items_of (drop i pages.new.items) ≡ pruned_before cutoff q.items.items (items_of (drop (i + 1) pages.old.items)) }
+    ensures spare { spare_of pages.old.items (length pool.old.items) ≤ spare_of pages.new.items (length pool.new.items) }
+{
+    if is_idle(pages, i, cutoff) {
+        return;
+    }
+    let next = first_from(pages, i + 1);
+    let page = &mut pages[i];
+    page.prune(next, cutoff);
+    if page.items.is_empty() {
+        free(pages, pool, i);
+    }
+}
+
+// Whether nothing of the page i is due at the cutoff.
+#[inline]
+fn is_idle(pages: &[Page], i: usize, cutoff: u64) -> bool
+    requires { i < length pages.now }
+    ensures { (q : Page) → q ≡ slice_index_or pages.now i q → result ≡ nat_lt cutoff q.due }
+{
+    let page = &pages[i];
+    cutoff < page.due
+}
+
+/// Of each key's versions with commit at most the cutoff only the last stays. A page that loses none is not looked into.
+pub fn prune(pages: &mut Vec<Page>, pool: &mut Vec<Vec<StoredVersion>>, cutoff: u64)
+    requires { IsStore pages.old pool.old }
+    ensures store { IsStore pages.new pool.new }
+    ensures items { items_of pages.new.items ≡ kept cutoff (items_of pages.old.items) }
+    ensures spare { spare_of pages.old.items (length pool.old.items) ≤ spare_of pages.new.items (length pool.new.items) }
+{
+    let mut i = pages.len();
+    while i > 0 {
+        i -= 1;
+        prune_at(pages, pool, i, cutoff);
+    }
+}
+
+// Removes from the page i the versions with commit above t.
+fn drop_at(pages: &mut Vec<Page>, pool: &mut Vec<Vec<StoredVersion>>, i: usize, t: u64)
+    requires store { IsStore pages.old pool.old }
+    requires within { i < length pages.old.items }
+    ensures store { IsStore pages.new pool.new }
+    ensures front { take i pages.new.items ≡ take i pages.old.items }
+    ensures tail { (q : Page) → q ≡ slice_index_or pages.old.items i q → items_of (drop i pages.new.items) ≡ up_to t q.items.items ++ items_of (drop (i + 1) pages.old.items) }
+    ensures spare { spare_of pages.old.items (length pool.old.items) ≤ spare_of pages.new.items (length pool.new.items) }
+{
+    let page = &mut pages[i];
+    drop_later(&mut page.items, t);
+    if page.items.is_empty() {
+        free(pages, pool, i);
+    }
+}
+
+/// The versions with commit above t go, and all others stay.
+pub fn drop_after(pages: &mut Vec<Page>, pool: &mut Vec<Vec<StoredVersion>>, t: u64)
+    requires { IsStore pages.old pool.old }
+    ensures store { IsStore pages.new pool.new }
+    ensures items { items_of pages.new.items ≡ up_to t (items_of pages.old.items) }
+    ensures spare { spare_of pages.old.items (length pool.old.items) ≤ spare_of pages.new.items (length pool.new.items) }
+{
+    let mut i = pages.len();
+    while i > 0 {
+        i -= 1;
+        drop_at(pages, pool, i, t);
+    }
+}

@@ -1,0 +1,121 @@
+// A version as it is kept, and the search among versions in order.
+ghost use Rattle.std.specs.Prelude.{◌≡◌, ◌<◌, ◌+◌, ◌≤◌, vec_len, vec_capacity};
+ghost use Rattle.std.specs.Ordering.{is_gt};
+ghost use Rattle.xc_versions.specs.Stored.{stored_cmp, InOrder, IsNew, with_version, reaches, up_to};
+ghost use Rattle.xc_versions.specs.Splits.{Splits};
+ghost use Rattle.xc_versions.specs.declared.stored.StoredVersion.{StoredVersion};
+
+use std::cmp::Ordering;
+use xc_base::{Key, Value};
+
+/// A version of a row: what its key was set to, by which transaction, and when that committed.
+#[derive(Clone, Copy, Debug)]
+pub struct StoredVersion {
+    /// When its transaction committed.
+    pub commit: u64,
+    /// Its place among the operations that were taken in.
+    pub place: u64,
+    /// Its transaction's number, 0 for a write of one tablet.
+    pub txn: u32,
+    /// What the key was set to, or None where it was removed.
+    pub value: Option<Value>,
+    /// The row's key.
+    pub key: Key,
+}
+
+impl StoredVersion {
+    // By the bytes of the key, then by commit, number and place.
+    #[inline]
+    fn order(&self, other: &StoredVersion) -> Ordering
+        ensures { result ≡ stored_cmp self.now other.now }
+    {
+        match self.key.cmp(&other.key) {
+            Ordering::Equal => match self.commit.cmp(&other.commit) {
+                Ordering::Equal => match self.txn.cmp(&other.txn) {
+                    Ordering::Equal => self.place.cmp(&other.place),
+                    unequal => unequal,
+                },
+                unequal => unequal,
+            },
+            unequal => unequal,
+        }
+    }
+
+    // Whether it stands behind the other.
+    #[inline]
+    pub fn is_after(&self, other: &StoredVersion) -> bool
+        ensures { result ≡ is_gt (stored_cmp self.now other.now) }
+    {
+        self.order(other) == Ordering::Greater
+    }
+
+    // Whether it is of a lesser key, or of this key with commit at most t.
+    #[inline]
+    pub fn reaches(&self, key: &Key, t: u64) -> bool
+        ensures { result ≡ reaches key.now t self.now }
+    {
+        match self.key.cmp(key) {
+            Ordering::Less => true,
+            Ordering::Equal => self.commit <= t,
+            Ordering::Greater => false,
+        }
+    }
+}
+
+/// How many of the versions stand before this one.
+pub fn place_of(items: &[StoredVersion], version: &StoredVersion) -> usize
+    requires { InOrder items.now }
+    ensures { Splits (λ x. is_gt (stored_cmp version.now x)) result items.now }
+{
+    let mut low = 0;
+    let mut high = items.len();
+    while low < high {
+        let middle = low + (high - low) / 2;
+        if version.is_after(&items[middle]) {
+            low = middle + 1;
+        } else {
+            high = middle;
+        }
+    }
+    low
+}
+
+/// How many of the versions are of lesser keys, or of this key with commit at most t.
+pub fn reached(items: &[StoredVersion], key: &Key, t: u64) -> usize
+    requires { InOrder items.now }
+    ensures { Splits (reaches key.now t) result items.now }
+{
+    let mut low = 0;
+    let mut high = items.len();
+    while low < high {
+        let middle = low + (high - low) / 2;
+        if items[middle].reaches(key, t) {
+            low = middle + 1;
+        } else {
+            high = middle;
+        }
+    }
+    low
+}
+
+/// Puts the version at its place among versions that have room for it.
+pub fn insert_version(items: &mut Vec<StoredVersion>, version: StoredVersion)
+    requires ordered { InOrder items.old.items }
+    requires fresh { IsNew version items.old.items }
+    requires room { vec_len items.old < vec_capacity items.old }
+    ensures items { items.new.items ≡ with_version version items.old.items }
+    ensures ordered { InOrder items.new.items }
+    ensures len { vec_len items.new ≡ vec_len items.old + 1 }
+    ensures capacity { vec_capacity items.old ≤ vec_capacity items.new }
+{
+    let at = place_of(items, &version);
+    let _ = items.insert(at, version);
+}
+
+/// The versions with commit above t go.
+pub fn drop_later(items: &mut Vec<StoredVersion>, t: u64)
+    ensures items { items.new.items ≡ up_to t items.old.items }
+    ensures capacity { vec_capacity items.new ≡ vec_capacity items.old }
+{
+    items.retain(|version| version.commit <= t);
+}

@@ -1,0 +1,6 @@
+pub mod ContentsLaws
+pub mod ApplyLaws
+pub mod RoomLaws
+pub mod StateLaws
+pub mod CutLaws
+pub mod TabletLaws

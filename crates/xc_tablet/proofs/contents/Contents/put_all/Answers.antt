@@ -1,0 +1,17 @@
+use Rattle.std.proofs.Common.{List, ◌∷◌, subst}
+use Rattle.xc_record.specs.Path.{Put}
+use Rattle.xc_record.specs.declared.record.Op.{Op}
+use Rattle.xc_tablet.proofs.ContentsLaws.{Left, AddsLeft, left-more, adds-more}
+use Rattle.xc_tablet.proofs.contents.Contents.put_all.Goals as goal
+
+pub loop-op-preserved : goal.loop-op-preserved
+loop-op-preserved c =
+    let s = c.args.self.now in
+    let ops = c.args.ops.now in
+    let d = c.loop-op.self in
+    let left : Left (Put c.args.time) ops (c.in-Some.op ∷ c.next.new.self) s d = subst (λ (rest : List Op). Left (Put c.args.time) ops rest s d) c.in-Some.ensures.steps c.loop-op.invariant.left in
+    let adds : AddsLeft ops (c.in-Some.op ∷ c.next.new.self) s d = subst (λ (rest : List Op). AddsLeft ops rest s d) c.in-Some.ensures.steps c.loop-op.invariant.adds in
+    record {
+      left = left-more (Put c.args.time) ops c.in-Some.op c.next.new.self s d _ left c.put.ensures.changes;
+      adds = adds-more ops c.in-Some.op c.next.new.self s d _ left.range adds c.put.ensures.adds;
+    }

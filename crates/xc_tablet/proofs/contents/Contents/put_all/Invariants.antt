@@ -1,0 +1,9 @@
+use Rattle.xc_record.specs.Path.{Put}
+use Rattle.xc_tablet.proofs.ContentsLaws.{Left, AddsLeft}
+use Rattle.xc_tablet.proofs.contents.Contents.put_all.Given as goal
+
+abbrev pub invariant-loop-op : goal.invariant-loop-op
+invariant-loop-op l = record {
+  left : Left (Put l.time) l.ops l.op-iterator l.initial.self l.self;
+  adds : AddsLeft l.ops l.op-iterator l.initial.self l.self;
+}

@@ -1,0 +1,4 @@
+pub mod Batch
+pub mod Contents
+pub mod Room
+pub mod State

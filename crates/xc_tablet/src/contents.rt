@@ -1,0 +1,200 @@
+// What a target tablet keeps of the keys of its range: their versions, and the operations that wait.
+ghost use Rattle.std.specs.Prelude.{◌≡◌, ◌≤◌, ◌<◌, ◌+◌, ◌^◌, ℕ, true, false, List, [], ◌∷◌, length, if◌then◌else◌, None, nat_le, OnOk};
+ghost use Rattle.std.specs.List.{find, list_all};
+ghost use Rattle.xc_record.specs.declared.record.Record.{Record};
+ghost use Rattle.xc_record.specs.Hash.{hash_of, holds};
+ghost use Rattle.xc_record.specs.Path.{Apply, Abort, record_events};
+ghost use Rattle.xc_record.specs.Kept.{step, steps};
+ghost use Rattle.xc_record.specs.Valid.{ops_in};
+ghost use Rattle.xc_intents.specs.HeldOps.{is_part};
+ghost use Rattle.xc_tablet.specs.Contents.{in_hashes, has_key, kept_in, IsContents, Alike, Changes, put_events, hold_events, LeavesAlike, keys_keep};
+ghost use Rattle.xc_tablet.specs.Room.{count_in, Adds, Settles, HasRoom};
+
+use crate::room::Room;
+use std::alloc::Global;
+use xc_base::NoMemory;
+use xc_intents::Intents;
+use xc_record::{Header, Kind, OpAt, Ops, Record, Subs, hash_bytes};
+use xc_versions::Versions;
+
+/// The versions and the operations that wait of the keys whose hashes are from `lo` to `hi`.
+#[derive(Drop, Debug)]
+pub struct Contents {
+    /// The place of the next version: above those of all versions that were added.
+    pub next: u64,
+    /// The versions.
+    pub versions: Versions,
+    /// The operations that wait.
+    pub held: Intents,
+    /// The first hash.
+    pub lo: u16,
+    /// The last hash.
+    pub hi: u16,
+}
+
+impl Contents {
+    /// Nothing. It keeps the allocator for its growth.
+    pub fn new(alloc: Global, lo: u16, hi: u16) -> Contents
+        ensures is { IsContents result }
+        ensures range { (result.lo ≡ lo) × (result.hi ≡ hi) }
+        ensures empty { (result.versions.items ≡ []) × (result.held.held ≡ []) }
+        ensures next { result.next ≡ 0 }
+    {
+        Contents {
+            next: 0,
+            versions: Versions::new(alloc),
+            held: Intents::new(alloc),
+            lo,
+            hi,
+        }
+    }
+
+    #[inline]
+    fn has(&self, op: &OpAt<'_>) -> bool
+        ensures { result ≡ has_key self.now op.now.key }
+    {
+        let hash = hash_bytes(op.key_bytes());
+        self.lo <= hash && hash <= self.hi
+    }
+
+    // Adds an operation of a write, if its key is in the range.
+    fn put(&mut self, time: u64, op: &OpAt<'_>)
+        requires is { IsContents self.old }
+        requires room { count_in self.old.lo self.old.hi (op.now ∷ []) ≤ self.old.versions.spare }
+        requires next { self.old.next + 1 < 2 ^ 64 }
+        ensures changes { Changes (put_events time (op.now ∷ [])) self.old self.new }
+        ensures adds { Adds (count_in self.old.lo self.old.hi (op.now ∷ [])) 0 self.old self.new }
+    {
+        if self.has(op) {
+            self.versions.add(op.key(), time, 0, self.next, op.value());
+            self.next += 1;
+        }
+    }
+
+    // Adds the operations of a write.
+    fn put_all(&mut self, time: u64, ops: &Ops)
+        requires is { IsContents self.old }
+        requires room { count_in self.old.lo self.old.hi ops.now ≤ self.old.versions.spare }
+        requires next { self.old.next + length ops.now < 2 ^ 64 }
+        ensures changes { Changes (put_events time ops.now) self.old self.new }
+        ensures adds { Adds (count_in self.old.lo self.old.hi ops.now) 0 self.old self.new }
+    {
+        for op in ops.iter() {
+            self.put(time, &op);
+        }
+    }
+
+    // Holds an operation of an intent, if its key is in the range.
+    fn hold(&mut self, txn: u32, sub: u8, op: &OpAt<'_>)
+        requires is { IsContents self.old }
+        requires room { count_in self.old.lo self.old.hi (op.now ∷ []) ≤ self.old.held.spare }
+        ensures changes { (time : ℕ) → Changes (hold_events txn sub time (op.now ∷ [])) self.old self.new }
+        ensures adds { Adds 0 (count_in self.old.lo self.old.hi (op.now ∷ [])) self.old self.new }
+    {
+        if self.has(op) {
+            self.held.hold(txn, sub, op.get());
+        }
+    }
+
+    // Holds the operations of an intent.
+    fn hold_all(&mut self, txn: u32, sub: u8, ops: &Ops)
+        requires is { IsContents self.old }
+        requires room { count_in self.old.lo self.old.hi ops.now ≤ self.old.held.spare }
+        ensures changes { (time : ℕ) → Changes (hold_events txn sub time ops.now) self.old self.new }
+        ensures adds { Adds 0 (count_in self.old.lo self.old.hi ops.now) self.old self.new }
+    {
+        for op in ops.iter() {
+            self.hold(txn, sub, &op);
+        }
+    }
+
+    // Takes out the first operation of the transaction that waits at a hash from `lo` to `hi`, and adds it, unless its
+    // subtransaction was rolled back. Answers whether there was one.
+    fn apply_first(&mut self, txn: u32, commit: u64, without: &Subs, lo: u16, hi: u16) -> bool
+        requires is { IsContents self.old }
+        requires room { length self.old.held.held ≤ self.old.versions.spare }
+        requires next { self.old.next + length self.old.held.held < 2 ^ 64 }
+        ensures left { LeavesAlike txn commit without.now lo hi self.old self.new }
+        ensures settles { Settles self.old self.new }
+        ensures one { result ≡ true → length self.new.held.held < length self.old.held.held }
+        ensures done { result ≡ false → find (is_part txn lo hi) self.new.held.held ≡ None }
+    {
+        let Some(held) = self.held.take_first(txn, lo, hi) else {
+            return false;
+        };
+        if without.contains(held.sub) {
+            return true;
+        }
+        self.versions
+            .add(held.op.key, commit, txn, self.next, held.op.value);
+        self.next += 1;
+        true
+    }
+
+    // Adds what waits of the transaction at hashes from `lo` to `hi`, but for what was rolled back.
+    fn apply(&mut self, txn: u32, commit: u64, without: &Subs, lo: u16, hi: u16)
+        requires is { IsContents self.old }
+        requires room { length self.old.held.held ≤ self.old.versions.spare }
+        requires next { self.old.next + length self.old.held.held < 2 ^ 64 }
+        ensures changes { Changes (λ k x. if in_hashes lo hi k then step (Apply txn commit without.now) x else x)
+            self.old self.new }
+        ensures settles { Settles self.old self.new }
+    {
+        while self.apply_first(txn, commit, without, lo, hi) {}
+    }
+
+    // Drops what waits of the transaction at hashes from `lo` to `hi`.
+    fn abort(&mut self, txn: u32, lo: u16, hi: u16)
+        requires is { IsContents self.old }
+        ensures changes { Changes (λ k x. if in_hashes lo hi k then step (Abort txn) x else x) self.old self.new }
+        ensures settles { Settles self.old self.new }
+        ensures versions { self.new.versions ≡ self.old.versions }
+    {
+        self.held.forget(txn, lo, hi);
+    }
+
+    /// Takes in a record of the source tablet with this header.
+    pub fn take(&mut self, header: &Header, item: &Record)
+        requires is { IsContents self.old }
+        requires keep { keys_keep header.now item.now.kind ≡ true }
+        requires room { HasRoom (item.now ∷ []) self.old }
+        requires next { self.old.next + length self.old.held.held + ops_in item.now.kind < 2 ^ 64 }
+        ensures changes { Changes (λ k x. if holds header.now (hash_of k) then steps (record_events k item.now) x else x)
+            self.old self.new }
+        ensures room { (rs : List Record) → HasRoom (item.now ∷ rs) self.old → HasRoom rs self.new }
+        ensures next { self.new.next + length self.new.held.held
+            ≤ self.old.next + length self.old.held.held + ops_in item.now.kind }
+    {
+        match &item.kind {
+            Kind::Write { ops } => self.put_all(item.time.get(), ops),
+            Kind::Intent { txn, sub, ops } => self.hold_all(*txn, *sub, ops),
+            Kind::Apply {
+                txn,
+                commit,
+                without,
+            } => self.apply(*txn, commit.get(), without, header.lo, header.hi),
+            Kind::Abort { txn } => self.abort(*txn, header.lo, header.hi),
+            Kind::Safe { .. } | Kind::Split { .. } => {}
+        }
+    }
+
+    /// Makes room for the records, of at most 64 operations each. `NoMemory` where memory is out; what is kept is as
+    /// before then.
+    pub fn make_room(&mut self, records: &[Record]) -> Result<(), NoMemory>
+        requires few { length records.now ≤ 2 ^ 20 }
+        requires small { list_all (λ r. nat_le (ops_in r.kind) 64) records.now ≡ true }
+        requires waits { length self.old.held.held ≤ 2 ^ 32 }
+        ensures alike { Alike self.old self.new }
+        ensures room { OnOk result (HasRoom records.now self.new) }
+    {
+        let room = Room::of(records, self.lo, self.hi);
+        let versions = room.versions(self.held.len());
+        if self.held.reserve(room.holds).is_err() {
+            return Err(NoMemory);
+        }
+        if self.versions.reserve(versions).is_err() {
+            return Err(NoMemory);
+        }
+        Ok(())
+    }
+}

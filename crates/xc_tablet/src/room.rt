@@ -1,0 +1,83 @@
+// How much room records need.
+ghost use Rattle.std.specs.Prelude.{◌≡◌, ◌≤◌, ◌<◌, ◌+◌, ◌*◌, ◌^◌, ◌||◌, true, length, nat_le, if◌then◌else◌};
+ghost use Rattle.std.specs.List.{list_all};
+ghost use Rattle.xc_record.specs.Valid.{ops_in};
+ghost use Rattle.xc_tablet.specs.Room.{count_in, puts_of, holds_of, is_apply, puts_in, holds_in, has_apply};
+
+use xc_record::{Kind, Ops, Record, hash_bytes};
+
+/// What records need, of operations whose keys are in a range.
+#[derive(Drop, Debug)]
+pub struct Room {
+    /// How many operations of writes there are.
+    pub puts: usize,
+    /// How many operations of intents there are.
+    pub holds: usize,
+    /// Whether a record is an apply.
+    pub applies: bool,
+}
+
+/// How many of the operations are of keys whose hashes are from `lo` to `hi`.
+fn count_in(ops: &Ops, lo: u16, hi: u16) -> usize
+    ensures { result ≡ count_in lo hi ops.now }
+{
+    let mut count: usize = 0;
+    for op in ops.iter() {
+        let hash = hash_bytes(op.key_bytes());
+        if lo <= hash && hash <= hi {
+            count += 1;
+        }
+    }
+    count
+}
+
+impl Room {
+    // Counts a record in.
+    fn count(&mut self, kind: &Kind, lo: u16, hi: u16)
+        requires puts { self.old.puts + ops_in kind.now < 2 ^ 64 }
+        requires holds { self.old.holds + ops_in kind.now < 2 ^ 64 }
+        ensures puts { self.new.puts ≡ self.old.puts + puts_of lo hi kind.now }
+        ensures holds { self.new.holds ≡ self.old.holds + holds_of lo hi kind.now }
+        ensures applies { self.new.applies ≡ (self.old.applies || is_apply kind.now) }
+    {
+        match kind {
+            Kind::Write { ops } => self.puts += count_in(ops, lo, hi),
+            Kind::Intent { ops, .. } => self.holds += count_in(ops, lo, hi),
+            Kind::Apply { .. } => self.applies = true,
+            Kind::Abort { .. } | Kind::Safe { .. } | Kind::Split { .. } => {}
+        }
+    }
+
+    /// What the records need, of at most 64 operations each.
+    pub fn of(records: &[Record], lo: u16, hi: u16) -> Room
+        requires few { length records.now ≤ 2 ^ 20 }
+        requires small { list_all (λ r. nat_le (ops_in r.kind) 64) records.now ≡ true }
+        ensures puts { result.puts ≡ puts_in lo hi records.now }
+        ensures holds { result.holds ≡ holds_in lo hi records.now }
+        ensures applies { result.applies ≡ has_apply records.now }
+        ensures few_puts { result.puts ≤ 64 * length records.now }
+        ensures few_holds { result.holds ≤ 64 * length records.now }
+    {
+        let mut room = Room {
+            puts: 0,
+            holds: 0,
+            applies: false,
+        };
+        for item in records {
+            room.count(&item.kind, lo, hi);
+        }
+        room
+    }
+
+    /// How many versions may be added, where so many operations wait already: an apply may take them all.
+    pub fn versions(&self, waiting: usize) -> usize
+        requires { self.now.puts + self.now.holds + waiting < 2 ^ 64 }
+        ensures { result ≡ (if self.now.applies then self.now.puts + self.now.holds + waiting else self.now.puts) }
+    {
+        if self.applies {
+            self.puts + self.holds + waiting
+        } else {
+            self.puts
+        }
+    }
+}

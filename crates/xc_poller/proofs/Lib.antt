@@ -1,0 +1,4 @@
+pub mod BatchLaws
+pub mod PollLaws
+pub mod StandLaws
+pub mod Zips

@@ -1,0 +1,9 @@
+pub mod LookLaws
+pub mod SessionLaws
+pub mod MoveLaws
+pub mod ReadLaws
+pub mod NewLaws
+pub mod PollLaws
+pub mod PollFacts
+pub mod PollFits
+pub mod PollSteps

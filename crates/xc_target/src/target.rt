@@ -1,0 +1,246 @@
+// The target of a replication session.
+ghost use Rattle.std.specs.Prelude.{◌≡◌, ◌<◌, ◌≤◌, ℕ, true, Option, None, Some, Err, length, List, option_copied, IfOk, IfErr, IfSome, IsErrOf};
+ghost use Rattle.xc_base.specs.Causes.{Rose};
+ghost use Rattle.xc_record.specs.Bounds.{are_bounds};
+ghost use Rattle.xc_record.specs.Headers.{are_headers};
+ghost use Rattle.xc_record.specs.Valid.{is_valid, headers_of};
+ghost use Rattle.xc_logs.specs.Feed.{IsFeed};
+ghost use Rattle.xc_record.specs.declared.record.Logs.{Logs};
+ghost use Rattle.xc_record.specs.declared.record.Header.{Header as HeaderOf};
+ghost use Rattle.xc_record.specs.Agreement.{disagreement};
+ghost use Rattle.xc_record.specs.Rows.{row};
+ghost use Rattle.xc_record.specs.Session.{Session, IsSession, position, safe_now, start};
+ghost use Rattle.xc_target.specs.Target.{new_target, FitsFeed};
+ghost use Rattle.xc_target.specs.Stands.{StandsForSession};
+ghost use Rattle.xc_target.specs.Answers.{IsAcknowledged, IsRestarted, IsNotReadable, IsPruned, IsClosed, IsPolled};
+
+use crate::answers::{Closed, NotReadable, PruneFail, SessionLine, TargetFail};
+use crate::looks::{least_open, shown};
+use crate::opening::{new_pollers, new_tablets, open_children};
+use crate::pruning::{keep_all_from, restore_all};
+use std::alloc::Global;
+use std::marker::Model;
+use xc_base::{Key, NoMemory, Value};
+use xc_logs::Feed;
+use xc_poller::{NextFail, PollAnswer, Poller};
+use xc_record::Header;
+use xc_tablet::TargetTablet;
+
+/// The target of a replication session: its tablets, and one poller for each source tablet. A source tablet is named by its
+/// number; each call that takes one has the condition that there is one of this number.
+#[derive(Drop, Debug)]
+pub struct Target {
+    tablets: Vec<TargetTablet>,
+    pollers: Vec<Poller>,
+    cutoff: u64,
+    closed: Option<u64>,
+}
+
+impl Model for Target {
+    ghost use Rattle.xc_target.specs.Target.{TargetState, IsTarget};
+
+    ghost Value = { TargetState };
+
+    ghost view = { λ t. record { tablets = t.tablets.items; pollers = t.pollers.items; cutoff = t.cutoff; closed = t.closed } };
+
+    ghost invariant = { λ t. IsTarget (record { tablets = t.tablets.items; pollers = t.pollers.items; cutoff = t.cutoff; closed = t.closed }) };
+}
+
+impl Target {
+    /// A target for the source tablets with these headers, whose own tablets begin at these hashes. `NoMemory` where memory is
+    /// out. It keeps the allocator for its growth.
+    pub fn new(alloc: Global, headers: &[Header], bounds: &[u16]) -> Result<Target, NoMemory>
+        requires headers { are_headers headers.now ≡ true }
+        requires bounds { are_bounds bounds.now ≡ true }
+        ensures new { IfOk result (λ t. t ≡ new_target headers.now bounds.now) }
+        // It stands for the session that nothing was asked of yet, of all logs with these headers.
+        ensures stands { IfOk result (λ t. (logs : Logs) → is_valid logs ≡ true → headers_of logs.tablets ≡ headers.now → StandsForSession logs (start logs) t) }
+        ensures fits { IfOk result (λ t. (counts : List ℕ) (logs : Option Logs) → IsFeed headers.now counts logs → FitsFeed headers.now counts t) }
+    {
+        let tablets = new_tablets(alloc, headers, bounds)?;
+        let pollers = new_pollers(alloc, headers)?;
+        Ok(Target {
+            tablets,
+            pollers,
+            cutoff: 0,
+            closed: None,
+        })
+    }
+
+    /// Polls the source tablet: at most `n` of the records after its cursor go to every target tablet. It answers how many, or
+    /// why there are none. When a poll closes a source tablet, its children are opened.
+    ///
+    /// `Closed` exactly where the session is; `ReadFault` only where the feed's count of faults rose. After an error the
+    /// session is as before; where memory is out, some target tablets may be ahead.
+    pub fn poll<F: Feed>(
+        &mut self,
+        alloc: Global,
+        feed: &mut F,
+        id: u32,
+        n: u64,
+    ) -> Result<PollAnswer, TargetFail>
+        requires known { id < length self.old.pollers }
+        requires some { 1 ≤ n }
+        requires fits { FitsFeed (F.headers feed.old) (F.counts feed.old) self.old }
+        ensures fits { FitsFeed (F.headers feed.new) (F.counts feed.new) self.new }
+        ensures step { IfSome (F.logs feed.old) (λ logs. (m : Session) → IsSession logs m → StandsForSession logs m self.old → IsPolled logs m id n self.new result) }
+
+        // Closed exactly where the session is.
+        ensures refused { (t : ℕ) → self.old.closed ≡ Some t → (result ≡ Err (TargetFail.Closed t)) × (self.new ≡ self.old) }
+        ensures refusal { (t : ℕ) → IsErrOf result (TargetFail.Closed t) → self.old.closed ≡ Some t }
+
+        // A read fault has its cause in the feed.
+        ensures read_fault { IsErrOf result TargetFail.ReadFault → Rose (F.faults feed.old) (F.faults feed.new) }
+        ensures quiet { ¬ IsErrOf result TargetFail.ReadFault → F.faults feed.new ≡ F.faults feed.old }
+
+        // What each call of a feed keeps.
+        ensures same_headers { F.headers feed.new ≡ F.headers feed.old }
+        ensures same_counts { F.counts feed.new ≡ F.counts feed.old }
+        ensures same_logs { F.logs feed.new ≡ F.logs feed.old }
+        ensures later { F.faults feed.old ≤ F.faults feed.new }
+    {
+        if let Some(t) = self.closed {
+            return Err(TargetFail::Closed(t));
+        }
+        let poller = &mut self.pollers[id as usize];
+        let polled = poller.poll(alloc, feed, n, &mut self.tablets);
+        let after = *poller;
+        let answer = match polled {
+            Ok(answer) => answer,
+            Err(NextFail::ReadFault) => return Err(TargetFail::ReadFault),
+            Err(NextFail::NoMemory) => return Err(TargetFail::NoMemory),
+        };
+        let PollAnswer::Polled(count) = answer else {
+            return Ok(answer);
+        };
+        if after.closed() {
+            open_children(&mut self.pollers, self.tablets[0].headers(), &after);
+        }
+        Ok(PollAnswer::Polled(count))
+    }
+
+    /// How many records of the source tablet were delivered, and where polls begin.
+    pub fn session(&self, id: u32) -> SessionLine
+        requires { id < length self.now.pollers }
+        ensures { (logs : Logs) (m : Session) → StandsForSession logs m self.now
+            → record { place = result.place; cursor = result.cursor; acknowledged = result.acknowledged } ≡ position m id }
+    {
+        let poller = &self.pollers[id as usize];
+        SessionLine {
+            place: poller.applied(),
+            cursor: poller.cursor(),
+            acknowledged: poller.acknowledged(),
+        }
+    }
+
+    /// Before this hybrid time no history is kept.
+    #[inline]
+    pub fn cutoff(&self) -> u64
+        ensures cutoff { result ≡ self.now.cutoff }
+        ensures session { (logs : Logs) (m : Session) → StandsForSession logs m self.now → result ≡ m.cutoff }
+    {
+        self.cutoff
+    }
+
+    /// The hybrid time that the session was closed at, if it was.
+    #[inline]
+    pub fn closed(&self) -> Option<u64>
+        ensures closed { result ≡ self.now.closed }
+        ensures session { (logs : Logs) (m : Session) → StandsForSession logs m self.now → result ≡ m.closed }
+    {
+        self.closed
+    }
+
+    /// Polls of the source tablet begin at its cursor after a restart from now on. The cursor is answered.
+    pub fn acknowledge(&mut self, id: u32) -> Result<u64, Closed>
+        requires { id < length self.old.pollers }
+        ensures step { (logs : Logs) (m : Session) → IsSession logs m → StandsForSession logs m self.old → IsAcknowledged logs m id self.new result }
+        ensures fits { (headers : List HeaderOf) (counts : List ℕ) → FitsFeed headers counts self.old → FitsFeed headers counts self.new }
+    {
+        if let Some(t) = self.closed {
+            return Err(Closed { t });
+        }
+        let poller = &mut self.pollers[id as usize];
+        Ok(poller.acknowledge())
+    }
+
+    /// Polls of the source tablet begin at its acknowledged place, which is answered. What was delivered stays so.
+    pub fn restart(&mut self, id: u32) -> Result<u64, Closed>
+        requires { id < length self.old.pollers }
+        ensures step { (logs : Logs) (m : Session) → IsSession logs m → StandsForSession logs m self.old → IsRestarted logs m id self.new result }
+        ensures fits { (headers : List HeaderOf) (counts : List ℕ) → FitsFeed headers counts self.old → FitsFeed headers counts self.new }
+    {
+        if let Some(t) = self.closed {
+            return Err(Closed { t });
+        }
+        let poller = &mut self.pollers[id as usize];
+        Ok(poller.restart())
+    }
+
+    /// The safe time: up to it all that the source committed was delivered to every tablet.
+    pub fn safe(&self) -> u64
+        ensures { (logs : Logs) (m : Session) → IsSession logs m → StandsForSession logs m self.now → result ≡ safe_now logs m }
+    {
+        least_open(&self.pollers)
+    }
+
+    /// The value of the key at the safe time: None where it has none.
+    pub fn read(&self, key: &Key) -> Option<&Value>
+        ensures { (logs : Logs) (m : Session) → IsSession logs m → StandsForSession logs m self.now → disagreement logs ≡ None
+            → option_copied result ≡ row logs (safe_now logs m) key.now }
+    {
+        shown(&self.tablets, key, least_open(&self.pollers))
+    }
+
+    /// The value of the key at the hybrid time `u`: Ahead exactly where it is later than the safe time, else Pruned exactly
+    /// where it is before the cutoff.
+    pub fn read_at(&self, u: u64, key: &Key) -> Result<Option<&Value>, NotReadable>
+        ensures shows { (logs : Logs) (m : Session) → IsSession logs m → StandsForSession logs m self.now → disagreement logs ≡ None
+            → IfOk result (λ value. (m.cutoff ≤ u) × ((u ≤ safe_now logs m) × (option_copied value ≡ row logs u key.now))) }
+        ensures refuses { (logs : Logs) (m : Session) → IsSession logs m → StandsForSession logs m self.now → IfErr result (IsNotReadable logs m u) }
+    {
+        let safe = least_open(&self.pollers);
+        if u > safe {
+            return Err(NotReadable::Ahead { safe });
+        }
+        if u < self.cutoff {
+            return Err(NotReadable::Pruned {
+                cutoff: self.cutoff,
+            });
+        }
+        Ok(shown(&self.tablets, key, u))
+    }
+
+    /// Lets go the history before the hybrid time `u`, and answers the cutoff: the greater of it and the old one. Closed
+    /// exactly where the session is, else Ahead exactly where `u` is later than the safe time. An error changes nothing.
+    pub fn prune(&mut self, u: u64) -> Result<u64, PruneFail>
+        ensures step { (logs : Logs) (m : Session) → IsSession logs m → StandsForSession logs m self.old → IsPruned logs m u self.new result }
+        ensures fits { (headers : List HeaderOf) (counts : List ℕ) → FitsFeed headers counts self.old → FitsFeed headers counts self.new }
+    {
+        if let Some(t) = self.closed {
+            return Err(PruneFail::Closed(t));
+        }
+        let safe = least_open(&self.pollers);
+        if u > safe {
+            return Err(PruneFail::Ahead { safe });
+        }
+        let cutoff = self.cutoff.max(u);
+        keep_all_from(&mut self.tablets, cutoff);
+        self.cutoff = cutoff;
+        Ok(cutoff)
+    }
+
+    /// Restores each tablet to the safe time, which is answered, and closes the session at it. Reads go on at this time.
+    pub fn failover(&mut self) -> Result<u64, Closed>
+        ensures step { (logs : Logs) (m : Session) → IsSession logs m → StandsForSession logs m self.old → IsClosed logs m self.new result }
+        ensures fits { (headers : List HeaderOf) (counts : List ℕ) → FitsFeed headers counts self.old → FitsFeed headers counts self.new }
+    {
+        if let Some(t) = self.closed {
+            return Err(Closed { t });
+        }
+        let t = least_open(&self.pollers);
+        restore_all(&mut self.tablets, t);
+        self.closed = Some(t);
+        Ok(t)
+    }
+}

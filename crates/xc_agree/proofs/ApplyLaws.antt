@@ -29,26 +29,32 @@ none n = record { txn = n; time = 0; without = [] }
 ties-same : (n : ℕ) (c : Commit) → ties below (none n) c ≡ (c.txn == n)
 ties-same n c = grind (arith, nat_tests)
 
-field-filter : {X : Type 0} (field : Commit → X) (cs : List Commit) (n : ℕ) → field_of field (filter (ties below (none n)) cs) n ≡ field_of field cs n
+field-filter : {X : Type 0} (field : Commit → X) (cs : List Commit) (n : ℕ)
+    → field_of field (filter (ties below (none n)) cs) n ≡ field_of field cs n
 field-filter field [] n = refl
 field-filter {X = X} field (c ∷ cs) n = go (field-filter field cs n) (c.txn == n) (ties below (none n) c) refl (ties-same n c)
   where
     go : field_of field (filter (ties below (none n)) cs) n ≡ field_of field cs n → (b t : Bool) → c.txn == n ≡ b → t ≡ b
-        → first_some (field_at field n) (if t then (c ∷ filter (ties below (none n)) cs) else filter (ties below (none n)) cs) ≡ or_else (if b then Some (field c) else None) (field_of field cs n)
+        → first_some (field_at field n) (if t then (c ∷ filter (ties below (none n)) cs) else filter (ties below (none n)) cs) ≡ or_else
+        (if b then Some (field c) else None) (field_of field cs n)
     go ih true true at e = rw at refl
     go ih false false at e = ih
     go ih true false at e = cc
     go ih false true at e = cc
 
 -- a sort keeps what the first commit of each transaction says
-pub field-sorted : {X F : Type 0} (field : Commit → X) {g : Mut F (Bor Commit × Unit {0}) ℕ} {f : F} (xs ys : List Commit) → ((key : Commit → ℕ) → ComputesKey g key f → IsStableByKey key nat_cmp xs ys)
-    → ((a : Bor Commit × Unit {0}) (r : ℕ) (f' : F) → Called g f a r f' → (r ≡ a.0.now.txn) × (f' ≡ f)) → (n : ℕ) → field_of field ys n ≡ field_of field xs n
+pub field-sorted : {X F : Type 0} (field : Commit → X) {g : Mut F (Bor Commit × Unit {0}) ℕ} {f : F} (xs ys : List Commit)
+    → ((key : Commit → ℕ) → ComputesKey g key f → IsStableByKey key nat_cmp xs ys)
+    → ((a : Bor Commit × Unit {0}) (r : ℕ) (f' : F) → Called g f a r f' → (r ≡ a.0.now.txn) × (f' ≡ f)) → (n : ℕ)
+    → field_of field ys n ≡ field_of field xs n
 field-sorted field {g = g} {f = f} xs ys stable calls n =
     let same = stable (λ c. c.txn) (always_returns_same g (λ a r. r ≡ a.0.now.txn) f calls) (none n) in
     sym (field-filter field ys n) ∙ ap (λ zs. field_of field zs n) same ∙ field-filter field xs n
 
-pub sorted-by-txn : {F : Type 0} {g : Mut F (Bor Commit × Unit {0}) ℕ} {f : F} (ys : List Commit) → ((key : Commit → ℕ) → ComputesKey g key f → IsSortedByKey key nat_cmp ys)
-    → ((a : Bor Commit × Unit {0}) (r : ℕ) (f' : F) → Called g f a r f' → (r ≡ a.0.now.txn) × (f' ≡ f)) → IsSortedByKey (λ c. c.txn) nat_cmp ys
+pub sorted-by-txn : {F : Type 0} {g : Mut F (Bor Commit × Unit {0}) ℕ} {f : F} (ys : List Commit)
+    → ((key : Commit → ℕ) → ComputesKey g key f → IsSortedByKey key nat_cmp ys)
+    → ((a : Bor Commit × Unit {0}) (r : ℕ) (f' : F) → Called g f a r f' → (r ≡ a.0.now.txn) × (f' ≡ f))
+    → IsSortedByKey (λ c. c.txn) nat_cmp ys
 sorted-by-txn {g = g} {f = f} ys sorted calls = sorted (λ c. c.txn) (always_returns_same g (λ a r. r ≡ a.0.now.txn) f calls)
 
 -- ---- of each transaction the first
@@ -56,7 +62,8 @@ sorted-by-txn {g = g} {f = f} ys sorted calls = sorted (λ c. c.txn) (always_ret
 abbrev pub same_txn : Commit → Commit → Bool
 same_txn x y = x.txn == y.txn
 
-field-dedup_from : {X : Type 0} (field : Commit → X) (k : Commit) (cs : List Commit) (n : ℕ) → field_of field (dedup_from same_txn k cs) n ≡ field_of field (k ∷ cs) n
+field-dedup_from : {X : Type 0} (field : Commit → X) (k : Commit) (cs : List Commit) (n : ℕ)
+    → field_of field (dedup_from same_txn k cs) n ≡ field_of field (k ∷ cs) n
 field-dedup_from field k [] n = refl
 field-dedup_from field k (c ∷ cs) n = grind (arith, nat_tests, field-dedup_from field k cs n, field-dedup_from field c cs n)
 
@@ -64,7 +71,8 @@ pub field-dedup : {X : Type 0} (field : Commit → X) (cs : List Commit) (n : �
 field-dedup field [] n = refl
 field-dedup field (c ∷ cs) n = field-dedup_from field c cs n
 
-txns-dedup_from : (k : Commit) (cs : List Commit) → map (λ c. c.txn) (dedup_from same_txn k cs) ≡ dedup_from ◌==◌ k.txn (map (λ c. c.txn) cs)
+txns-dedup_from : (k : Commit) (cs : List Commit)
+    → map (λ c. c.txn) (dedup_from same_txn k cs) ≡ dedup_from ◌==◌ k.txn (map (λ c. c.txn) cs)
 txns-dedup_from k [] = refl
 txns-dedup_from k (c ∷ cs) = grind (arith, txns-dedup_from k cs, txns-dedup_from c cs)
 
@@ -75,10 +83,12 @@ txns-dedup (c ∷ cs) = txns-dedup_from c cs
 txns-sorted : (cs : List Commit) → IsSortedByKey (λ c. c.txn) nat_cmp cs → IsSorted nat_cmp (map (λ c. c.txn) cs)
 txns-sorted cs sorted k d low high =
     let within : k + 1 < length cs = omega (arith, length-map cs (λ (c : Commit). c.txn)) in
-    rw (get_or-map (λ (c : Commit). c.txn) cs (k + 1) (none 0) d within, get_or-map (λ (c : Commit). c.txn) cs k (none 0) d (omega arith)) (sorted k (none 0) low within)
+    rw (get_or-map (λ (c : Commit). c.txn) cs (k + 1) (none 0) d within, get_or-map (λ (c : Commit). c.txn) cs k (none 0) d (omega arith))
+    (sorted k (none 0) low within)
 
 pub rises-dedup : (cs : List Commit) → IsSortedByKey (λ c. c.txn) nat_cmp cs → Rises (dedup same_txn cs)
-rises-dedup cs sorted = subst IsStrictlyIncreasing (sym (txns-dedup cs)) (IsStrictlyIncreasing-dedup (map (λ c. c.txn) cs) (txns-sorted cs sorted))
+rises-dedup cs sorted =
+    subst IsStrictlyIncreasing (sym (txns-dedup cs)) (IsStrictlyIncreasing-dedup (map (λ c. c.txn) cs) (txns-sorted cs sorted))
 
 -- ---- how many
 
@@ -105,10 +115,12 @@ rising-from (n ∷ ns) h = (increasing-head n ns h, rising-from ns (increasing-t
 has-head : (n : ℕ) (ns : List ℕ) → has n (n ∷ ns) ≡ true
 has-head n ns = rw (eq-eqb n n refl) refl
 
-head-same : (x y : ℕ) (xs ys : List ℕ) → ((m : ℕ) → has m xs ≡ true → x < m) → ((m : ℕ) → has m ys ≡ true → y < m) → has x (y ∷ ys) ≡ true → has y (x ∷ xs) ≡ true → x ≡ y
+head-same : (x y : ℕ) (xs ys : List ℕ) → ((m : ℕ) → has m xs ≡ true → x < m) → ((m : ℕ) → has m ys ≡ true → y < m) → has x (y ∷ ys) ≡ true
+    → has y (x ∷ xs) ≡ true → x ≡ y
 head-same x y xs ys r s hx hy = grind (arith, nat_tests, r y, s x)
 
-tail-same : (x : ℕ) (xs ys : List ℕ) → ((m : ℕ) → has m xs ≡ true → x < m) → ((m : ℕ) → has m ys ≡ true → x < m) → (n : ℕ) → has n (x ∷ xs) ≡ has n (x ∷ ys) → has n xs ≡ has n ys
+tail-same : (x : ℕ) (xs ys : List ℕ) → ((m : ℕ) → has m xs ≡ true → x < m) → ((m : ℕ) → has m ys ≡ true → x < m) → (n : ℕ)
+    → has n (x ∷ xs) ≡ has n (x ∷ ys) → has n xs ≡ has n ys
 tail-same x xs ys r s n h = grind (arith, nat_tests, r n, s n)
 
 -- rising lists with the same numbers are one
@@ -126,7 +138,11 @@ has-time : (cs : List Commit) (n : ℕ) → has n (map (λ c. c.txn) cs) ≡ is_
 has-time [] n = refl
 has-time (c ∷ cs) n = grind (arith, nat_tests, has-time cs n)
 
-pub count-distinct : (xs ys : List Commit) → Rises ys → ((n : ℕ) → time_of ys n ≡ time_of xs n) → length ys ≡ length (distinct (map (λ c. c.txn) xs))
+pub count-distinct : (xs ys : List Commit) → Rises ys → ((n : ℕ) → time_of ys n ≡ time_of xs n)
+    → length ys ≡ length (distinct (map (λ c. c.txn) xs))
 count-distinct xs ys rises times =
-    let same = λ (n : ℕ). has-time ys n ∙ ap (λ o. is_some o) (times n) ∙ sym (has-time xs n) ∙ sym (has-distinct n (map (λ c. c.txn) xs)) in
-    sym (length-map ys (λ c. c.txn)) ∙ ap length (rising-same (map (λ c. c.txn) ys) (distinct (map (λ c. c.txn) xs)) (rising-from (map (λ c. c.txn) ys) rises) (distinct-rising (map (λ c. c.txn) xs)) same)
+    let same = λ (n : ℕ). has-time ys n ∙ ap (λ o. is_some o) (times n) ∙ sym (has-time xs n)
+    ∙ sym (has-distinct n (map (λ c. c.txn) xs)) in
+    sym (length-map ys (λ c. c.txn))
+    ∙ ap length (rising-same (map (λ c. c.txn) ys) (distinct (map (λ c. c.txn) xs)) (rising-from (map (λ c. c.txn) ys) rises)
+    (distinct-rising (map (λ c. c.txn) xs)) same)

@@ -30,74 +30,112 @@ undoes_at n u r = option_map_or (λ x. not (bytes_eq x u)) (rolls_back n r.kind)
 abbrev pub late_at : ℕ → ℕ → Record → Bool
 late_at n c r = is_some (intent_ops n r.kind) && nat_le c r.time
 
-differs-see : (n c : ℕ) (u : List ℕ) (s : Seen) (time : ℕ) (kind : Kind) → (see_kind n c u s time kind).differs ≡ (s.differs || option_map_or (λ x. not (x == c)) (applies n kind) false)
+differs-see : (n c : ℕ) (u : List ℕ) (s : Seen) (time : ℕ) (kind : Kind)
+    → (see_kind n c u s time kind).differs ≡ (s.differs || option_map_or (λ x. not (x == c)) (applies n kind) false)
 differs-see n c u s time (Write ops) = sym (or-false s.differs)
 differs-see n c u s time (Safe value) = sym (or-false s.differs)
 differs-see n c u s time (Split at left right) = sym (or-false s.differs)
-differs-see n c u s time (Abort txn) = elim (txn == n) as (λ b. (if b then record (settles c s) { aborted = true } else passes s).differs ≡ (s.differs || false)) [ true ↦ sym (or-false s.differs) | false ↦ sym (or-false s.differs) ]
+differs-see n c u s time (Abort txn) =
+    elim (txn == n) as (λ b. (if b then record (settles c s) { aborted = true } else passes s).differs ≡ (s.differs || false))
+    [ true ↦ sym (or-false s.differs) | false ↦ sym (or-false s.differs) ]
 differs-see n c u s time (Intent txn sub ops) =
-    elim (txn == n) as (λ b. (if b then record s { place = s.place + 1; since = or_else s.since (Some (s.place + 1)); late = s.late || nat_le c time } else passes s).differs ≡ (s.differs || false))
+    elim (txn == n) as
+    (λ b. (if b then record s { place = s.place + 1; since = or_else s.since (Some (s.place + 1)); late = s.late || nat_le c time } else
+    passes s).differs ≡ (s.differs || false))
     [ true ↦ sym (or-false s.differs) | false ↦ sym (or-false s.differs) ]
 differs-see n c u s time (Apply txn commit without) =
-    elim (txn == n) as (λ b. (if b then settles_as c u s commit without else passes s).differs ≡ (s.differs || option_map_or (λ x. not (x == c)) (if b then Some commit else None) false))
+    elim (txn == n) as
+    (λ b. (if b then settles_as c u s commit without else passes s).differs ≡
+    (s.differs || option_map_or (λ x. not (x == c)) (if b then Some commit else None) false))
     [ true ↦ refl | false ↦ sym (or-false s.differs) ]
 
-pub differs-all : (n c : ℕ) (u : List ℕ) (s : Seen) (rs : List Record) → (fold (see n c u) s rs).differs ≡ (s.differs || list_any (differs_at n c) rs)
+pub differs-all : (n c : ℕ) (u : List ℕ) (s : Seen) (rs : List Record)
+    → (fold (see n c u) s rs).differs ≡ (s.differs || list_any (differs_at n c) rs)
 differs-all n c u s [] = sym (or-false s.differs)
-differs-all n c u s (r ∷ rs) = differs-all n c u (see n c u s r) rs ∙ ap (λ b. b || list_any (differs_at n c) rs) (differs-see n c u s r.time r.kind) ∙ or_assoc s.differs (differs_at n c r) (list_any (differs_at n c) rs)
+differs-all n c u s (r ∷ rs) =
+    differs-all n c u (see n c u s r) rs ∙ ap (λ b. b || list_any (differs_at n c) rs) (differs-see n c u s r.time r.kind)
+    ∙ or_assoc s.differs (differs_at n c r) (list_any (differs_at n c) rs)
 
-undoes-see : (n c : ℕ) (u : List ℕ) (s : Seen) (time : ℕ) (kind : Kind) → (see_kind n c u s time kind).undoes ≡ (s.undoes || option_map_or (λ x. not (bytes_eq x u)) (rolls_back n kind) false)
+undoes-see : (n c : ℕ) (u : List ℕ) (s : Seen) (time : ℕ) (kind : Kind)
+    → (see_kind n c u s time kind).undoes ≡ (s.undoes || option_map_or (λ x. not (bytes_eq x u)) (rolls_back n kind) false)
 undoes-see n c u s time (Write ops) = sym (or-false s.undoes)
 undoes-see n c u s time (Safe value) = sym (or-false s.undoes)
 undoes-see n c u s time (Split at left right) = sym (or-false s.undoes)
-undoes-see n c u s time (Abort txn) = elim (txn == n) as (λ b. (if b then record (settles c s) { aborted = true } else passes s).undoes ≡ (s.undoes || false)) [ true ↦ sym (or-false s.undoes) | false ↦ sym (or-false s.undoes) ]
+undoes-see n c u s time (Abort txn) =
+    elim (txn == n) as (λ b. (if b then record (settles c s) { aborted = true } else passes s).undoes ≡ (s.undoes || false))
+    [ true ↦ sym (or-false s.undoes) | false ↦ sym (or-false s.undoes) ]
 undoes-see n c u s time (Intent txn sub ops) =
-    elim (txn == n) as (λ b. (if b then record s { place = s.place + 1; since = or_else s.since (Some (s.place + 1)); late = s.late || nat_le c time } else passes s).undoes ≡ (s.undoes || false))
+    elim (txn == n) as
+    (λ b. (if b then record s { place = s.place + 1; since = or_else s.since (Some (s.place + 1)); late = s.late || nat_le c time } else
+    passes s).undoes ≡ (s.undoes || false))
     [ true ↦ sym (or-false s.undoes) | false ↦ sym (or-false s.undoes) ]
 undoes-see n c u s time (Apply txn commit without) =
-    elim (txn == n) as (λ b. (if b then settles_as c u s commit without else passes s).undoes ≡ (s.undoes || option_map_or (λ x. not (bytes_eq x u)) (if b then Some without else None) false))
+    elim (txn == n) as
+    (λ b. (if b then settles_as c u s commit without else passes s).undoes ≡
+    (s.undoes || option_map_or (λ x. not (bytes_eq x u)) (if b then Some without else None) false))
     [ true ↦ refl | false ↦ sym (or-false s.undoes) ]
 
-pub undoes-all : (n c : ℕ) (u : List ℕ) (s : Seen) (rs : List Record) → (fold (see n c u) s rs).undoes ≡ (s.undoes || list_any (undoes_at n u) rs)
+pub undoes-all : (n c : ℕ) (u : List ℕ) (s : Seen) (rs : List Record)
+    → (fold (see n c u) s rs).undoes ≡ (s.undoes || list_any (undoes_at n u) rs)
 undoes-all n c u s [] = sym (or-false s.undoes)
-undoes-all n c u s (r ∷ rs) = undoes-all n c u (see n c u s r) rs ∙ ap (λ b. b || list_any (undoes_at n u) rs) (undoes-see n c u s r.time r.kind) ∙ or_assoc s.undoes (undoes_at n u r) (list_any (undoes_at n u) rs)
+undoes-all n c u s (r ∷ rs) =
+    undoes-all n c u (see n c u s r) rs ∙ ap (λ b. b || list_any (undoes_at n u) rs) (undoes-see n c u s r.time r.kind)
+    ∙ or_assoc s.undoes (undoes_at n u r) (list_any (undoes_at n u) rs)
 
-late-see : (n c : ℕ) (u : List ℕ) (s : Seen) (time : ℕ) (kind : Kind) → (see_kind n c u s time kind).late ≡ (s.late || (is_some (intent_ops n kind) && nat_le c time))
+late-see : (n c : ℕ) (u : List ℕ) (s : Seen) (time : ℕ) (kind : Kind)
+    → (see_kind n c u s time kind).late ≡ (s.late || (is_some (intent_ops n kind) && nat_le c time))
 late-see n c u s time (Write ops) = sym (or-false s.late)
 late-see n c u s time (Safe value) = sym (or-false s.late)
 late-see n c u s time (Split at left right) = sym (or-false s.late)
-late-see n c u s time (Abort txn) = elim (txn == n) as (λ b. (if b then record (settles c s) { aborted = true } else passes s).late ≡ (s.late || false)) [ true ↦ sym (or-false s.late) | false ↦ sym (or-false s.late) ]
+late-see n c u s time (Abort txn) =
+    elim (txn == n) as (λ b. (if b then record (settles c s) { aborted = true } else passes s).late ≡ (s.late || false))
+    [ true ↦ sym (or-false s.late) | false ↦ sym (or-false s.late) ]
 late-see n c u s time (Intent txn sub ops) =
-    elim (txn == n) as (λ b. (if b then record s { place = s.place + 1; since = or_else s.since (Some (s.place + 1)); late = s.late || nat_le c time } else passes s).late ≡ (s.late || (is_some (if b then Some ops else None) && nat_le c time)))
+    elim (txn == n) as
+    (λ b. (if b then record s { place = s.place + 1; since = or_else s.since (Some (s.place + 1)); late = s.late || nat_le c time } else
+    passes s).late ≡ (s.late || (is_some (if b then Some ops else None) && nat_le c time)))
     [ true ↦ refl | false ↦ sym (or-false s.late) ]
 late-see n c u s time (Apply txn commit without) =
-    elim (txn == n) as (λ b. (if b then settles_as c u s commit without else passes s).late ≡ (s.late || false)) [ true ↦ sym (or-false s.late) | false ↦ sym (or-false s.late) ]
+    elim (txn == n) as (λ b. (if b then settles_as c u s commit without else passes s).late ≡ (s.late || false))
+    [ true ↦ sym (or-false s.late) | false ↦ sym (or-false s.late) ]
 
 pub late-all : (n c : ℕ) (u : List ℕ) (s : Seen) (rs : List Record) → (fold (see n c u) s rs).late ≡ (s.late || list_any (late_at n c) rs)
 late-all n c u s [] = sym (or-false s.late)
-late-all n c u s (r ∷ rs) = late-all n c u (see n c u s r) rs ∙ ap (λ b. b || list_any (late_at n c) rs) (late-see n c u s r.time r.kind) ∙ or_assoc s.late (late_at n c r) (list_any (late_at n c) rs)
+late-all n c u s (r ∷ rs) =
+    late-all n c u (see n c u s r) rs ∙ ap (λ b. b || list_any (late_at n c) rs) (late-see n c u s r.time r.kind)
+    ∙ or_assoc s.late (late_at n c r) (list_any (late_at n c) rs)
 
-aborted-see : (n c : ℕ) (u : List ℕ) (s : Seen) (time : ℕ) (kind : Kind) → (see_kind n c u s time kind).aborted ≡ (s.aborted || aborts n kind)
+aborted-see : (n c : ℕ) (u : List ℕ) (s : Seen) (time : ℕ) (kind : Kind)
+    → (see_kind n c u s time kind).aborted ≡ (s.aborted || aborts n kind)
 aborted-see n c u s time (Write ops) = sym (or-false s.aborted)
 aborted-see n c u s time (Safe value) = sym (or-false s.aborted)
 aborted-see n c u s time (Split at left right) = sym (or-false s.aborted)
-aborted-see n c u s time (Abort txn) = elim (txn == n) as (λ b. (if b then record (settles c s) { aborted = true } else passes s).aborted ≡ (s.aborted || b)) [ true ↦ sym (or-true s.aborted) | false ↦ sym (or-false s.aborted) ]
+aborted-see n c u s time (Abort txn) =
+    elim (txn == n) as (λ b. (if b then record (settles c s) { aborted = true } else passes s).aborted ≡ (s.aborted || b))
+    [ true ↦ sym (or-true s.aborted) | false ↦ sym (or-false s.aborted) ]
 aborted-see n c u s time (Intent txn sub ops) =
-    elim (txn == n) as (λ b. (if b then record s { place = s.place + 1; since = or_else s.since (Some (s.place + 1)); late = s.late || nat_le c time } else passes s).aborted ≡ (s.aborted || false))
+    elim (txn == n) as
+    (λ b. (if b then record s { place = s.place + 1; since = or_else s.since (Some (s.place + 1)); late = s.late || nat_le c time } else
+    passes s).aborted ≡ (s.aborted || false))
     [ true ↦ sym (or-false s.aborted) | false ↦ sym (or-false s.aborted) ]
 aborted-see n c u s time (Apply txn commit without) =
-    elim (txn == n) as (λ b. (if b then settles_as c u s commit without else passes s).aborted ≡ (s.aborted || false)) [ true ↦ sym (or-false s.aborted) | false ↦ sym (or-false s.aborted) ]
+    elim (txn == n) as (λ b. (if b then settles_as c u s commit without else passes s).aborted ≡ (s.aborted || false))
+    [ true ↦ sym (or-false s.aborted) | false ↦ sym (or-false s.aborted) ]
 
-pub aborted-all : (n c : ℕ) (u : List ℕ) (s : Seen) (rs : List Record) → (fold (see n c u) s rs).aborted ≡ (s.aborted || list_any (λ r. aborts n r.kind) rs)
+pub aborted-all : (n c : ℕ) (u : List ℕ) (s : Seen) (rs : List Record)
+    → (fold (see n c u) s rs).aborted ≡ (s.aborted || list_any (λ r. aborts n r.kind) rs)
 aborted-all n c u s [] = sym (or-false s.aborted)
-aborted-all n c u s (r ∷ rs) = aborted-all n c u (see n c u s r) rs ∙ ap (λ b. b || list_any (λ r. aborts n r.kind) rs) (aborted-see n c u s r.time r.kind) ∙ or_assoc s.aborted (aborts n r.kind) (list_any (λ r. aborts n r.kind) rs)
+aborted-all n c u s (r ∷ rs) =
+    aborted-all n c u (see n c u s r) rs ∙ ap (λ b. b || list_any (λ r. aborts n r.kind) rs) (aborted-see n c u s r.time r.kind)
+    ∙ or_assoc s.aborted (aborts n r.kind) (list_any (λ r. aborts n r.kind) rs)
 
 -- ---- stragglers
 
 -- whether the transaction waits at a safe record of value at or above the commit, by an operation among those that the test passes
 abbrev pub straggles : (List Op → Bool) → ℕ → ℕ → Bool → List Record → Bool
 straggles p n c w [] = false
-straggles p n c w (r ∷ rs) = (option_map_or (λ value. nat_le c value) (safe_value r.kind) false && w) || straggles p n c (wait_kind n p w r.kind) rs
+straggles p n c w (r ∷ rs) =
+    (option_map_or (λ value. nat_le c value) (safe_value r.kind) false && w) || straggles p n c (wait_kind n p w r.kind) rs
 
 abbrev pub any_op : List Op → Bool
 any_op ops = true
@@ -114,27 +152,40 @@ stands c s = s.straggles || pends c s
 abbrev floor_after_kind : ℕ → Kind → ℕ
 floor_after_kind floor kind = option_map_or (λ value. value) (safe_value kind) floor
 
-safe-see : (n c : ℕ) (u : List ℕ) (s : Seen) (time : ℕ) (kind : Kind) → s.safe ≤ s.place → (see_kind n c u s time kind).safe ≤ (see_kind n c u s time kind).place
+safe-see : (n c : ℕ) (u : List ℕ) (s : Seen) (time : ℕ) (kind : Kind) → s.safe ≤ s.place
+    → (see_kind n c u s time kind).safe ≤ (see_kind n c u s time kind).place
 safe-see n c u s time (Write ops) h = omega arith
 safe-see n c u s time (Safe value) h = omega arith
 safe-see n c u s time (Split at left right) h = omega arith
 safe-see n c u s time (Abort txn) h =
-    elim (txn == n) as (λ b. (if b then record (settles c s) { aborted = true } else passes s).safe ≤ (if b then record (settles c s) { aborted = true } else passes s).place) [ true ↦ omega arith | false ↦ omega arith ]
+    elim (txn == n) as
+    (λ b. (if b then record (settles c s) { aborted = true } else passes s).safe ≤
+    (if b then record (settles c s) { aborted = true } else passes s).place) [ true ↦ omega arith | false ↦ omega arith ]
 safe-see n c u s time (Intent txn sub ops) h =
-    elim (txn == n) as (λ b. (if b then record s { place = s.place + 1; since = or_else s.since (Some (s.place + 1)); late = s.late || nat_le c time } else passes s).safe
-    ≤ (if b then record s { place = s.place + 1; since = or_else s.since (Some (s.place + 1)); late = s.late || nat_le c time } else passes s).place) [ true ↦ omega arith | false ↦ omega arith ]
+    elim (txn == n) as
+    (λ b. (if b then record s { place = s.place + 1; since = or_else s.since (Some (s.place + 1)); late = s.late || nat_le c time } else
+    passes s).safe
+    ≤ (if b then record s { place = s.place + 1; since = or_else s.since (Some (s.place + 1)); late = s.late || nat_le c time } else passes
+    s).place) [ true ↦ omega arith | false ↦ omega arith ]
 safe-see n c u s time (Apply txn commit without) h =
-    elim (txn == n) as (λ b. (if b then settles_as c u s commit without else passes s).safe ≤ (if b then settles_as c u s commit without else passes s).place)
+    elim (txn == n) as
+    (λ b. (if b then settles_as c u s commit without else passes s).safe ≤
+    (if b then settles_as c u s commit without else passes s).place)
     [ true ↦ omega arith | false ↦ omega arith ]
 
-floor-see : (n c : ℕ) (u : List ℕ) (s : Seen) (floor time : ℕ) (kind : Kind) → s.floor ≤ floor → (see_kind n c u s time kind).floor ≤ floor_after_kind floor kind
+floor-see : (n c : ℕ) (u : List ℕ) (s : Seen) (floor time : ℕ) (kind : Kind) → s.floor ≤ floor
+    → (see_kind n c u s time kind).floor ≤ floor_after_kind floor kind
 floor-see n c u s floor time (Write ops) h = h
 floor-see n c u s floor time (Safe value) h = omega arith
 floor-see n c u s floor time (Split at left right) h = h
-floor-see n c u s floor time (Abort txn) h = elim (txn == n) as (λ b. (if b then record (settles c s) { aborted = true } else passes s).floor ≤ floor) [ true ↦ h | false ↦ h ]
+floor-see n c u s floor time (Abort txn) h =
+    elim (txn == n) as (λ b. (if b then record (settles c s) { aborted = true } else passes s).floor ≤ floor) [ true ↦ h | false ↦ h ]
 floor-see n c u s floor time (Intent txn sub ops) h =
-    elim (txn == n) as (λ b. (if b then record s { place = s.place + 1; since = or_else s.since (Some (s.place + 1)); late = s.late || nat_le c time } else passes s).floor ≤ floor) [ true ↦ h | false ↦ h ]
-floor-see n c u s floor time (Apply txn commit without) h = elim (txn == n) as (λ b. (if b then settles_as c u s commit without else passes s).floor ≤ floor) [ true ↦ h | false ↦ h ]
+    elim (txn == n) as
+    (λ b. (if b then record s { place = s.place + 1; since = or_else s.since (Some (s.place + 1)); late = s.late || nat_le c time } else
+    passes s).floor ≤ floor) [ true ↦ h | false ↦ h ]
+floor-see n c u s floor time (Apply txn commit without) h =
+    elim (txn == n) as (λ b. (if b then settles_as c u s commit without else passes s).floor ≤ floor) [ true ↦ h | false ↦ h ]
 
 sound-step : (n c : ℕ) (u : List ℕ) (s : Seen) (p : Progress) (r : Record) → Sound s p → Sound (see n c u s r) (after p r)
 sound-step n c u s p r h = record {
@@ -143,8 +194,10 @@ sound-step n c u s p r h = record {
   floor = floor-see n c u s p.floor r.time r.kind h.floor;
 }
 
-stands-kind : (n c : ℕ) (u : List ℕ) (floor : ℕ) (s : Seen) (time : ℕ) (kind : Kind) → Below s.place s.since → s.safe ≤ s.place → s.floor ≤ floor → floor ≤ floor_after_kind floor kind
-    → stands c (see_kind n c u s time kind) ≡ (stands c s || (option_map_or (λ value. nat_le c value) (safe_value kind) false && is_some s.since))
+stands-kind : (n c : ℕ) (u : List ℕ) (floor : ℕ) (s : Seen) (time : ℕ) (kind : Kind) → Below s.place s.since → s.safe ≤ s.place
+    → s.floor ≤ floor → floor ≤ floor_after_kind floor kind
+    → stands c (see_kind n c u s time kind) ≡
+    (stands c s || (option_map_or (λ value. nat_le c value) (safe_value kind) false && is_some s.since))
 stands-kind n c u floor s time (Write ops) b k f g = sym (or-false (stands c s))
 stands-kind n c u floor s time (Split at left right) b k f g = sym (or-false (stands c s))
 stands-kind n c u floor s time (Safe value) b k f g = go s.since b
@@ -154,47 +207,72 @@ stands-kind n c u floor s time (Safe value) b k f g = go s.since b
     go None b = grind arith
     go (Some x) b = grind (arith, nat_tests)
 stands-kind n c u floor s time (Abort txn) b k f g =
-    elim (txn == n) as (λ b. stands c (if b then record (settles c s) { aborted = true } else passes s) ≡ (stands c s || false)) [ true ↦ refl | false ↦ sym (or-false (stands c s)) ]
+    elim (txn == n) as (λ b. stands c (if b then record (settles c s) { aborted = true } else passes s) ≡ (stands c s || false))
+    [ true ↦ refl | false ↦ sym (or-false (stands c s)) ]
 stands-kind n c u floor s time (Intent txn sub ops) b k f g =
-    elim (txn == n) as (λ b. stands c (if b then record s { place = s.place + 1; since = or_else s.since (Some (s.place + 1)); late = s.late || nat_le c time } else passes s) ≡ (stands c s || false))
+    elim (txn == n) as
+    (λ b. stands c
+    (if b then record s { place = s.place + 1; since = or_else s.since (Some (s.place + 1)); late = s.late || nat_le c time } else
+    passes s) ≡ (stands c s || false))
     [ true ↦ waits s.since | false ↦ sym (or-false (stands c s)) ]
   where
-    waits : (o : Option ℕ) → (s.straggles || option_map_or (λ since. nat_lt since s.safe && nat_le c s.floor) (or_else o (Some (s.place + 1))) false) ≡ ((s.straggles || option_map_or (λ since. nat_lt since s.safe && nat_le c s.floor) o false) || false)
+    waits : (o : Option ℕ)
+        → (s.straggles || option_map_or (λ since. nat_lt since s.safe && nat_le c s.floor) (or_else o (Some (s.place + 1))) false) ≡
+        ((s.straggles || option_map_or (λ since. nat_lt since s.safe && nat_le c s.floor) o false) || false)
     waits None = grind (arith, nat_tests)
     waits (Some x) = sym (or-false (s.straggles || (nat_lt x s.safe && nat_le c s.floor)))
 stands-kind n c u floor s time (Apply txn commit without) b k f g =
-    elim (txn == n) as (λ b. stands c (if b then settles_as c u s commit without else passes s) ≡ (stands c s || false)) [ true ↦ refl | false ↦ sym (or-false (stands c s)) ]
+    elim (txn == n) as (λ b. stands c (if b then settles_as c u s commit without else passes s) ≡ (stands c s || false))
+    [ true ↦ refl | false ↦ sym (or-false (stands c s)) ]
 
 stands-step : (n c : ℕ) (u : List ℕ) (s : Seen) (p : Progress) (r : Record) → Sound s p → break_of p r ≡ None
     → stands c (see n c u s r) ≡ (stands c s || (option_map_or (λ value. nat_le c value) (safe_value r.kind) false && is_some s.since))
 stands-step n c u s p r h e = stands-kind n c u p.floor s r.time r.kind h.below h.safe h.floor (break_of-floor p r (rw e refl))
 
-since-step : (n c : ℕ) (u : List ℕ) (s : Seen) (time : ℕ) (kind : Kind) → is_some (see_kind n c u s time kind).since ≡ wait_kind n any_op (is_some s.since) kind
+since-step : (n c : ℕ) (u : List ℕ) (s : Seen) (time : ℕ) (kind : Kind)
+    → is_some (see_kind n c u s time kind).since ≡ wait_kind n any_op (is_some s.since) kind
 since-step n c u s time (Write ops) = refl
 since-step n c u s time (Safe value) = refl
 since-step n c u s time (Split at left right) = refl
-since-step n c u s time (Abort txn) = elim (txn == n) as (λ b. is_some (if b then record (settles c s) { aborted = true } else passes s).since ≡ (if b then false else is_some s.since)) [ true ↦ refl | false ↦ refl ]
+since-step n c u s time (Abort txn) =
+    elim (txn == n) as
+    (λ b. is_some (if b then record (settles c s) { aborted = true } else passes s).since ≡ (if b then false else is_some s.since))
+    [ true ↦ refl | false ↦ refl ]
 since-step n c u s time (Intent txn sub ops) =
-    elim (txn == n) as (λ b. is_some (if b then record s { place = s.place + 1; since = or_else s.since (Some (s.place + 1)); late = s.late || nat_le c time } else passes s).since ≡ (if b && true then true else is_some s.since))
+    elim (txn == n) as
+    (λ b. is_some
+    (if b then record s { place = s.place + 1; since = or_else s.since (Some (s.place + 1)); late = s.late || nat_le c time } else
+    passes s).since ≡ (if b && true then true else is_some s.since))
     [ true ↦ or-some s.since | false ↦ refl ]
   where
     or-some : (o : Option ℕ) → is_some (or_else o (Some (s.place + 1))) ≡ true
     or-some None = refl
     or-some (Some x) = refl
 since-step n c u s time (Apply txn commit without) =
-    elim (txn == n) as (λ b. is_some (if b then settles_as c u s commit without else passes s).since ≡ (if b then false else is_some s.since)) [ true ↦ refl | false ↦ refl ]
+    elim (txn == n) as
+    (λ b. is_some (if b then settles_as c u s commit without else passes s).since ≡ (if b then false else is_some s.since))
+    [ true ↦ refl | false ↦ refl ]
 
-pub stands-all : (n c : ℕ) (u : List ℕ) (s : Seen) (p : Progress) (rs : List Record) → Sound s p → accepted_from p rs ≡ rs → stands c (fold (see n c u) s rs) ≡ (stands c s || straggles any_op n c (is_some s.since) rs)
+pub stands-all : (n c : ℕ) (u : List ℕ) (s : Seen) (p : Progress) (rs : List Record) → Sound s p → accepted_from p rs ≡ rs
+    → stands c (fold (see n c u) s rs) ≡ (stands c s || straggles any_op n c (is_some s.since) rs)
 stands-all n c u s p [] h e = sym (or-false (stands c s))
-stands-all n c u s p (r ∷ rs) h e = go (break_of p r) refl (λ f. stands-all n c u (see n c u s r) (after p r) rs (sound-step n c u s p r h)) e
+stands-all n c u s p (r ∷ rs) h e =
+    go (break_of p r) refl (λ f. stands-all n c u (see n c u s r) (after p r) rs (sound-step n c u s p r h)) e
   where
     rest : {xs ys : List Record} → r ∷ xs ≡ r ∷ ys → xs ≡ ys
     rest e = cc
 
-    go : (o : Option Break) → break_of p r ≡ o → (break_of p r ≡ None → accepted_from (after p r) rs ≡ rs → stands c (fold (see n c u) (see n c u s r) rs) ≡ (stands c (see n c u s r) || straggles any_op n c (is_some (see n c u s r).since) rs))
-        → (if is_none o then (r ∷ accepted_from (after p r) rs) else []) ≡ r ∷ rs → stands c (fold (see n c u) (see n c u s r) rs) ≡ (stands c s || straggles any_op n c (is_some s.since) (r ∷ rs))
+    go : (o : Option Break) → break_of p r ≡ o
+        → (break_of p r ≡ None → accepted_from (after p r) rs ≡ rs
+        → stands c (fold (see n c u) (see n c u s r) rs) ≡
+        (stands c (see n c u s r) || straggles any_op n c (is_some (see n c u s r).since) rs))
+        → (if is_none o then (r ∷ accepted_from (after p r) rs) else []) ≡ r ∷ rs
+        → stands c (fold (see n c u) (see n c u s r) rs) ≡ (stands c s || straggles any_op n c (is_some s.since) (r ∷ rs))
     go None f ih e =
         ih f (rest e) ∙ ap (λ b. b || straggles any_op n c (is_some (see n c u s r).since) rs) (stands-step n c u s p r h f)
-        ∙ or_assoc (stands c s) (option_map_or (λ value. nat_le c value) (safe_value r.kind) false && is_some s.since) (straggles any_op n c (is_some (see n c u s r).since) rs)
-        ∙ ap (λ w. stands c s || ((option_map_or (λ value. nat_le c value) (safe_value r.kind) false && is_some s.since) || straggles any_op n c w rs)) (since-step n c u s r.time r.kind)
+        ∙ or_assoc (stands c s) (option_map_or (λ value. nat_le c value) (safe_value r.kind) false && is_some s.since)
+        (straggles any_op n c (is_some (see n c u s r).since) rs)
+        ∙ ap (λ w. stands c s ||
+        ((option_map_or (λ value. nat_le c value) (safe_value r.kind) false && is_some s.since) || straggles any_op n c w rs)) (since-step n
+        c u s r.time r.kind)
     go (Some x) f ih e = cc

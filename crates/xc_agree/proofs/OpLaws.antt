@@ -22,7 +22,9 @@ each-from-index P (x ∷ xs) f = (f 0 x refl, each-from-index P xs (λ i y e. f 
 
 pub ops-in : (logs : Logs) (n : ℕ) → Each (λ b. Each (OpsIn logs n) b.records) (accepted_tablets logs)
 ops-in logs n = each-from-index _ (accepted_tablets logs) (λ i b at. each-from-index _ b.records (λ j r here. record {
-  all = λ q e. any-provisional logs n q ∙ any_passes_from_place (λ (b : AcceptedTablet). list_any (any_intent n q) b.records) (accepted_tablets logs) i b at (any_passes_from_place (any_intent n q) b.records j r here e);
+  all = λ q e. any-provisional logs n q
+      ∙ any_passes_from_place (λ (b : AcceptedTablet). list_any (any_intent n q) b.records) (accepted_tablets logs) i b at
+      (any_passes_from_place (any_intent n q) b.records j r here e);
 }))
 
 pub each-flat : {X Y : Type 0} (P : Y → Type 0) (f : X → List Y) (xs : List X) → Each (λ x. Each P (f x)) xs → Each P (flat_map f xs)

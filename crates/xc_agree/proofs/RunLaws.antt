@@ -1,11 +1,13 @@
 -- Laws of runs.
 use Rattle.std.proofs.lemmas.List.{take_more}
-use Rattle.std.proofs.Common.{◌≡◌, ℕ, zero, suc, ◌+◌, ◌<◌, Bool, true, false, List, [], ◌∷◌, ◌++◌, length, take, get_or, refl, ap, sym, ◌∙◌, subst, arith}
+use Rattle.std.proofs.Common.{◌≡◌, ℕ, zero, suc, ◌+◌, ◌<◌, Bool, true, false, List, [], ◌∷◌, ◌++◌, length, take, get_or, refl, ap, sym, ◌∙◌}
+use Rattle.std.proofs.Common.{subst, arith}
 use Rattle.std.specs.Prelude.{Option, Some, None, fold, slice_get, if◌then◌else◌, option_map}
 use Rattle.xc_record.specs.declared.record.Record.{Record}
 use Rattle.xc_record.specs.declared.record.Tablet.{Tablet}
 use Rattle.xc_record.specs.Order.{Progress, after, accepted_from}
-use Rattle.xc_record.specs.Accepted.{AcceptedTablet, accepted_tablets_after, accepted_tablet_after, start_after, reached_after, halt_from, accepted_tablets}
+use Rattle.xc_record.specs.Accepted.{AcceptedTablet, accepted_tablets_after, accepted_tablet_after, start_after, reached_after, halt_from}
+use Rattle.xc_record.specs.Accepted.{accepted_tablets}
 use Rattle.xc_agree.specs.declared.run.Start.{Start}
 use Rattle.xc_agree.specs.declared.run.Run.{Run}
 use Rattle.xc_order.specs.Walks.{halt_at}
@@ -30,7 +32,8 @@ pub accepted-of : (ts : List Tablet) → accepted_tablets (of_tablets ts) ≡ ac
 unfolding accepted_tablets
 accepted-of ts = refl
 
-pub after-append : (before : List AcceptedTablet) (ts us : List Tablet) → accepted_tablets_after before (ts ++ us) ≡ accepted_tablets_after (accepted_tablets_after before ts) us
+pub after-append : (before : List AcceptedTablet) (ts us : List Tablet)
+    → accepted_tablets_after before (ts ++ us) ≡ accepted_tablets_after (accepted_tablets_after before ts) us
 after-append before [] us = refl
 after-append before (t ∷ ts) us = after-append (before ++ accepted_tablet_after before t ∷ []) ts us
 
@@ -39,7 +42,8 @@ pub data RunAt (o : Option Run) (b : Option AcceptedTablet) : Type 0 where
   Past : o ≡ None → b ≡ None → RunAt o b
   At : (run : Run) (c : AcceptedTablet) → o ≡ Some run → b ≡ Some c → run.reached ≡ c.reached → run.walk.order ≡ c.end → RunAt o b
 
-pub run_at : (runs : List Run) (bs : List AcceptedTablet) (ts : List Tablet) (i : ℕ) → IsRuns runs bs ts → RunAt (slice_get runs i) (slice_get bs i)
+pub run_at : (runs : List Run) (bs : List AcceptedTablet) (ts : List Tablet) (i : ℕ) → IsRuns runs bs ts
+    → RunAt (slice_get runs i) (slice_get bs i)
 run_at [] [] [] i h = Past refl refl
 run_at (run ∷ runs) (b ∷ bs) (t ∷ ts) zero h = At run b refl refl h.0.reached h.0.order
 run_at (run ∷ runs) (b ∷ bs) (t ∷ ts) (suc i) h = run_at runs bs ts i h.1
@@ -67,34 +71,45 @@ take_zero : (rs : List Record) → take 0 rs ≡ []
 take_zero [] = refl
 take_zero (r ∷ rs) = refl
 
-kept : (reached : Bool) (p : Progress) (rs : List Record) → (if reached then accepted_from p rs else []) ≡ take (length (if reached then accepted_from p rs else [])) rs
+kept : (reached : Bool) (p : Progress) (rs : List Record)
+    → (if reached then accepted_from p rs else []) ≡ take (length (if reached then accepted_from p rs else [])) rs
 kept true p rs = sym (accepted-first p rs)
 kept false p rs = sym (take_zero rs)
 
 pub next_run : (runs : List Run) (bs : List AcceptedTablet) (ts : List Tablet) (t : Tablet) (run : Run) → IsRuns runs bs ts
     → IsRunOf run (start_from runs t.header.parent) t.records → IsRun run (accepted_tablet_after bs t) t
 next_run runs bs ts t run h r =
-    let s : start_from runs t.header.parent ≡ record { reached = reached_after bs t.header.parent; order = start_after bs t.header.parent } = start_of-runs runs bs ts t.header.parent h in
-    let q : IsRunOf run (record { reached = reached_after bs t.header.parent; order = start_after bs t.header.parent }) t.records = subst (λ x. IsRunOf run x t.records) s r in
+    let s : start_from runs t.header.parent ≡ record { reached = reached_after bs t.header.parent; order = start_after bs t.header.parent }
+    = start_of-runs runs bs ts t.header.parent h in
+    let q : IsRunOf run (record { reached = reached_after bs t.header.parent; order = start_after bs t.header.parent }) t.records =
+    subst (λ x. IsRunOf run x t.records) s r in
     record {
       header = refl;
       reached = q.reached;
       order = q.order;
       accepted = q.accepted;
-      records = kept (reached_after bs t.header.parent) (start_after bs t.header.parent) t.records ∙ ap (λ n. take n t.records) (sym q.accepted);
+      records = kept (reached_after bs t.header.parent) (start_after bs t.header.parent) t.records
+          ∙ ap (λ n. take n t.records) (sym q.accepted);
       halt = q.halt;
     }
 
 -- the runs with that of the tablet at i
-pub add_run : (runs more : List Run) (ts : List Tablet) (i : ℕ) (t : Tablet) (run : Run) (start : Start) (before : List Run) (rs : List Record) → i < length ts → t ≡ get_or ts i t → IsRuns runs (accepted_tablets_after [] (take i ts)) (take i ts)
-    → before ≡ runs → start ≡ start_from before t.header.parent → rs ≡ t.records → IsRunOf run start rs → more ≡ runs ++ run ∷ [] → IsRuns more (accepted_tablets_after [] (take (i + 1) ts)) (take (i + 1) ts)
+pub add_run : (runs more : List Run) (ts : List Tablet) (i : ℕ) (t : Tablet) (run : Run) (start : Start) (before : List Run)
+    (rs : List Record) → i < length ts → t ≡ get_or ts i t → IsRuns runs (accepted_tablets_after [] (take i ts)) (take i ts)
+    → before ≡ runs → start ≡ start_from before t.header.parent → rs ≡ t.records → IsRunOf run start rs → more ≡ runs ++ run ∷ []
+    → IsRuns more (accepted_tablets_after [] (take (i + 1) ts)) (take (i + 1) ts)
 add_run runs more ts i t run start before rs below is h same begins all r e =
     let next : IsRun run (accepted_tablet_after (accepted_tablets_after [] (take i ts)) t) t =
-    next_run runs (accepted_tablets_after [] (take i ts)) (take i ts) t run h (subst (λ s. IsRunOf run s t.records) (begins ∙ ap (λ x. start_from x t.header.parent) same) (subst (λ x. IsRunOf run start x) all r)) in
+    next_run runs (accepted_tablets_after [] (take i ts)) (take i ts) t run h (subst (λ s. IsRunOf run s t.records) (begins
+    ∙ ap (λ x. start_from x t.header.parent) same) (subst (λ x. IsRunOf run start x) all r)) in
     let one : take (i + 1) ts ≡ take i ts ++ t ∷ [] = take_more ts i t below ∙ ap (λ u. take i ts ++ u ∷ []) (sym is) in
-    rw (e, one, after-append [] (take i ts) (t ∷ [])) (IsRuns-snoc runs (accepted_tablets_after [] (take i ts)) (take i ts) run (accepted_tablet_after (accepted_tablets_after [] (take i ts)) t) t h next)
+    rw (e, one, after-append [] (take i ts) (t ∷ []))
+    (IsRuns-snoc runs (accepted_tablets_after [] (take i ts)) (take i ts) run
+    (accepted_tablet_after (accepted_tablets_after [] (take i ts)) t) t h next)
 
 -- the accepted tablets of one tablet more
 pub tablets-more : (ts : List Tablet) (i : ℕ) (t : Tablet) → i < length ts → t ≡ get_or ts i t
-    → accepted_tablets_after [] (take (i + 1) ts) ≡ accepted_tablets_after [] (take i ts) ++ accepted_tablet_after (accepted_tablets_after [] (take i ts)) t ∷ []
-tablets-more ts i t h e = ap (accepted_tablets_after []) (take_more ts i t h ∙ ap (λ u. take i ts ++ u ∷ []) (sym e)) ∙ after-append [] (take i ts) (t ∷ [])
+    → accepted_tablets_after [] (take (i + 1) ts) ≡ accepted_tablets_after [] (take i ts) ++ accepted_tablet_after
+    (accepted_tablets_after [] (take i ts)) t ∷ []
+tablets-more ts i t h e =
+    ap (accepted_tablets_after []) (take_more ts i t h ∙ ap (λ u. take i ts ++ u ∷ []) (sym e)) ∙ after-append [] (take i ts) (t ∷ [])

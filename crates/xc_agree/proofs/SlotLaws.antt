@@ -20,9 +20,11 @@ slot-in commits txn slot h = go (slot_of commits txn) refl h
     go (Some i) e f = ap (λ k. Some k) (eqb-true i slot f)
 
 -- of a list in its slots, the item at i
-pub slot-at-item : {X : Type 0} (txn slot : X → ℕ) (commits : List Commit) (xs : List X) (i : ℕ) (d : X) → list_all (λ x. is_in_slot commits (txn x) (slot x)) xs ≡ true → i < length xs
+pub slot-at-item : {X : Type 0} (txn slot : X → ℕ) (commits : List Commit) (xs : List X) (i : ℕ) (d : X)
+    → list_all (λ x. is_in_slot commits (txn x) (slot x)) xs ≡ true → i < length xs
     → slot_of commits (txn (get_or xs i d)) ≡ Some (slot (get_or xs i d))
-slot-at-item txn slot commits xs i d h below = slot-in commits (txn (get_or xs i d)) (slot (get_or xs i d)) (go (is_in_slot commits (txn (get_or xs i d)) (slot (get_or xs i d))) refl)
+slot-at-item txn slot commits xs i d h below =
+    slot-in commits (txn (get_or xs i d)) (slot (get_or xs i d)) (go (is_in_slot commits (txn (get_or xs i d)) (slot (get_or xs i d))) refl)
   where
     go : (b : Bool) → is_in_slot commits (txn (get_or xs i d)) (slot (get_or xs i d)) ≡ b → b ≡ true
     go true e = refl

@@ -22,7 +22,8 @@ pub distinct-within : (ns : List ℕ) → length (distinct ns) ≤ length ns
 distinct-within [] = omega arith
 distinct-within (n ∷ ns) = omega (arith, insert-longer n (distinct ns), distinct-within ns)
 
-pub first-append : {X Y : Type 0} (f : X → Option Y) (xs ys : List X) → first_some f (xs ++ ys) ≡ or_else (first_some f xs) (first_some f ys)
+pub first-append : {X Y : Type 0} (f : X → Option Y) (xs ys : List X)
+    → first_some f (xs ++ ys) ≡ or_else (first_some f xs) (first_some f ys)
 first-append f [] ys = refl
 first-append f (x ∷ xs) ys = grind (arith, first-append f xs ys)
 
@@ -41,7 +42,9 @@ or-some (Some x) p = refl
 -- a transaction was applied where it has a commit
 pub has-applied : (n : ℕ) (rs : List Record) → has n (applied_in rs) ≡ is_some (first_commit n rs)
 has-applied n [] = refl
-has-applied n (r ∷ rs) = applies-txn n r.kind (applied_in rs) ∙ ap (λ b. is_some (applies n r.kind) || b) (has-applied n rs) ∙ sym (or-some (applies n r.kind) (first_commit n rs))
+has-applied n (r ∷ rs) =
+    applies-txn n r.kind (applied_in rs) ∙ ap (λ b. is_some (applies n r.kind) || b) (has-applied n rs)
+    ∙ sym (or-some (applies n r.kind) (first_commit n rs))
 
 -- ---- the applies and the writes
 
@@ -55,7 +58,9 @@ kind-within (Safe value) = omega arith
 kind-within (Split at left right) = omega arith
 
 pub writes-append : (rs ss : List Record) → writes (rs ++ ss) ≡ writes rs + writes ss
-writes-append rs ss = ap length (filter_map-append (λ (r : Record). write_ops r.kind) rs ss) ∙ length-append (filter_map (λ r. write_ops r.kind) rs) (filter_map (λ r. write_ops r.kind) ss)
+writes-append rs ss =
+    ap length (filter_map-append (λ (r : Record). write_ops r.kind) rs ss)
+    ∙ length-append (filter_map (λ r. write_ops r.kind) rs) (filter_map (λ r. write_ops r.kind) ss)
 
 pub applies-append : (rs ss : List Record) → applies_in (rs ++ ss) ≡ applies_in rs ++ applies_in ss
 applies-append rs ss = filter_map-append (λ (r : Record). commit_by r.kind) rs ss
@@ -73,7 +78,8 @@ pub time-applies : (rs : List Record) (n : ℕ) → time_of (applies_in rs) n �
 time-applies [] n = refl
 time-applies (r ∷ rs) n = time-by r.kind n (applies_in rs) ∙ ap (or_else (applies n r.kind)) (time-applies rs n)
 
-without-by : (kind : Kind) (n : ℕ) (cs : List Commit) → without_of (cons_option (commit_by kind) cs) n ≡ or_else (rolls_back n kind) (without_of cs n)
+without-by : (kind : Kind) (n : ℕ) (cs : List Commit)
+    → without_of (cons_option (commit_by kind) cs) n ≡ or_else (rolls_back n kind) (without_of cs n)
 without-by (Write ops) n cs = refl
 without-by (Intent txn sub ops) n cs = refl
 without-by (Apply txn commit without) n cs = refl
@@ -85,7 +91,8 @@ pub without-applies : (rs : List Record) (n : ℕ) → without_of (applies_in rs
 without-applies [] n = refl
 without-applies (r ∷ rs) n = without-by r.kind n (applies_in rs) ∙ ap (or_else (rolls_back n r.kind)) (without-applies rs n)
 
-txns-by : (kind : Kind) (cs : List Commit) → map (λ c. c.txn) (cons_option (commit_by kind) cs) ≡ cons_option (applied_txn kind) (map (λ c. c.txn) cs)
+txns-by : (kind : Kind) (cs : List Commit)
+    → map (λ c. c.txn) (cons_option (commit_by kind) cs) ≡ cons_option (applied_txn kind) (map (λ c. c.txn) cs)
 txns-by (Write ops) cs = refl
 txns-by (Intent txn sub ops) cs = refl
 txns-by (Apply txn commit without) cs = refl

@@ -1,5 +1,6 @@
 -- Laws of waiting.
-use Rattle.std.proofs.Common.{◌≡◌, ℕ, ◌+◌, ◌-◌, Bool, true, false, ◌||◌, List, [], ◌∷◌, ◌++◌, length, refl, ap, sym, ◌∙◌, subst, arith, length-append, append_assoc}
+use Rattle.std.proofs.Common.{◌≡◌, ℕ, ◌+◌, ◌-◌, Bool, true, false, ◌||◌, List, [], ◌∷◌, ◌++◌, length, refl, ap, sym, ◌∙◌, subst, arith}
+use Rattle.std.proofs.Common.{length-append, append_assoc}
 use Rattle.std.proofs.lemmas.Bool.Decides.{nat_tests}
 use Rattle.std.proofs.lemmas.Bool.{eqb-true, false≢true}
 use Rattle.std.proofs.lemmas.List.{append-nil, drop_all}
@@ -21,7 +22,8 @@ use Rattle.xc_agree.specs.Seen.{Seen, see, see_kind, settles, settles_as, passes
 use Rattle.xc_agree.specs.Held.{is_held, writes_at, intends, intends_since, is_start, wait_kind, waits_by, IsLeft, seen_at_end}
 use Rattle.xc_agree.proofs.HeldLaws.{since-snoc}
 
-pub waits-append : (n : ℕ) (p : List Op → Bool) (w : Bool) (xs ys : List Record) → waits_by n p w (xs ++ ys) ≡ waits_by n p (waits_by n p w xs) ys
+pub waits-append : (n : ℕ) (p : List Op → Bool) (w : Bool) (xs ys : List Record)
+    → waits_by n p w (xs ++ ys) ≡ waits_by n p (waits_by n p w xs) ys
 waits-append n p w [] ys = refl
 waits-append n p w (x ∷ xs) ys = waits-append n p (wait_kind n p w x.kind) xs ys
 
@@ -40,8 +42,10 @@ still-begin n h false false k = record { place = refl; below = refl; waits = ref
 empty-since : (n h : ℕ) (done : List Record) → intends_since n h (Some (length done + 1)) done ≡ false
 empty-since n h done = ap (intends n h) (drop_all (length done + 1 - 1) done (omega arith))
 
-step-waits : (n c : ℕ) (u : List ℕ) (h : ℕ) (held : Bool) (s : Seen) (done : List Record) (r : Record) (time : ℕ) (kind : Kind) → r.kind ≡ kind → Still n h held s done
-    → wait_kind n (writes_at h) (waits_by n (writes_at h) held done) kind ≡ ((held && is_start (see_kind n c u s time kind).since) || intends_since n h (see_kind n c u s time kind).since (done ++ r ∷ []))
+step-waits : (n c : ℕ) (u : List ℕ) (h : ℕ) (held : Bool) (s : Seen) (done : List Record) (r : Record) (time : ℕ) (kind : Kind)
+    → r.kind ≡ kind → Still n h held s done
+    → wait_kind n (writes_at h) (waits_by n (writes_at h) held done) kind ≡
+    ((held && is_start (see_kind n c u s time kind).since) || intends_since n h (see_kind n c u s time kind).since (done ++ r ∷ []))
 step-waits n c u h held s done r time (Write ops) e k = grind (arith, k.waits, since-snoc n h s.since done r)
 step-waits n c u h held s done r time (Safe value) e k = grind (arith, k.waits, since-snoc n h s.since done r)
 step-waits n c u h held s done r time (Split at left right) e k = grind (arith, k.waits, since-snoc n h s.since done r)
@@ -51,8 +55,12 @@ step-waits n c u h held s done r time (Intent txn sub ops) e k = go (txn == n) r
   where
     go : (b : Bool) → txn == n ≡ b → (o : Option ℕ) → s.since ≡ o
         → (if b && writes_at h ops then true else waits_by n (writes_at h) held done)
-        ≡ ((held && is_start (if b then record s { place = s.place + 1; since = or_else o (Some (s.place + 1)); late = s.late || nat_le c time } else record s { place = s.place + 1 }).since)
-        || intends_since n h (if b then record s { place = s.place + 1; since = or_else o (Some (s.place + 1)); late = s.late || nat_le c time } else record s { place = s.place + 1 }).since (done ++ r ∷ []))
+        ≡ ((held && is_start
+        (if b then record s { place = s.place + 1; since = or_else o (Some (s.place + 1)); late = s.late || nat_le c time } else record
+        s { place = s.place + 1 }).since)
+        || intends_since n h
+        (if b then record s { place = s.place + 1; since = or_else o (Some (s.place + 1)); late = s.late || nat_le c time } else record
+        s { place = s.place + 1 }).since (done ++ r ∷ []))
     go false f o g = grind (arith, k.waits, since-snoc n h s.since done r)
     go true f None g = grind (arith, k.waits, k.place, since-snoc n h (Some (s.place + 1)) done r, empty-since n h done)
     go true f (Some place) g = grind (arith, nat_tests, k.waits, k.place, k.below, since-snoc n h (Some place) done r)
@@ -68,66 +76,95 @@ below-or : (k : ℕ) (o : Option ℕ) → Below k o → Below (k + 1) (or_else o
 below-or k None h = grind (arith, nat_tests)
 below-or k (Some x) h = grind (arith, nat_tests)
 
-pub below-see : (n c : ℕ) (u : List ℕ) (s : Seen) (time : ℕ) (kind : Kind) → Below s.place s.since → Below (see_kind n c u s time kind).place (see_kind n c u s time kind).since
+pub below-see : (n c : ℕ) (u : List ℕ) (s : Seen) (time : ℕ) (kind : Kind) → Below s.place s.since
+    → Below (see_kind n c u s time kind).place (see_kind n c u s time kind).since
 below-see n c u s time (Write ops) h = below-later s.place s.since h
 below-see n c u s time (Safe value) h = below-later s.place s.since h
 below-see n c u s time (Split at left right) h = below-later s.place s.since h
 below-see n c u s time (Apply txn commit without) h =
-    elim (txn == n) as (λ b. Below (if b then settles_as c u s commit without else passes s).place (if b then settles_as c u s commit without else passes s).since)
+    elim (txn == n) as
+    (λ b. Below (if b then settles_as c u s commit without else passes s).place
+    (if b then settles_as c u s commit without else passes s).since)
     [ true ↦ refl | false ↦ below-later s.place s.since h ]
 below-see n c u s time (Abort txn) h =
-    elim (txn == n) as (λ b. Below (if b then record (settles c s) { aborted = true } else passes s).place (if b then record (settles c s) { aborted = true } else passes s).since)
+    elim (txn == n) as
+    (λ b. Below (if b then record (settles c s) { aborted = true } else passes s).place
+    (if b then record (settles c s) { aborted = true } else passes s).since)
     [ true ↦ refl | false ↦ below-later s.place s.since h ]
 below-see n c u s time (Intent txn sub ops) h =
-    elim (txn == n) as (λ b. Below (if b then record s { place = s.place + 1; since = or_else s.since (Some (s.place + 1)); late = s.late || nat_le c time } else passes s).place
-    (if b then record s { place = s.place + 1; since = or_else s.since (Some (s.place + 1)); late = s.late || nat_le c time } else passes s).since)
+    elim (txn == n) as
+    (λ b. Below (if b then record s
+    { place = s.place + 1; since = or_else s.since (Some (s.place + 1)); late = s.late || nat_le c time } else passes s).place
+    (if b then record s { place = s.place + 1; since = or_else s.since (Some (s.place + 1)); late = s.late || nat_le c time } else passes
+    s).since)
     [ true ↦ below-or s.place s.since h | false ↦ below-later s.place s.since h ]
 
 pub place-see : (n c : ℕ) (u : List ℕ) (s : Seen) (time : ℕ) (kind : Kind) → (see_kind n c u s time kind).place ≡ s.place + 1
 place-see n c u s time (Write ops) = refl
 place-see n c u s time (Safe value) = refl
 place-see n c u s time (Split at left right) = refl
-place-see n c u s time (Apply txn commit without) = elim (txn == n) as (λ b. (if b then settles_as c u s commit without else passes s).place ≡ s.place + 1) [ true ↦ refl | false ↦ refl ]
-place-see n c u s time (Abort txn) = elim (txn == n) as (λ b. (if b then record (settles c s) { aborted = true } else passes s).place ≡ s.place + 1) [ true ↦ refl | false ↦ refl ]
+place-see n c u s time (Apply txn commit without) =
+    elim (txn == n) as (λ b. (if b then settles_as c u s commit without else passes s).place ≡ s.place + 1) [ true ↦ refl | false ↦ refl ]
+place-see n c u s time (Abort txn) =
+    elim (txn == n) as (λ b. (if b then record (settles c s) { aborted = true } else passes s).place ≡ s.place + 1)
+    [ true ↦ refl | false ↦ refl ]
 place-see n c u s time (Intent txn sub ops) =
-    elim (txn == n) as (λ b. (if b then record s { place = s.place + 1; since = or_else s.since (Some (s.place + 1)); late = s.late || nat_le c time } else passes s).place ≡ s.place + 1) [ true ↦ refl | false ↦ refl ]
+    elim (txn == n) as
+    (λ b. (if b then record s { place = s.place + 1; since = or_else s.since (Some (s.place + 1)); late = s.late || nat_le c time } else
+    passes s).place ≡ s.place + 1) [ true ↦ refl | false ↦ refl ]
 
-still-step : (n c : ℕ) (u : List ℕ) (h : ℕ) (held : Bool) (s : Seen) (done : List Record) (r : Record) → Still n h held s done → Still n h held (see n c u s r) (done ++ r ∷ [])
+still-step : (n c : ℕ) (u : List ℕ) (h : ℕ) (held : Bool) (s : Seen) (done : List Record) (r : Record) → Still n h held s done
+    → Still n h held (see n c u s r) (done ++ r ∷ [])
 still-step n c u h held s done r k = record {
   place = place-see n c u s r.time r.kind ∙ ap (λ x. x + 1) k.place ∙ sym (length-append done (r ∷ []));
   below = below-see n c u s r.time r.kind k.below;
   waits = waits-append n (writes_at h) held done (r ∷ []) ∙ step-waits n c u h held s done r r.time r.kind refl k;
 }
 
-still-all : (n c : ℕ) (u : List ℕ) (h : ℕ) (held : Bool) (s : Seen) (done rs : List Record) → Still n h held s done → Still n h held (fold (see n c u) s rs) (done ++ rs)
+still-all : (n c : ℕ) (u : List ℕ) (h : ℕ) (held : Bool) (s : Seen) (done rs : List Record) → Still n h held s done
+    → Still n h held (fold (see n c u) s rs) (done ++ rs)
 still-all n c u h held s done [] k = rw append-nil k
-still-all n c u h held s done (r ∷ rs) k = subst (λ xs. Still n h held (fold (see n c u) (see n c u s r) rs) xs) (append_assoc done (r ∷ []) rs) (still-all n c u h held (see n c u s r) (done ++ r ∷ []) rs (still-step n c u h held s done r k))
+still-all n c u h held s done (r ∷ rs) k =
+    subst (λ xs. Still n h held (fold (see n c u) (see n c u s r) rs) xs) (append_assoc done (r ∷ []) rs)
+    (still-all n c u h held (see n c u s r) (done ++ r ∷ []) rs (still-step n c u h held s done r k))
 
 -- what is held waits
-pub held-waits : (n h : ℕ) (header : Header) (held : List Held) → (is_held held n h && holds header h) ≡ true → waits_from header held n ≡ true
+pub held-waits : (n h : ℕ) (header : Header) (held : List Held) → (is_held held n h && holds header h) ≡ true
+    → waits_from header held n ≡ true
 held-waits n h header [] e = cc
 held-waits n h header (x ∷ held) e = go (held-waits n h header held) (x.txn == n) (x.hash == h) refl e
   where
-    go : ((is_held held n h && holds header h) ≡ true → waits_from header held n ≡ true) → (p q : Bool) → x.hash == h ≡ q → (((p && q) || is_held held n h) && holds header h) ≡ true → ((p && holds header x.hash) || waits_from header held n) ≡ true
+    go : ((is_held held n h && holds header h) ≡ true → waits_from header held n ≡ true) → (p q : Bool) → x.hash == h ≡ q
+        → (((p && q) || is_held held n h) && holds header h) ≡ true → ((p && holds header x.hash) || waits_from header held n) ≡ true
     go ih true true f e = let same : x.hash ≡ h = eqb-true x.hash h f in rw (same, e) refl
     go ih true false f e = grind (arith, ih e)
     go ih false q f e = ih e
 
 -- what a tablet holds at its end
-pub left-at-end : (look : Look) (commits : List Commit) (header : Header) (held left : List Held) (rs : List Record) → IsLook look commits (seen_at_end commits header held rs)
-    → ((n h : ℕ) → is_held left n h ≡ ((is_held held n h && (holds header h && is_start (since_in commits look n))) || intends_since n h (since_in commits look n) rs)) → IsLeft left commits header held rs
+pub left-at-end : (look : Look) (commits : List Commit) (header : Header) (held left : List Held) (rs : List Record)
+    → IsLook look commits (seen_at_end commits header held rs)
+    → ((n h : ℕ)
+    → is_held left n h ≡
+    ((is_held held n h && (holds header h && is_start (since_in commits look n))) || intends_since n h (since_in commits look n)
+    rs)) → IsLeft left commits header held rs
 left-at-end look commits header held left rs k is n h = is n h ∙ go (time_of commits n) refl
   where
     and-false : (a b : Bool) → ((a && (b && false)) || false) ≡ false
     and-false a b = grind arith
 
-    go : (o : Option ℕ) → time_of commits n ≡ o → ((is_held held n h && (holds header h && is_start (since_in commits look n))) || intends_since n h (since_in commits look n) rs)
+    go : (o : Option ℕ) → time_of commits n ≡ o
+        → ((is_held held n h && (holds header h && is_start (since_in commits look n))) || intends_since n h (since_in commits look n) rs)
         ≡ (is_some o && waits_by n (writes_at h) (is_held held n h && holds header h) rs)
     go None e =
-        let since : since_in commits look n ≡ None = k.since n ∙ ap (option_and_then (λ c. (seen_at_end commits header held rs n c).since)) e in
+        let since : since_in commits look n ≡ None =
+        k.since n ∙ ap (option_and_then (λ c. (seen_at_end commits header held rs n c).since)) e in
         rw since (and-false (is_held held n h) (holds header h))
     go (Some c) e =
-        let since : since_in commits look n ≡ (seen_at_end commits header held rs n c).since = k.since n ∙ ap (option_and_then (λ c. (seen_at_end commits header held rs n c).since)) e in
+        let since : since_in commits look n ≡ (seen_at_end commits header held rs n c).since =
+        k.since n ∙ ap (option_and_then (λ c. (seen_at_end commits header held rs n c).since)) e in
         let still : Still n h (is_held held n h && holds header h) (seen_at_end commits header held rs n c) rs =
-        still-all n c (undone_of commits n) h (is_held held n h && holds header h) (unseen (waits_from header held n)) [] rs (still-begin n h (is_held held n h && holds header h) (waits_from header held n) (held-waits n h header held)) in
-        rw since (ap (λ b. b || intends_since n h (seen_at_end commits header held rs n c).since rs) (sym (and_assoc (is_held held n h) (holds header h) (is_start (seen_at_end commits header held rs n c).since))) ∙ sym still.waits)
+        still-all n c (undone_of commits n) h (is_held held n h && holds header h) (unseen (waits_from header held n)) [] rs
+        (still-begin n h (is_held held n h && holds header h) (waits_from header held n) (held-waits n h header held)) in
+        rw since (ap (λ b. b || intends_since n h (seen_at_end commits header held rs n c).since rs)
+        (sym (and_assoc (is_held held n h) (holds header h) (is_start (seen_at_end commits header held rs n c).since)))
+        ∙ sym still.waits)

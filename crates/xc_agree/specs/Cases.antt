@@ -6,7 +6,8 @@
 --     AreLeft lefts lasts commits bs      lefts has what each of the tablets bs with a child to come left waiting
 --     Drops lefts after lasts parent id      after is lefts without what the parent left, where the tablet `id` is its last child
 --     cases_of logs commits bs n      the first case of the transaction n at the tablets bs
-use Rattle.std.specs.Prelude.{◌≡◌, ℕ, ◌+◌, ◌<◌, ◌≤◌, ◌==◌, false, if◌then◌else◌, nat_le, Bool, List, [], Option, Some, None, ◌&&◌, MatchOption, slice_get, length, option_map, option_and_then, is_some, take, flat_map, filter}
+use Rattle.std.specs.Prelude.{◌≡◌, ℕ, ◌+◌, ◌<◌, ◌≤◌, ◌==◌, false, if◌then◌else◌, nat_le, Bool, List, [], Option, Some, None, ◌&&◌}
+use Rattle.std.specs.Prelude.{MatchOption, slice_get, length, option_map, option_and_then, is_some, take, flat_map, filter}
 use Rattle.std.specs.Option.{option_map_or}
 use Rattle.std.specs.declared.vec.Vec.{Vec}
 use Rattle.std.specs.declared.alloc.Global.{Global}
@@ -29,7 +30,8 @@ case_of txn tablet kind = record { txn = txn; tablet = tablet; kind = kind }
 
 abbrev pub IsFirst : Option Case → (ℕ → Option Disagreement) → Type 0
 IsFirst first cases =
-    MatchOption first ((n : ℕ) → cases n ≡ None) (λ d. (cases d.txn ≡ Some (case_of d.txn d.tablet d.kind)) × ((n : ℕ) → n < d.txn → cases n ≡ None))
+    MatchOption first ((n : ℕ) → cases n ≡ None)
+    (λ d. (cases d.txn ≡ Some (case_of d.txn d.tablet d.kind)) × ((n : ℕ) → n < d.txn → cases n ≡ None))
 
 -- with the cases of one more tablet
 abbrev pub with_cases : ℕ → (ℕ → Option AgreeKind) → (ℕ → Option Disagreement) → ℕ → Option Disagreement
@@ -58,7 +60,8 @@ pub record AreLeft (lefts : List (Vec Held Global)) (lasts : List ℕ) (commits 
   pub count : length lefts ≡ length bs
   pub slots : (i : ℕ) → InSlots commits (left_of lefts i)
   pub each : (i k : ℕ) (b : AcceptedTablet) → slice_get bs i ≡ Some b → slice_get lasts i ≡ Some k → length bs ≤ k → (n h : ℕ)
-      → is_held (left_of lefts i) n h ≡ (is_some (time_of commits n) && (holds b.header h && waits_by n (writes_at h) false (line_through bs i h)))
+      → is_held (left_of lefts i) n h ≡
+      (is_some (time_of commits n) && (holds b.header h && waits_by n (writes_at h) false (line_through bs i h)))
 
 -- the tablet i is the parent, and has its last child at `id` or before
 abbrev pub is_done : List ℕ → Option ℕ → ℕ → ℕ → Bool
@@ -71,7 +74,8 @@ pub record Drops (lefts after : List (Vec Held Global)) (lasts : List ℕ) (pare
 
 -- the first case of the transaction at the tablets
 abbrev pub cases_of : Logs → List Commit → List AcceptedTablet → ℕ → Option Disagreement
-cases_of logs commits bs n = option_and_then (λ c. first_some (λ b. option_map (case_of n b.header.id) (kind_at logs n c b)) bs) (time_of commits n)
+cases_of logs commits bs n =
+    option_and_then (λ c. first_some (λ b. option_map (case_of n b.header.id) (kind_at logs n c b)) bs) (time_of commits n)
 
 abbrev pub of_tablets : List Tablet → Logs
 of_tablets ts = record { tablets = ts }

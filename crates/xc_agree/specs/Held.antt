@@ -6,7 +6,8 @@
 --     InSlots commits held      what is held is of transactions that commit, each with its slot
 --     IsLeft more commits header held rs      more is held at the end of a tablet with the records rs, whose parent held `held`
 --     StaysHeld still commits look header held      still is what of `held` waits on in the range, since before the first record
---     waits_by n p w rs      whether n waits after the records rs, by an operation that the test p passes, where w says whether it did before
+--     waits_by n p w rs      whether n waits after the records rs, by an operation that the test p passes, where w says whether it did
+--         before
 use Rattle.std.specs.Prelude.{◌≡◌, ℕ, ◌-◌, Bool, true, false, List, [], ◌∷◌, Option, if◌then◌else◌, is_some, fold, ◌&&◌, ◌==◌, drop, nat_le}
 use Rattle.std.specs.List.{list_any, list_all}
 use Rattle.std.specs.Option.{option_map_or}
@@ -60,7 +61,8 @@ waits_by n p w (r ∷ rs) = waits_by n p (wait_kind n p w r.kind) rs
 
 -- what a tablet with these records holds at its end, where its parent held `held`
 abbrev pub IsLeft : List Held → List Commit → Header → List Held → List Record → Type 0
-IsLeft more commits header held rs = (n h : ℕ) → is_held more n h ≡ (is_some (time_of commits n) && waits_by n (writes_at h) (is_held held n h && holds header h) rs)
+IsLeft more commits header held rs = (n h : ℕ)
+    → is_held more n h ≡ (is_some (time_of commits n) && waits_by n (writes_at h) (is_held held n h && holds header h) rs)
 
 -- what is held commits, and is in its slot
 abbrev pub InSlots : List Commit → List Held → Type 0

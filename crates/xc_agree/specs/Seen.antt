@@ -1,14 +1,16 @@
 -- What one transaction does on one tablet, record by record.
 --     Seen      what was seen so far: how many records, the place and the value of the last safe record, the place at which the
 --               transaction began to wait, and which cases of disagreement stand
---     see n commit undone s r      the same after the record r, for the transaction n, which commits at `commit` without the subtransactions `undone`
+--     see n commit undone s r      the same after the record r, for the transaction n, which commits at `commit` without the
+--         subtransactions `undone`
 --     kind_seen s      the first kind of the cases that stand
 --     IsLeast found kinds      found has the least transaction with a kind, and that kind
 --     since_at look slot, since_in commits look n      the place since which the slot, or the transaction, waits by the look
 --     is_in_slot commits txn slot      the transaction commits, and is in the slot
 --     IsIdle look commits      nothing waits by the look, which has a slot for each commit
 --     IsLook look commits seen      the look has of each transaction what is seen of it
-use Rattle.std.specs.Prelude.{◌≡◌, ℕ, ◌+◌, ◌<◌, Bool, true, false, List, [], ◌∷◌, Option, Some, None, ◌&&◌, ◌||◌, ◌==◌, not, nat_le, nat_lt, bytes_eq, if◌then◌else◌, MatchOption, option_and_then, is_some, slice_get, length}
+use Rattle.std.specs.Prelude.{◌≡◌, ℕ, ◌+◌, ◌<◌, Bool, true, false, List, [], ◌∷◌, Option, Some, None, ◌&&◌, ◌||◌, ◌==◌, not, nat_le, nat_lt}
+use Rattle.std.specs.Prelude.{bytes_eq, if◌then◌else◌, MatchOption, option_and_then, is_some, slice_get, length}
 use Rattle.std.specs.List.{list_any, list_all}
 use Rattle.std.specs.Option.{option_map_or}
 use Rattle.xc_record.specs.declared.record.AgreeKind.{AgreeKind}
@@ -42,7 +44,18 @@ pub record Seen : Type 0 where
 -- before the first record
 abbrev pub unseen : Bool → Seen
 unseen waits =
-    record { place = 0; safe = 0; floor = 0; since = if waits then Some 0 else None; differs = false; undoes = false; late = false; aborted = false; straggles = false }
+    record {
+      place = 0;
+      safe = 0;
+      floor = 0;
+      since = if waits then Some 0 else None;
+      differs = false;
+      undoes = false;
+      late = false;
+      aborted
+          = false;
+      straggles = false;
+    }
 
 -- the transaction waits, and waited at a safe record of value at or above the commit: the last one shows it, since their values don't fall
 abbrev pub pends : ℕ → Seen → Bool
@@ -62,7 +75,8 @@ settles_as commit undone s c without =
 abbrev pub see_kind : ℕ → ℕ → List ℕ → Seen → ℕ → Kind → Seen
 see_kind n commit undone s time (Write ops) = passes s
 see_kind n commit undone s time (Intent txn sub ops) =
-    if txn == n then record s { place = s.place + 1; since = or_else s.since (Some (s.place + 1)); late = s.late || nat_le commit time } else passes s
+    if txn == n then record s { place = s.place + 1; since = or_else s.since (Some (s.place + 1)); late = s.late || nat_le commit time }
+    else passes s
 see_kind n commit undone s time (Apply txn c without) = if txn == n then settles_as commit undone s c without else passes s
 see_kind n commit undone s time (Abort txn) = if txn == n then record (settles commit s) { aborted = true } else passes s
 see_kind n commit undone s time (Safe value) = record s { place = s.place + 1; safe = s.place + 1; floor = value }
@@ -73,7 +87,8 @@ see n commit undone s r = see_kind n commit undone s r.time r.kind
 
 abbrev pub kind_of : Bool → Bool → Bool → Bool → Bool → Option AgreeKind
 kind_of differs undoes late aborted straggles =
-    first_kind ((differs, CommitDiffers) ∷ (undoes, RollbackDiffers) ∷ (late, LateIntent) ∷ (aborted, Aborted) ∷ (straggles, Straggler) ∷ [])
+    first_kind ((differs, CommitDiffers) ∷ (undoes, RollbackDiffers) ∷ (late, LateIntent) ∷ (aborted, Aborted) ∷ (straggles, Straggler) ∷
+    [])
 
 abbrev pub kind_seen : Seen → Option AgreeKind
 kind_seen s = kind_of s.differs s.undoes s.late s.aborted s.straggles
@@ -96,7 +111,8 @@ with_kind txn kind kinds n = if n == txn then Some (earlier kind (kinds n)) else
 
 -- found, with this case too where it stands
 abbrev pub IsLeastWith : Option Found → Bool → ℕ → AgreeKind → Option Found → Type 0
-IsLeastWith found stands txn kind more = (kinds : ℕ → Option AgreeKind) → IsLeast found kinds → IsLeast more (λ n. if stands then with_kind txn kind kinds n else kinds n)
+IsLeastWith found stands txn kind more = (kinds : ℕ → Option AgreeKind) → IsLeast found kinds
+    → IsLeast more (λ n. if stands then with_kind txn kind kinds n else kinds n)
 
 -- where the transaction in the slot began to wait
 abbrev pub waits_at : List (Option ℕ) → ℕ → Option ℕ
@@ -157,7 +173,8 @@ pub record IsLook (look : Look) (commits : List Commit) (seen : ℕ → ℕ → 
 
 -- the look after a record of this time and kind
 abbrev pub Takes : Look → Look → List Commit → ℕ → Kind → Type 0
-Takes old new commits time kind = (seen : ℕ → ℕ → Seen) → IsLook old commits seen → IsLook new commits (λ n c. see_kind n c (undone_of commits n) (seen n c) time kind)
+Takes old new commits time kind = (seen : ℕ → ℕ → Seen) → IsLook old commits seen
+    → IsLook new commits (λ n c. see_kind n c (undone_of commits n) (seen n c) time kind)
 
 -- the transaction waits by what was held, at a hash of the range
 abbrev pub waits_from : Header → List Held → ℕ → Bool

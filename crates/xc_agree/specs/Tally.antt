@@ -1,5 +1,6 @@
 -- What commits by some records.
---     first_commit n rs, first_without n rs      the commit time that the first apply of n names, and the subtransactions that it says were rolled back
+--     first_commit n rs, first_without n rs      the commit time that the first apply of n names, and the subtransactions that it says were
+--         rolled back
 --     commit_by kind      the commit of an apply
 --     applies_in rs      the commits of all applies among the records rs
 --     tally rs      how many writes and transactions commit by the records rs

@@ -25,7 +25,8 @@ pub struct Case {
 // The lesser of the first case so far and what was found at the next tablet: where both are of one transaction, the
 // tablet before has it.
 pub fn first_of(first: Option<Case>, found: Option<Found>, tablet: u32) -> Option<Case>
-    ensures { (cases : ℕ → Option Disagreement) (kinds : ℕ → Option AgreeKind) → IsFirst first cases → IsLeast found kinds → IsFirst result (with_cases tablet kinds cases) }
+    ensures { (cases : ℕ → Option Disagreement) (kinds : ℕ → Option AgreeKind) → IsFirst first cases
+        → IsLeast found kinds → IsFirst result (with_cases tablet kinds cases) }
 {
     let Some(f) = found else { return first };
     let here = Case {
@@ -73,12 +74,19 @@ pub fn judge_tablet(
 ) -> Result<Judged, AllocError>
     requires within { run.now.walk.accepted ≤ length t.now.records }
     requires bound { length t.now.records < 2 ^ 32 }
-    ensures idle { OnOk result (IsIdle look.old commits.now → InSlots commits.now (held_from lefts.now t.now.header.parent) → IsIdle look.new commits.now) }
-    ensures found { IfOk result (λ j. IsIdle look.old commits.now → InSlots commits.now (held_from lefts.now t.now.header.parent)
-        → IsEnd j.found commits.now (seen_at_end commits.now t.now.header (held_from lefts.now t.now.header.parent) (take run.now.walk.accepted t.now.records))) }
-    ensures left { IfOk result (λ j. IsIdle look.old commits.now → InSlots commits.now (held_from lefts.now t.now.header.parent) → (has_children ≡ true)
-        → IsLeft j.left.items commits.now t.now.header (held_from lefts.now t.now.header.parent) (take run.now.walk.accepted t.now.records)) }
-    ensures slots { IfOk result (λ j. InSlots commits.now (held_from lefts.now t.now.header.parent) → InSlots commits.now j.left.items) }
+    ensures idle { OnOk result (IsIdle look.old commits.now
+        → InSlots commits.now (held_from lefts.now t.now.header.parent) → IsIdle look.new commits.now) }
+    ensures found { IfOk result (λ j. IsIdle look.old commits.now
+        → InSlots commits.now (held_from lefts.now t.now.header.parent)
+        → IsEnd j.found commits.now
+        (seen_at_end commits.now t.now.header (held_from lefts.now t.now.header.parent)
+        (take run.now.walk.accepted t.now.records))) }
+    ensures left { IfOk result (λ j. IsIdle look.old commits.now
+        → InSlots commits.now (held_from lefts.now t.now.header.parent) → (has_children ≡ true)
+        → IsLeft j.left.items commits.now t.now.header (held_from lefts.now t.now.header.parent)
+        (take run.now.walk.accepted t.now.records)) }
+    ensures slots { IfOk result (λ j. InSlots commits.now (held_from lefts.now t.now.header.parent)
+        → InSlots commits.now j.left.items) }
 {
     let held = held_of(lefts, t.header.parent);
     let records = accepted_part(t, run);

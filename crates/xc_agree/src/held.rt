@@ -3,7 +3,8 @@ ghost use Rattle.std.specs.Prelude.{◌≡◌, ℕ, IfOk, OnOk, ◌&&◌, ◌||�
 ghost use Rattle.xc_record.specs.Hash.{holds};
 ghost use Rattle.xc_agree.specs.declared.commits.Commit.{Commit};
 ghost use Rattle.xc_agree.specs.Seen.{since_at, since_in, is_in_slot};
-ghost use Rattle.xc_agree.specs.Held.{is_held, writes_at, intends_kind, intends_since, is_start, is_since, InSlots, StaysHeld};
+ghost use Rattle.xc_agree.specs.Held.{is_held, writes_at, intends_kind, intends_since, is_start, is_since, InSlots};
+ghost use Rattle.xc_agree.specs.Held.{StaysHeld};
 
 use crate::commits::Commits;
 use crate::look::{Look, Waiter};
@@ -20,8 +21,10 @@ pub struct Held {
 }
 
 fn keep(held: &mut Vec<Held>, stays: bool, x: Held) -> Result<(), AllocError>
-    ensures held { OnOk result ((n h : ℕ) → is_held held.new.items n h ≡ (is_held held.old.items n h || (stays && (x.txn == n && x.hash == h)))) }
-    ensures slots { OnOk result ((commits : List Commit) → (is_in_slot commits x.txn x.slot ≡ true) → InSlots commits held.old.items → InSlots commits held.new.items) }
+    ensures held { OnOk result ((n h : ℕ)
+        → is_held held.new.items n h ≡ (is_held held.old.items n h || (stays && (x.txn == n && x.hash == h)))) }
+    ensures slots { OnOk result ((commits : List Commit) → (is_in_slot commits x.txn x.slot ≡ true)
+        → InSlots commits held.old.items → InSlots commits held.new.items) }
 {
     if stays {
         held.push(x)?;
@@ -42,7 +45,8 @@ fn hold_still(
     header: &Header,
     held: &[Held],
 ) -> Result<Vec<Held>, AllocError>
-    ensures { IfOk result (λ still. (commits : List Commit) → InSlots commits held.now → StaysHeld still.items commits look.now header.now held.now) }
+    ensures { IfOk result (λ still. (commits : List Commit) → InSlots commits held.now
+        → StaysHeld still.items commits look.now header.now held.now) }
 {
     let mut still = Vec::new(alloc);
     for x in held {
@@ -52,8 +56,10 @@ fn hold_still(
 }
 
 fn hold_ops(held: &mut Vec<Held>, waiter: Waiter, ops: &Ops) -> Result<(), AllocError>
-    ensures held { OnOk result ((n h : ℕ) → is_held held.new.items n h ≡ (is_held held.old.items n h || (waiter.txn == n && writes_at h ops.now))) }
-    ensures slots { OnOk result ((commits : List Commit) → (is_in_slot commits waiter.txn waiter.slot ≡ true) → InSlots commits held.old.items → InSlots commits held.new.items) }
+    ensures held { OnOk result ((n h : ℕ)
+        → is_held held.new.items n h ≡ (is_held held.old.items n h || (waiter.txn == n && writes_at h ops.now))) }
+    ensures slots { OnOk result ((commits : List Commit) → (is_in_slot commits waiter.txn waiter.slot ≡ true)
+        → InSlots commits held.old.items → InSlots commits held.new.items) }
 {
     for op in ops.iter() {
         held.push(Held {
@@ -74,7 +80,10 @@ fn hold_record(
     place: usize,
     r: &Record,
 ) -> Result<(), AllocError>
-    ensures held { OnOk result ((n h : ℕ) → is_held held.new.items n h ≡ (is_held held.old.items n h || (is_since place (since_in commits.now look.now n) && intends_kind n h r.now.kind))) }
+    ensures held { OnOk result ((n h : ℕ)
+        → is_held held.new.items n h
+        ≡ (is_held held.old.items n h ||
+        (is_since place (since_in commits.now look.now n) && intends_kind n h r.now.kind))) }
     ensures slots { OnOk result (InSlots commits.now held.old.items → InSlots commits.now held.new.items) }
 {
     if let Kind::Intent { txn, ops, .. } = &r.kind {
@@ -99,7 +108,8 @@ pub fn hold(
     records: &[Record],
 ) -> Result<Vec<Held>, AllocError>
     ensures held { IfOk result (λ more. InSlots commits.now held.now → (n h : ℕ) → is_held more.items n h
-        ≡ ((is_held held.now n h && (holds header.now h && is_start (since_in commits.now look.now n))) || intends_since n h (since_in commits.now look.now n) records.now)) }
+        ≡ ((is_held held.now n h && (holds header.now h && is_start (since_in commits.now look.now n))) || intends_since
+        n h (since_in commits.now look.now n) records.now)) }
     ensures slots { IfOk result (λ more. InSlots commits.now held.now → InSlots commits.now more.items) }
 {
     let mut more = hold_still(alloc, look, header, held)?;

@@ -29,9 +29,12 @@ pub fn judge(
     has_children: bool,
 ) -> Result<Judged, AllocError>
     requires { length records.now < 2 ^ 32 }
-    ensures idle { OnOk result (IsIdle look.old commits.now → InSlots commits.now held.now → IsIdle look.new commits.now) }
-    ensures found { IfOk result (λ j. IsIdle look.old commits.now → InSlots commits.now held.now → IsEnd j.found commits.now (seen_at_end commits.now header.now held.now records.now)) }
-    ensures left { IfOk result (λ j. IsIdle look.old commits.now → InSlots commits.now held.now → (has_children ≡ true) → IsLeft j.left.items commits.now header.now held.now records.now) }
+    ensures idle { OnOk result (IsIdle look.old commits.now → InSlots commits.now held.now
+        → IsIdle look.new commits.now) }
+    ensures found { IfOk result (λ j. IsIdle look.old commits.now → InSlots commits.now held.now
+        → IsEnd j.found commits.now (seen_at_end commits.now header.now held.now records.now)) }
+    ensures left { IfOk result (λ j. IsIdle look.old commits.now → InSlots commits.now held.now → (has_children ≡ true)
+        → IsLeft j.left.items commits.now header.now held.now records.now) }
     ensures slots { IfOk result (λ j. InSlots commits.now held.now → InSlots commits.now j.left.items) }
 {
     look.begin(header, held)?;

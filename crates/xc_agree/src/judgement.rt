@@ -51,13 +51,13 @@ fn ends_of(alloc: Global, runs: &[Run]) -> Result<Ends, AllocError>
 /// log is accepted and how many writes and transactions commit.
 ///
 /// For n records and m operations it takes time proportional to (n + m) log n, and a step more for each operation that
-/// waits at a split, at each such split: at most 31 of them follow one another. Its memory is a few words for each apply
-/// and, until both children were looked at, for each operation that waits at a split.
+/// waits at a split, at each such split: at most 31 of them follow one another. Its memory is a few words for each
+/// apply and, until both children were looked at, for each operation that waits at a split.
 ///
 /// # Errors
 ///
-/// `Disagree` exactly where the logs disagree, with the case of the least transaction, then of the least tablet, then of
-/// the first kind. `NoMemory` where memory is refused, whatever the logs say.
+/// `Disagree` exactly where the logs disagree, with the case of the least transaction, then of the least tablet, then
+/// of the first kind. `NoMemory` where memory is refused, whatever the logs say.
 pub fn agree(alloc: Global, logs: &LogSet) -> Result<Audit, AgreeFail>
     ensures audit { IfOk result (IsAudit logs.now) }
     ensures fail { IfErr result (IsFail logs.now) }

@@ -1,5 +1,6 @@
 // One look through a tablet's accepted records for cases of disagreement.
-ghost use Rattle.std.specs.Prelude.{◌≡◌, ℕ, ◌+◌, ◌<◌, ◌^◌, Option, Some, None, List, OnOk, IfOk, length, fold, if◌then◌else◌, ◌==◌, slice_get, true, option_map};
+ghost use Rattle.std.specs.Prelude.{◌≡◌, ℕ, ◌+◌, ◌<◌, ◌^◌, Option, Some, None, List, OnOk, IfOk, length, fold};
+ghost use Rattle.std.specs.Prelude.{if◌then◌else◌, ◌==◌, slice_get, true, option_map};
 ghost use Rattle.xc_record.specs.declared.record.AgreeKind.{AgreeKind};
 ghost use Rattle.xc_record.specs.declared.record.AgreeKind.TheVariants.{Straggler};
 ghost use Rattle.xc_record.specs.declared.record.Kind.TheVariants.{Intent, Apply, Abort, Safe};
@@ -9,7 +10,9 @@ ghost use Rattle.xc_record.specs.Agreement.{rank};
 ghost use Rattle.xc_record.specs.Lists.{or_else};
 ghost use Rattle.xc_agree.specs.Slots.{slot_of, time_of, without_of, undone_of};
 ghost use Rattle.xc_agree.specs.Held.{is_start, is_since, InSlots};
-ghost use Rattle.xc_agree.specs.Seen.{Takes, Began, IsEnd, waits_from, unseen, Seen, IsLeast, with_kind, see, waits_at, since_at, is_slot_of, pends_at, is_in_slot, AreInSlots, IsIdle, IsLook, IsLeastWith, KeepsPlace};
+ghost use Rattle.xc_agree.specs.Seen.{Takes, Began, IsEnd, waits_from, unseen, Seen, IsLeast, with_kind, see, waits_at};
+ghost use Rattle.xc_agree.specs.Seen.{since_at, is_slot_of, pends_at, is_in_slot, AreInSlots, IsIdle, IsLook};
+ghost use Rattle.xc_agree.specs.Seen.{IsLeastWith, KeepsPlace};
 
 use crate::commits::{Commit, Commits};
 use crate::held::Held;
@@ -89,7 +92,8 @@ pub struct Look {
 
 // Nothing waits in the slot any more.
 fn stop(waiting: &mut Vec<Option<u32>>, slot: usize)
-    ensures since { (i : ℕ) → waits_at waiting.new.items i ≡ (if i == slot then None else waits_at waiting.old.items i) }
+    ensures since { (i : ℕ)
+        → waits_at waiting.new.items i ≡ (if i == slot then None else waits_at waiting.old.items i) }
     ensures len { length waiting.new.items ≡ length waiting.old.items }
 {
     if let Some(since) = waiting.get_mut(slot) {
@@ -99,7 +103,8 @@ fn stop(waiting: &mut Vec<Option<u32>>, slot: usize)
 
 // Nothing waits in the slots of these any more.
 fn stop_all(waiting: &mut Vec<Option<u32>>, waiters: &[Waiter])
-    ensures since { (i : ℕ) → waits_at waiting.new.items i ≡ (if is_slot_of i waiters.now then None else waits_at waiting.old.items i) }
+    ensures since { (i : ℕ)
+        → waits_at waiting.new.items i ≡ (if is_slot_of i waiters.now then None else waits_at waiting.old.items i) }
     ensures len { length waiting.new.items ≡ length waiting.old.items }
 {
     for waiter in waiters {
@@ -154,7 +159,8 @@ impl Look {
 
     /// Forgets what waits, before the next tablet.
     pub fn clear(&mut self)
-        ensures { (commits : List Commit) (seen : ℕ → ℕ → Seen) → IsLook self.old commits seen → IsIdle self.new commits }
+        ensures { (commits : List Commit) (seen : ℕ → ℕ → Seen) → IsLook self.old commits seen
+            → IsIdle self.new commits }
     {
         stop_all(&mut self.waiting, self.began.as_slice());
         self.began.clear();
@@ -172,7 +178,8 @@ impl Look {
 
     // With the transaction where it pends.
     fn straggler(&self, commits: &Commits, found: Option<Found>, waiter: Waiter) -> Option<Found>
-        ensures { (c : Commit) → (slice_get commits.now waiter.slot ≡ Some c) → IsLeastWith found (pends_at c.time self.now waiter.slot) waiter.txn Straggler result }
+        ensures { (c : Commit) → (slice_get commits.now waiter.slot ≡ Some c)
+            → IsLeastWith found (pends_at c.time self.now waiter.slot) waiter.txn Straggler result }
     {
         match commits.time(waiter.slot) {
             None => found,
@@ -215,11 +222,14 @@ impl Look {
 
     // An operation of the transaction in the slot waits from this place on.
     fn wait(&mut self, txn: u32, slot: usize, place: u32) -> Result<(), AllocError>
-        ensures since { OnOk result ((slot < length self.old.waiting.items) → (i : ℕ) → since_at self.new i ≡ (if i == slot then or_else (since_at self.old i) (Some place) else since_at self.old i)) }
+        ensures since { OnOk result ((slot < length self.old.waiting.items) → (i : ℕ)
+            → since_at self.new i
+            ≡ (if i == slot then or_else (since_at self.old i) (Some place) else since_at self.old i)) }
         ensures kept { OnOk result (KeepsPlace self.old self.new) }
         ensures found { OnOk result (self.new.found ≡ self.old.found) }
         ensures began { OnOk result (Began self.old → Began self.new) }
-        ensures waiters { OnOk result ((commits : List Commit) → (is_in_slot commits txn slot ≡ true) → AreInSlots commits self.old.began.items → AreInSlots commits self.new.began.items) }
+        ensures waiters { OnOk result ((commits : List Commit) → (is_in_slot commits txn slot ≡ true)
+            → AreInSlots commits self.old.began.items → AreInSlots commits self.new.began.items) }
     {
         if slot < self.waiting.len() && self.waiting[slot].is_none() {
             self.waiting[slot] = Some(place);
@@ -256,7 +266,8 @@ impl Look {
     fn take_intent(&mut self, commits: &Commits, txn: u32, time: u64) -> Result<(), AllocError>
         requires { self.old.place + 1 < 2 ^ 32 }
         ensures place { OnOk result (self.new.place ≡ self.old.place + 1) }
-        ensures taken { OnOk result ((sub : ℕ) (ops : List Op) → Takes self.old self.new commits.now time (Intent txn sub ops)) }
+        ensures taken { OnOk result ((sub : ℕ) (ops : List Op)
+            → Takes self.old self.new commits.now time (Intent txn sub ops)) }
     {
         match self.find(commits, txn) {
             None => self.place += 1,
@@ -334,7 +345,8 @@ impl Look {
     /// Takes all records.
     pub fn take_all(&mut self, commits: &Commits, records: &[Record]) -> Result<(), AllocError>
         requires { self.old.place + length records.now < 2 ^ 32 }
-        ensures { OnOk result ((seen : ℕ → ℕ → Seen) → IsLook self.old commits.now seen → IsLook self.new commits.now (λ n c. fold (see n c (undone_of commits.now n)) (seen n c) records.now)) }
+        ensures { OnOk result ((seen : ℕ → ℕ → Seen) → IsLook self.old commits.now seen
+            → IsLook self.new commits.now (λ n c. fold (see n c (undone_of commits.now n)) (seen n c) records.now)) }
     {
         for r in records {
             self.take(commits, r)?;

@@ -55,9 +55,12 @@ fn start_of(runs: &[Run], parent: Option<u32>) -> Start
 
 fn run_of(start: Start, records: &[Record]) -> Run
     ensures reached { result.reached ≡ start.reached }
-    ensures accepted { result.walk.accepted ≡ length (if start.reached then accepted_from start.order records.now else []) }
-    ensures order { result.walk.order ≡ fold after start.order (if start.reached then accepted_from start.order records.now else []) }
-    ensures halt { option_map halt_at result.walk.halt ≡ (if start.reached then halt_from start.order 1 records.now else None) }
+    ensures accepted { result.walk.accepted
+        ≡ length (if start.reached then accepted_from start.order records.now else []) }
+    ensures order { result.walk.order
+        ≡ fold after start.order (if start.reached then accepted_from start.order records.now else []) }
+    ensures halt { option_map halt_at result.walk.halt
+        ≡ (if start.reached then halt_from start.order 1 records.now else None) }
 {
     let walk = if start.reached {
         walk_records(start.order, records)

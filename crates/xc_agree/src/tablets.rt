@@ -1,5 +1,6 @@
 // All tablets of logs within the rules, from the first to the last.
-ghost use Rattle.std.specs.Prelude.{◌≡◌, ◌==◌, ℕ, IfOk, IsTrue, [], false, length, slice_get, option_map, if◌then◌else◌};
+ghost use Rattle.std.specs.Prelude.{◌≡◌, ◌==◌, ℕ, IfOk, IsTrue, [], false, length, slice_get, option_map};
+ghost use Rattle.std.specs.Prelude.{if◌then◌else◌};
 ghost use Rattle.std.specs.Option.{option_map_or};
 ghost use Rattle.xc_record.specs.Accepted.{accepted_tablets_after};
 ghost use Rattle.xc_record.specs.Valid.{is_valid};
@@ -32,7 +33,10 @@ fn last_children(alloc: Global, tablets: &[Tablet]) -> Result<Vec<usize>, AllocE
 // The tablet is the last child of its parent so far.
 fn note_child(lasts: &mut Vec<usize>, parent: Option<u32>, id: usize)
     ensures count { length lasts.new.items ≡ length lasts.old.items }
-    ensures last { (i : ℕ) → slice_get lasts.new.items i ≡ (if option_map_or (λ p. p == i) parent false then option_map (λ _. id) (slice_get lasts.old.items i) else slice_get lasts.old.items i) }
+    ensures last { (i : ℕ)
+        → slice_get lasts.new.items i
+        ≡ (if option_map_or (λ p. p == i) parent false then option_map (λ _. id) (slice_get lasts.old.items i) else
+        slice_get lasts.old.items i) }
 {
     if let Some(parent) = parent {
         if let Some(last) = lasts.get_mut(parent as usize) {
@@ -69,7 +73,8 @@ pub fn first_case(
     requires runs { IsRuns runs.now (accepted_tablets_after [] tablets.now) tablets.now }
     requires valid { IsTrue (is_valid (of_tablets tablets.now)) }
     requires undone { (n : ℕ) → undone_of commits.now n ≡ undone (of_tablets tablets.now) n }
-    ensures { IfOk result (λ first. IsFirst first (cases_of (of_tablets tablets.now) commits.now (accepted_tablets_after [] tablets.now))) }
+    ensures { IfOk result
+        (λ first. IsFirst first (cases_of (of_tablets tablets.now) commits.now (accepted_tablets_after [] tablets.now))) }
 {
     let lasts = last_children(alloc, tablets)?;
     let mut look = Look::new(alloc, commits.len())?;

@@ -1,12 +1,15 @@
 -- Words are read back as the bytes that they are of, and no other word is read.
-use Rattle.std.proofs.Common.{◌≡◌, ℕ, zero, suc, ◌+◌, ◌-◌, ◌*◌, ◌/◌, ◌%◌, ◌<◌, ◌≤◌, Bool, true, false, not, nat_lt, List, [], ◌∷◌, ◌++◌, length, drop, take, set, get_or, ◌==◌, ◌&&◌, if◌then◌else◌, Option, Some, None, refl, sym, ap, ◌∙◌, arith, add-one, zero-add, append-nil, append_assoc}
+use Rattle.std.proofs.Common.{◌≡◌, ℕ, zero, suc, ◌+◌, ◌-◌, ◌*◌, ◌/◌, ◌%◌, ◌<◌, ◌≤◌, Bool, true, false, not, nat_lt, List, [], ◌∷◌, ◌++◌}
+use Rattle.std.proofs.Common.{length, drop, take, set, get_or, ◌==◌, ◌&&◌, if◌then◌else◌, Option, Some, None, refl, sym, ap, ◌∙◌, arith}
+use Rattle.std.proofs.Common.{add-one, zero-add, append-nil, append_assoc}
 use Rattle.std.specs.Option.{option_map}
 use Rattle.std.proofs.Math.Seq.{drop-cons}
 use Rattle.std.proofs.lemmas.List.{take_more_set, length-set, take_all, length-drop, drop_all, length-take-le, length-append}
 use Rattle.std.proofs.lemmas.Bool.{and_parts, eqb-true, eq-eqb, not-true, both_ways}
 use Rattle.std.proofs.lemmas.Bool.Decides.{nat_tests}
 use Rattle.xc_base.specs.Names.{are_bytes, in_alphabet}
-use Rattle.xc_base.specs.Escapes.{digit, is_digit, digit_value, escaped_byte, escaped, escape_value, begins_escape, begins_byte, wrong_place, unescaped_after, unescaped, IsReadBack, EscapedIsRead, ReadIsEscaped}
+use Rattle.xc_base.specs.Escapes.{digit, is_digit, digit_value, escaped_byte, escaped, escape_value, begins_escape, begins_byte}
+use Rattle.xc_base.specs.Escapes.{wrong_place, unescaped_after, unescaped, IsReadBack, EscapedIsRead, ReadIsEscaped}
 
 -- ---- a place further on
 
@@ -25,27 +28,35 @@ further-none (Some place) = ap Some (zero-add place)
 cut : (word : List ℕ) (at : ℕ) → at < length word → drop at word ≡ get_or word at 0 ∷ drop (at + 1) word
 cut word at h = rw add-one (drop-cons word at 0 h)
 
-wrong-next : (b : ℕ) (rest : List ℕ) (n : ℕ) → begins_byte (b ∷ rest) ≡ true → further n (wrong_place (b ∷ rest)) ≡ further (n + 1) (wrong_place rest)
+wrong-next : (b : ℕ) (rest : List ℕ) (n : ℕ) → begins_byte (b ∷ rest) ≡ true
+    → further n (wrong_place (b ∷ rest)) ≡ further (n + 1) (wrong_place rest)
 wrong-next b rest n h = rw h (further-map n (wrong_place rest))
 
-pub wrong-on : (word : List ℕ) (at : ℕ) → at < length word → begins_byte (drop at word) ≡ true → further at (wrong_place (drop at word)) ≡ further (at + 1) (wrong_place (drop (at + 1) word))
+pub wrong-on : (word : List ℕ) (at : ℕ) → at < length word → begins_byte (drop at word) ≡ true
+    → further at (wrong_place (drop at word)) ≡ further (at + 1) (wrong_place (drop (at + 1) word))
 wrong-on word at l h = rw (cut word at l) (wrong-next (get_or word at 0) (drop (at + 1) word) at (rw (cut word at l) at h))
 
-pub wrong-here : (word : List ℕ) (at : ℕ) → at < length word → begins_byte (drop at word) ≡ false → further at (wrong_place (drop at word)) ≡ Some at
-wrong-here word at l h = let no : begins_byte (get_or word at 0 ∷ drop (at + 1) word) ≡ false = rw (cut word at l) at h in rw (cut word at l, no) (ap Some (omega arith))
+pub wrong-here : (word : List ℕ) (at : ℕ) → at < length word → begins_byte (drop at word) ≡ false
+    → further at (wrong_place (drop at word)) ≡ Some at
+wrong-here word at l h =
+    let no : begins_byte (get_or word at 0 ∷ drop (at + 1) word) ≡ false =
+    rw (cut word at l) at h in rw (cut word at l, no) (ap Some (omega arith))
 
 -- ---- the bytes from here on
 
 -- inside an escape
-pub inside : (word : List ℕ) (at digits : ℕ) → at < length word → 0 < digits → unescaped_after digits (drop at word) ≡ unescaped_after (digits - 1) (drop (at + 1) word)
+pub inside : (word : List ℕ) (at digits : ℕ) → at < length word → 0 < digits
+    → unescaped_after digits (drop at word) ≡ unescaped_after (digits - 1) (drop (at + 1) word)
 inside word at zero l h = absurd (omega arith)
 inside word at (suc digits) l h = let one : suc digits - 1 ≡ digits = omega arith in rw (cut word at l, one) refl
 
 -- at a byte's word
-pub at_byte : (word : List ℕ) (at : ℕ) → at < length word → get_or word at 0 == 37 ≡ false → unescaped_after 0 (drop at word) ≡ get_or word at 0 ∷ unescaped_after 0 (drop (at + 1) word)
+pub at_byte : (word : List ℕ) (at : ℕ) → at < length word → get_or word at 0 == 37 ≡ false
+    → unescaped_after 0 (drop at word) ≡ get_or word at 0 ∷ unescaped_after 0 (drop (at + 1) word)
 at_byte word at l h = rw (cut word at l, h) refl
 
-pub at_escape : (word : List ℕ) (at : ℕ) → at < length word → get_or word at 0 == 37 ≡ true → unescaped_after 0 (drop at word) ≡ escape_value (drop at word) ∷ unescaped_after 2 (drop (at + 1) word)
+pub at_escape : (word : List ℕ) (at : ℕ) → at < length word → get_or word at 0 == 37 ≡ true
+    → unescaped_after 0 (drop at word) ≡ escape_value (drop at word) ∷ unescaped_after 2 (drop (at + 1) word)
 at_escape word at l h = rw (cut word at l, h) refl
 
 -- ---- the steps of the loops
@@ -59,31 +70,44 @@ pub record Counts (word : List ℕ) (at digits len : ℕ) : Type 0 where
   pub count : len + length (unescaped_after digits (drop at word)) ≡ length (unescaped word)
   pub few : len ≤ at
 
-pub count_inside : (word : List ℕ) (at digits len : ℕ) → at < length word → begins_byte (drop at word) ≡ true → 0 < digits → Counts word at digits len → Counts word (at + 1) (digits - 1) len
+pub count_inside : (word : List ℕ) (at digits len : ℕ) → at < length word → begins_byte (drop at word) ≡ true → 0 < digits
+    → Counts word at digits len → Counts word (at + 1) (digits - 1) len
 count_inside word at digits len l b d h =
     let few : len ≤ at = h.few in
-    record { right = sym (wrong-on word at l b) ∙ h.right; count = ap (λ xs. len + length xs) (sym (inside word at digits l d)) ∙ h.count; few = omega arith }
+    record {
+      right = sym (wrong-on word at l b) ∙ h.right;
+      count = ap (λ xs. len + length xs) (sym (inside word at digits l d))
+          ∙ h.count;
+      few = omega arith;
+    }
 
-count_more : (word : List ℕ) (at digits len b : ℕ) → at < length word → begins_byte (drop at word) ≡ true → unescaped_after 0 (drop at word) ≡ b ∷ unescaped_after digits (drop (at + 1) word) → Counts word at 0 len → Counts word (at + 1) digits (len + 1)
+count_more : (word : List ℕ) (at digits len b : ℕ) → at < length word → begins_byte (drop at word) ≡ true
+    → unescaped_after 0 (drop at word) ≡ b ∷ unescaped_after digits (drop (at + 1) word) → Counts word at 0 len
+    → Counts word (at + 1) digits (len + 1)
 count_more word at digits len b l right e h =
     let few : len ≤ at = h.few in
-    let here : length (unescaped_after 0 (drop at word)) ≡ 1 + length (unescaped_after digits (drop (at + 1) word)) = ap length e ∙ omega arith in
+    let here : length (unescaped_after 0 (drop at word)) ≡ 1 + length (unescaped_after digits (drop (at + 1) word)) =
+    ap length e ∙ omega arith in
     let count : len + length (unescaped_after 0 (drop at word)) ≡ length (unescaped word) = h.count in
     record { right = sym (wrong-on word at l right) ∙ h.right; count = omega arith; few = omega arith }
 
-pub count_byte : (word : List ℕ) (at len : ℕ) → at < length word → begins_byte (drop at word) ≡ true → get_or word at 0 == 37 ≡ false → Counts word at 0 len → Counts word (at + 1) 0 (len + 1)
+pub count_byte : (word : List ℕ) (at len : ℕ) → at < length word → begins_byte (drop at word) ≡ true → get_or word at 0 == 37 ≡ false
+    → Counts word at 0 len → Counts word (at + 1) 0 (len + 1)
 count_byte word at len l right e h = count_more word at 0 len _ l right (at_byte word at l e) h
 
-pub count_escape : (word : List ℕ) (at len : ℕ) → at < length word → begins_byte (drop at word) ≡ true → get_or word at 0 == 37 ≡ true → Counts word at 0 len → Counts word (at + 1) 2 (len + 1)
+pub count_escape : (word : List ℕ) (at len : ℕ) → at < length word → begins_byte (drop at word) ≡ true → get_or word at 0 == 37 ≡ true
+    → Counts word at 0 len → Counts word (at + 1) 2 (len + 1)
 count_escape word at len l right e h = count_more word at 2 len _ l right (at_escape word at l e) h
 
 pub count_none : (word : List ℕ) → Counts word 0 0 0
 count_none word = record { right = further-none (wrong_place word); count = zero-add _; few = omega arith }
 
-pub count_wrong : (word : List ℕ) (at digits len : ℕ) → at < length word → begins_byte (drop at word) ≡ false → Counts word at digits len → wrong_place word ≡ Some at
+pub count_wrong : (word : List ℕ) (at digits len : ℕ) → at < length word → begins_byte (drop at word) ≡ false → Counts word at digits len
+    → wrong_place word ≡ Some at
 count_wrong word at digits len l b h = sym h.right ∙ wrong-here word at l b
 
-pub count_all : (word : List ℕ) (at digits len : ℕ) → length word ≤ at → Counts word at digits len → (wrong_place word ≡ None) × (len ≡ length (unescaped word))
+pub count_all : (word : List ℕ) (at digits len : ℕ) → length word ≤ at → Counts word at digits len
+    → (wrong_place word ≡ None) × (len ≡ length (unescaped word))
 count_all word at digits len l h =
     let none : drop at word ≡ [] = drop_all at word l in
     let count : len + length (unescaped_after digits (drop at word)) ≡ length (unescaped word) = h.count in
@@ -102,19 +126,22 @@ pub record Fills (word out : List ℕ) (at digits len : ℕ) : Type 0 where
 right-parts : (b : ℕ) (rest : List ℕ) → wrong_place (b ∷ rest) ≡ None → (begins_byte (b ∷ rest) ≡ true) × (wrong_place rest ≡ None)
 right-parts b rest h = go (begins_byte (b ∷ rest)) (wrong_place rest) refl refl h
   where
-    go : (t : Bool) (o : Option ℕ) → begins_byte (b ∷ rest) ≡ t → wrong_place rest ≡ o → (if t then option_map (λ place. place + 1) o else Some 0) ≡ None → (begins_byte (b ∷ rest) ≡ true) × (wrong_place rest ≡ None)
+    go : (t : Bool) (o : Option ℕ) → begins_byte (b ∷ rest) ≡ t → wrong_place rest ≡ o
+        → (if t then option_map (λ place. place + 1) o else Some 0) ≡ None → (begins_byte (b ∷ rest) ≡ true) × (wrong_place rest ≡ None)
     go true None e f h = (e, f)
     go true (Some p) e f h = cc
     go false o e f h = cc
 
-pub right-on : (word : List ℕ) (at : ℕ) → at < length word → wrong_place (drop at word) ≡ None → (begins_byte (drop at word) ≡ true) × (wrong_place (drop (at + 1) word) ≡ None)
+pub right-on : (word : List ℕ) (at : ℕ) → at < length word → wrong_place (drop at word) ≡ None
+    → (begins_byte (drop at word) ≡ true) × (wrong_place (drop (at + 1) word) ≡ None)
 right-on word at l h = rw (cut word at l) (right-parts (get_or word at 0) (drop (at + 1) word) (rw (cut word at l) at h))
 
 -- an escape begins exactly where the byte is the one that begins escapes
 letter : (b : ℕ) (rest : List ℕ) → begins_byte (b ∷ rest) ≡ true → begins_escape (b ∷ rest) ≡ (b == 37)
 letter b rest h = grind (arith, nat_tests)
 
-pub escape_here : (word : List ℕ) (at : ℕ) → at < length word → wrong_place (drop at word) ≡ None → begins_escape (drop at word) ≡ (get_or word at 0 == 37)
+pub escape_here : (word : List ℕ) (at : ℕ) → at < length word → wrong_place (drop at word) ≡ None
+    → begins_escape (drop at word) ≡ (get_or word at 0 == 37)
 escape_here word at l h =
     let right = (right-on word at l h).0 in
     rw (cut word at l) (letter (get_or word at 0) (drop (at + 1) word) (rw (cut word at l) at right))
@@ -122,13 +149,21 @@ escape_here word at l h =
 pub fills_none : (word out : List ℕ) → wrong_place word ≡ None → length (unescaped word) ≤ length out → Fills word out 0 0 0
 fills_none word out h room = record { right = h; front = refl; room = room; fits = omega arith }
 
-pub fill_inside : (word out : List ℕ) (at digits len : ℕ) → at < length word → 0 < digits → Fills word out at digits len → Fills word out (at + 1) (digits - 1) len
+pub fill_inside : (word out : List ℕ) (at digits len : ℕ) → at < length word → 0 < digits → Fills word out at digits len
+    → Fills word out (at + 1) (digits - 1) len
 fill_inside word out at digits len l d h =
-    record { right = (right-on word at l h.right).1; front = ap (λ xs. take len out ++ xs) (sym (inside word at digits l d)) ∙ h.front; room = h.room; fits = h.fits }
+    record {
+      right = (right-on word at l h.right).1;
+      front = ap (λ xs. take len out ++ xs) (sym (inside word at digits l d))
+          ∙ h.front;
+      room = h.room;
+      fits = h.fits;
+    }
 
 some_byte : (b : ℕ) (rest : List ℕ) → 0 < length (unescaped_after 0 (b ∷ rest))
 some_byte b rest =
-    elim (b == 37) as (λ t. 0 < length (if t then (escape_value (b ∷ rest) ∷ unescaped_after 2 rest) else (b ∷ unescaped_after 0 rest))) [ true ↦ omega arith | false ↦ omega arith ]
+    elim (b == 37) as (λ t. 0 < length (if t then (escape_value (b ∷ rest) ∷ unescaped_after 2 rest) else (b ∷ unescaped_after 0 rest)))
+    [ true ↦ omega arith | false ↦ omega arith ]
 
 pub room_left : (word out : List ℕ) (at len : ℕ) → at < length word → Fills word out at 0 len → len < length out
 room_left word out at len l h =
@@ -140,27 +175,35 @@ room_left word out at len l h =
     let front = length-take-le len out fits in
     omega arith
 
-fill_more : (word out : List ℕ) (at digits len b : ℕ) → at < length word → len < length out → unescaped_after 0 (drop at word) ≡ b ∷ unescaped_after digits (drop (at + 1) word) → Fills word out at 0 len → Fills word (set out len b) (at + 1) digits (len + 1)
+fill_more : (word out : List ℕ) (at digits len b : ℕ) → at < length word → len < length out
+    → unescaped_after 0 (drop at word) ≡ b ∷ unescaped_after digits (drop (at + 1) word) → Fills word out at 0 len
+    → Fills word (set out len b) (at + 1) digits (len + 1)
 fill_more word out at digits len b l room e h =
     let width : length (set out len b) ≡ length out = length-set out len b in
     record {
       right = (right-on word at l h.right).1;
-      front = ap (λ xs. xs ++ unescaped_after digits (drop (at + 1) word)) (take_more_set out len b room) ∙ append_assoc (take len out) (b ∷ []) _ ∙ ap (λ xs. take len out ++ xs) (sym e) ∙ h.front;
+      front = ap (λ xs. xs ++ unescaped_after digits (drop (at + 1) word)) (take_more_set out len b room)
+          ∙ append_assoc (take len out) (b ∷ []) _ ∙ ap (λ xs. take len out ++ xs) (sym e) ∙ h.front;
       room = rw width h.room;
       fits = omega arith;
     }
 
-pub fill_byte : (word out : List ℕ) (at len : ℕ) → at < length word → len < length out → begins_escape (drop at word) ≡ false → Fills word out at 0 len → Fills word (set out len (get_or word at 0)) (at + 1) 0 (len + 1)
+pub fill_byte : (word out : List ℕ) (at len : ℕ) → at < length word → len < length out → begins_escape (drop at word) ≡ false
+    → Fills word out at 0 len → Fills word (set out len (get_or word at 0)) (at + 1) 0 (len + 1)
 fill_byte word out at len l room e h = fill_more word out at 0 len _ l room (at_byte word at l (sym (escape_here word at l h.right) ∙ e)) h
 
-pub fill_escape : (word out : List ℕ) (at len : ℕ) → at < length word → len < length out → begins_escape (drop at word) ≡ true → Fills word out at 0 len → Fills word (set out len (escape_value (drop at word))) (at + 1) 2 (len + 1)
-fill_escape word out at len l room e h = fill_more word out at 2 len _ l room (at_escape word at l (sym (escape_here word at l h.right) ∙ e)) h
+pub fill_escape : (word out : List ℕ) (at len : ℕ) → at < length word → len < length out → begins_escape (drop at word) ≡ true
+    → Fills word out at 0 len → Fills word (set out len (escape_value (drop at word))) (at + 1) 2 (len + 1)
+fill_escape word out at len l room e h =
+    fill_more word out at 2 len _ l room (at_escape word at l (sym (escape_here word at l h.right) ∙ e)) h
 
-pub fill_all : (word out : List ℕ) (at digits len : ℕ) → length word ≤ at → Fills word out at digits len → take (length (unescaped word)) out ≡ unescaped word
+pub fill_all : (word out : List ℕ) (at digits len : ℕ) → length word ≤ at → Fills word out at digits len
+    → take (length (unescaped word)) out ≡ unescaped word
 fill_all word out at digits len l h =
     let none : drop at word ≡ [] = drop_all at word l in
     let fits : len ≤ length out = h.fits in
-    let front : take len out ≡ unescaped word = sym (append-nil (take len out)) ∙ ap (λ xs. take len out ++ xs) (sym (rw none refl)) ∙ h.front in
+    let front : take len out ≡ unescaped word =
+    sym (append-nil (take len out)) ∙ ap (λ xs. take len out ++ xs) (sym (rw none refl)) ∙ h.front in
     let count : length (unescaped word) ≡ len = ap length (sym front) ∙ length-take-le len out fits in
     rw count front
 
@@ -198,7 +241,8 @@ record Front (b : ℕ) (rest : List ℕ) : Type 0 where
   bytes : unescaped (escaped_byte b ++ rest) ≡ b ∷ unescaped rest
 
 front-plain : (b : ℕ) (rest : List ℕ) → in_alphabet b ≡ true → Front b rest
-front-plain b rest h = record { right = rw (h, plain-begins b rest h) (plus-one (wrong_place rest)); bytes = rw (h, plain-no_escape b h) refl }
+front-plain b rest h =
+    record { right = rw (h, plain-begins b rest h) (plus-one (wrong_place rest)); bytes = rw (h, plain-no_escape b h) refl }
   where
     plus-one : (o : Option ℕ) → option_map (λ place. place + 1) o ≡ further 1 o
     plus-one None = refl
@@ -211,11 +255,13 @@ front-escape b rest l h =
     let low = digit-back (b % 16) (omega arith) in
     let first : begins_byte (37 ∷ digit (b / 16) ∷ digit (b % 16) ∷ rest) ≡ true = rw e.begins refl in
     record {
-      right = rw (h, first, digit-plain (digit (b / 16)) (digit (b % 16) ∷ rest) high.0, digit-plain (digit (b % 16)) rest low.0) (plus-three (wrong_place rest));
+      right = rw (h, first, digit-plain (digit (b / 16)) (digit (b % 16) ∷ rest) high.0, digit-plain (digit (b % 16)) rest low.0)
+          (plus-three (wrong_place rest));
       bytes = rw h (ap (λ v. v ∷ unescaped rest) e.value);
     }
   where
-    plus-three : (o : Option ℕ) → option_map (λ place. place + 1) (option_map (λ place. place + 1) (option_map (λ place. place + 1) o)) ≡ further 3 o
+    plus-three : (o : Option ℕ)
+        → option_map (λ place. place + 1) (option_map (λ place. place + 1) (option_map (λ place. place + 1) o)) ≡ further 3 o
     plus-three None = refl
     plus-three (Some p) = ap Some (omega arith)
 
@@ -280,7 +326,8 @@ read-up n [] l h = refl
 read-up zero (b ∷ word) l h = absurd (omega arith)
 read-up (suc n) (b ∷ word) l h = go (λ rest. read-up n rest) (in_alphabet b) refl (right-parts b word h)
   where
-    esc : ReadUpTo n → (word : List ℕ) → length word ≤ n → wrong_place word ≡ None → begins_escape (b ∷ word) ≡ true → escaped (unescaped (b ∷ word)) ≡ b ∷ word
+    esc : ReadUpTo n → (word : List ℕ) → length word ≤ n → wrong_place word ≡ None → begins_escape (b ∷ word) ≡ true
+        → escaped (unescaped (b ∷ word)) ≡ b ∷ word
     esc later [] l h e = absurd (both_ways _ (no_escape-none b) e)
     esc later (d ∷ []) l h e = absurd (both_ways _ (no_escape-one b d) e)
     esc later (d ∷ f ∷ rest) l h e =
@@ -289,7 +336,8 @@ read-up (suc n) (b ∷ word) l h = go (λ rest. read-up n rest) (in_alphabet b) 
         let right : wrong_place rest ≡ None = (right-parts f rest (right-parts d (f ∷ rest) h).1).1 in
         rw (first, escape-word b d f rest is, later rest (omega arith) right) refl
 
-    go : ReadUpTo n → (t : Bool) → in_alphabet b ≡ t → (begins_byte (b ∷ word) ≡ true) × (wrong_place word ≡ None) → escaped (unescaped (b ∷ word)) ≡ b ∷ word
+    go : ReadUpTo n → (t : Bool) → in_alphabet b ≡ t → (begins_byte (b ∷ word) ≡ true) × (wrong_place word ≡ None)
+        → escaped (unescaped (b ∷ word)) ≡ b ∷ word
     go later true is p = rw (plain-no_escape b is, is, later word (omega arith) p.1) refl
     go later false is p = esc later word (omega arith) p.1 (begins b word is p.0)
 

@@ -1,5 +1,6 @@
 -- Bytes without a fault are a name, and a buffer that takes them holds a key or a value.
-use Rattle.std.proofs.Common.{◌≡◌, suc, get_or, ◌<◌, ℕ, ◌≤◌, Bool, true, false, not, List, [], ◌∷◌, ◌++◌, drop, replicate, length, cond, nat_lt, ◌&&◌, if◌then◌else◌, Option, Some, None, refl, ◌∙◌, arith, length-append, length-drop}
+use Rattle.std.proofs.Common.{◌≡◌, suc, get_or, ◌<◌, ℕ, ◌≤◌, Bool, true, false, not, List, [], ◌∷◌, ◌++◌, drop, replicate, length, cond}
+use Rattle.std.proofs.Common.{nat_lt, ◌&&◌, if◌then◌else◌, Option, Some, None, refl, ◌∙◌, arith, length-append, length-drop}
 use Rattle.std.proofs.lemmas.List.{take_at, drop-replicate, length-replicate}
 use Rattle.std.proofs.Math.Seq.{drop-append_seam}
 use Rattle.std.proofs.lemmas.Bool.Decides.{nat_tests}
@@ -9,7 +10,8 @@ use Rattle.std.specs.Option.{option_map}
 use Rattle.xc_base.proofs.WordLaws.{and_parts}
 use Rattle.xc_base.specs.declared.name.BadName.TheVariants as bad_name
 use Rattle.xc_base.specs.Padded.{IsPadded}
-use Rattle.xc_base.specs.Names.{within, are_bytes, IsKeyIn, IsValueIn, in_alphabet, is_plain, is_key, is_value, name_fault, key_fault, value_fault}
+use Rattle.xc_base.specs.Names.{within, are_bytes, IsKeyIn, IsValueIn, in_alphabet, is_plain, is_key, is_value, name_fault, key_fault}
+use Rattle.xc_base.specs.Names.{value_fault}
 
 abbrev pub zeros : ℕ → List ℕ
 zeros n = replicate n 0
@@ -17,7 +19,8 @@ zeros n = replicate n 0
 pub padded-by : (n : ℕ) (xs : List ℕ) → length xs ≤ n → IsPadded n (length xs) (xs ++ drop (length xs) (zeros n))
 padded-by n xs l = record {
   fits = l;
-  width = let e = length-append xs (drop (length xs) (zeros n)) in let d = length-drop (length xs) (zeros n) in let r : length (zeros n) ≡ n = length-replicate n 0 in omega arith;
+  width = let e = length-append xs (drop (length xs) (zeros n)) in let d = length-drop (length xs) (zeros n) in let r : length (zeros n) ≡ n
+      = length-replicate n 0 in omega arith;
   zeros = drop-append_seam xs (drop (length xs) (zeros n)) ∙ drop-replicate (length xs) n 0;
 }
 
@@ -31,7 +34,8 @@ past_end place n h = grind (arith, nat_tests)
 none_outside : (xs : List ℕ) → position (λ x. not (in_alphabet x)) xs ≡ None → list_all in_alphabet xs ≡ true
 none_outside xs h = all_in in_alphabet xs (past_end (position_or_len (λ x. not (in_alphabet x)) xs) (length xs) h)
 
-no_fault : (b : Bool) (place : Option ℕ) (n : ℕ) → (if b then option_map (λ i. bad_name.Byte i) place else Some (bad_name.Length n)) ≡ None → (b ≡ true) × (place ≡ None)
+no_fault : (b : Bool) (place : Option ℕ) (n : ℕ) → (if b then option_map (λ i. bad_name.Byte i) place else Some (bad_name.Length n)) ≡ None
+    → (b ≡ true) × (place ≡ None)
 no_fault true None n h = (refl, refl)
 no_fault true (Some i) n h = cc
 no_fault false place n h = cc
@@ -90,13 +94,15 @@ inside_all (x ∷ xs) h = grind (arith, inside_all xs)
 no_position : (place n : ℕ) → place ≡ n → cond (nat_lt place n) (Some place) None ≡ None
 no_position place n h = grind (arith, nat_tests)
 
-name-has_no_fault : (least most : ℕ) (bytes : List ℕ) → least ≤ length bytes → length bytes ≤ most → list_all in_alphabet bytes ≡ true → name_fault least most bytes ≡ None
+name-has_no_fault : (least most : ℕ) (bytes : List ℕ) → least ≤ length bytes → length bytes ≤ most → list_all in_alphabet bytes ≡ true
+    → name_fault least most bytes ≡ None
 name-has_no_fault least most bytes low high inside =
     let fits : within least most (length bytes) ≡ true = grind (arith, nat_tests) in
     let none : position (λ x. not (in_alphabet x)) bytes ≡ None = no_position _ (length bytes) (inside_all bytes inside) in
     rw (fits, none) refl
 
-name_parts : (least most : ℕ) (bytes : List ℕ) → within least most (length bytes) && are_bytes bytes ≡ true → is_plain bytes ≡ true → name_fault least most bytes ≡ None
+name_parts : (least most : ℕ) (bytes : List ℕ) → within least most (length bytes) && are_bytes bytes ≡ true → is_plain bytes ≡ true
+    → name_fault least most bytes ≡ None
 name_parts least most bytes h plain =
     let parts = and_parts (within least most (length bytes)) (are_bytes bytes) h in
     let limits = length_in least most (length bytes) parts.0 in

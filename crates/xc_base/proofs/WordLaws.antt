@@ -1,5 +1,6 @@
 -- Laws of words and of the numbers that they spell.
-use Rattle.std.proofs.Common.{◌≡◌, ◌≢◌, ℕ, ◌+◌, ◌-◌, ◌*◌, ◌^◌, ◌<◌, ◌≤◌, Bool, true, false, List, [], ◌∷◌, length, drop, get_or, ◌==◌, nat_lt, zero, suc, Some, None, decimal, refl, sym, ap, ◌∙◌, arith, ◌&&◌, add-one}
+use Rattle.std.proofs.Common.{◌≡◌, ◌≢◌, ℕ, ◌+◌, ◌-◌, ◌*◌, ◌^◌, ◌<◌, ◌≤◌, Bool, true, false, List, [], ◌∷◌, length, drop, get_or, ◌==◌}
+use Rattle.std.proofs.Common.{nat_lt, zero, suc, Some, None, decimal, refl, sym, ap, ◌∙◌, arith, ◌&&◌, add-one}
 use Rattle.std.specs.Char.{is_ascii_digit, digit_value}
 use Rattle.std.specs.Str.{all_ascii_digits}
 use Rattle.std.specs.Str.Parse.{digits_value, digits_value_after}
@@ -7,7 +8,8 @@ use Rattle.std.specs.List.{All, join_with_byte}
 use Rattle.std.proofs.lemmas.Bool.Decides.{nat_tests}
 pub use Rattle.std.proofs.lemmas.Bool.{and_parts}
 use Rattle.std.proofs.lemmas.Bool.{eq-eqb, ne_eqb}
-use Rattle.std.proofs.lemmas.Fmt.{decimal_digit, digits_decimal, digits_value-decimal, decimal_nonempty, first_decimal, decimal-digits_value}
+use Rattle.std.proofs.lemmas.Fmt.{decimal_digit, digits_decimal, digits_value-decimal, decimal_nonempty, first_decimal}
+use Rattle.std.proofs.lemmas.Fmt.{decimal-digits_value}
 use Rattle.std.proofs.lemmas.Str.Parse.{IsNumeralModel, numerals_by_value, tells_all_ascii_digits}
 use Rattle.std.proofs.lemmas.List.Splits.{slice_split_none, slice_split_at, join_with_byte-slice_split}
 use Rattle.std.proofs.lemmas.List.Elements.{All-tail}
@@ -30,8 +32,10 @@ pub record TakesDigit (n : ℕ) (ds : List ℕ) (i : ℕ) : Type 0 where
   pub value : digits_value_after 10 n (drop i ds) ≡ digits_value_after 10 (10 * n + (get_or ds i 0 - 48)) (drop (i + 1) ds)
   pub rest : all_ascii_digits (drop (i + 1) ds) ≡ true
 
-takes_first : (n c : ℕ) (cs : List ℕ) → is_ascii_digit c ≡ true → digits_value_after 10 n (c ∷ cs) ≡ digits_value_after 10 (10 * n + (c - 48)) cs
-takes_first n c cs h = let e : n * 10 + digit_value c ≡ 10 * n + (c - 48) = omega (arith, digit_value_is c h) in ap (λ m. digits_value_after 10 m cs) e
+takes_first : (n c : ℕ) (cs : List ℕ) → is_ascii_digit c ≡ true
+    → digits_value_after 10 n (c ∷ cs) ≡ digits_value_after 10 (10 * n + (c - 48)) cs
+takes_first n c cs h =
+    let e : n * 10 + digit_value c ≡ 10 * n + (c - 48) = omega (arith, digit_value_is c h) in ap (λ m. digits_value_after 10 m cs) e
 
 pub takes_digit : (n : ℕ) (ds : List ℕ) (i : ℕ) → i < length ds → all_ascii_digits (drop i ds) ≡ true → TakesDigit n ds i
 takes_digit n ds i h a =
@@ -120,11 +124,15 @@ decimal-number_of word n h e =
 none_in : (separator : ℕ) (piece : List ℕ) → All (λ byte. byte ≢ separator) piece → All (λ byte. byte == separator ≡ false) piece
 none_in separator piece h = λ k d l. ne_eqb _ separator (h k d l)
 
-pub split_on-join : (separator : ℕ) (piece : List ℕ) (pieces : List (List ℕ)) → All (λ p. All (λ byte. byte ≢ separator) p) (piece ∷ pieces) → split_on separator (join_with_byte separator (piece ∷ pieces)) ≡ piece ∷ pieces
+pub split_on-join : (separator : ℕ) (piece : List ℕ) (pieces : List (List ℕ))
+    → All (λ p. All (λ byte. byte ≢ separator) p) (piece ∷ pieces)
+    → split_on separator (join_with_byte separator (piece ∷ pieces)) ≡ piece ∷ pieces
 split_on-join separator piece [] h = slice_split_none _ piece (none_in separator piece (h 0 piece (omega arith)))
 split_on-join separator piece (next ∷ pieces) h =
-    slice_split_at _ piece separator (join_with_byte separator (next ∷ pieces)) (none_in separator piece (h 0 piece (omega arith))) (eq-eqb separator separator refl)
-    ∙ ap (λ rest. piece ∷ rest) (split_on-join separator next pieces (All-tail (λ p. All (λ byte. byte ≢ separator) p) piece (next ∷ pieces) h))
+    slice_split_at _ piece separator (join_with_byte separator (next ∷ pieces)) (none_in separator piece (h 0 piece (omega arith)))
+    (eq-eqb separator separator refl)
+    ∙ ap (λ rest. piece ∷ rest)
+    (split_on-join separator next pieces (All-tail (λ p. All (λ byte. byte ≢ separator) p) piece (next ∷ pieces) h))
 
 pub join-split_on : (separator : ℕ) (text : List ℕ) → join_with_byte separator (split_on separator text) ≡ text
 join-split_on separator text = join_with_byte-slice_split separator text

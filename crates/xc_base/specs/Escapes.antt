@@ -4,7 +4,8 @@
 --     wrong_place word      the first place where neither begins; None where there is no such place
 --     unescaped word      the bytes that a word without such a place stands for
 --     word_fault least most word      what is wrong with a word that is none of bytes within these limits
-use Rattle.std.specs.Prelude.{◌≡◌, ℕ, zero, suc, ◌+◌, ◌-◌, ◌*◌, ◌/◌, ◌%◌, Bool, true, List, [], ◌∷◌, ◌&&◌, ◌||◌, ◌==◌, nat_lt, not, slice_index, flat_map, if◌then◌else◌, Option, Some, None}
+use Rattle.std.specs.Prelude.{◌≡◌, ℕ, zero, suc, ◌+◌, ◌-◌, ◌*◌, ◌/◌, ◌%◌, Bool, true, List, [], ◌∷◌, ◌&&◌, ◌||◌, ◌==◌, nat_lt, not}
+use Rattle.std.specs.Prelude.{slice_index, flat_map, if◌then◌else◌, Option, Some, None}
 use Rattle.std.specs.Option.{option_map, option_map_or}
 use Rattle.xc_base.specs.Names.{within, are_bytes, in_alphabet, length_fault}
 use Rattle.xc_base.specs.declared.name.BadName.{BadName}
@@ -37,7 +38,8 @@ escape_value word = 16 * digit_value (slice_index word 1) + digit_value (slice_i
 
 -- only a byte outside the alphabet is escaped
 abbrev pub begins_escape : List ℕ → Bool
-begins_escape word = slice_index word 0 == 37 && (is_digit (slice_index word 1) && (is_digit (slice_index word 2) && not (in_alphabet (escape_value word))))
+begins_escape word =
+    slice_index word 0 == 37 && (is_digit (slice_index word 1) && (is_digit (slice_index word 2) && not (in_alphabet (escape_value word))))
 
 abbrev pub begins_byte : List ℕ → Bool
 begins_byte word = in_alphabet (slice_index word 0) || begins_escape word
@@ -58,7 +60,8 @@ unescaped word = unescaped_after 0 word
 
 -- the first wrong place, and else the number of bytes, where it is out of the limits
 abbrev pub word_fault : ℕ → ℕ → List ℕ → Option BadName
-word_fault least most word = option_map_or (λ place. Some (bad_name.Byte place)) (wrong_place word) (length_fault least most (unescaped word))
+word_fault least most word =
+    option_map_or (λ place. Some (bad_name.Byte place)) (wrong_place word) (length_fault least most (unescaped word))
 
 -- ---- the laws
 

@@ -5,7 +5,8 @@
 --     length_fault least most bytes      what is wrong with the number of bytes, where it is out of these limits
 --     key_fault bytes, value_fault bytes      what is wrong with bytes that are no plain key, no plain value; None where they are one
 --     IsKeyIn, IsValueIn      a buffer holds a key, a value, with zeros behind it
-use Rattle.std.specs.Prelude.{◌≡◌, ℕ, Bool, true, List, ◌&&◌, ◌||◌, ◌==◌, nat_lt, nat_le, not, length, take, position, if◌then◌else◌, Option, Some, None}
+use Rattle.std.specs.Prelude.{◌≡◌, ℕ, Bool, true, List, ◌&&◌, ◌||◌, ◌==◌, nat_lt, nat_le, not, length, take, position, if◌then◌else◌}
+use Rattle.std.specs.Prelude.{Option, Some, None}
 use Rattle.std.specs.Option.{option_map}
 use Rattle.std.specs.List.{list_all}
 use Rattle.xc_base.specs.Padded.{IsPadded}

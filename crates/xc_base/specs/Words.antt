@@ -2,7 +2,8 @@
 --     split_on separator text      the pieces between the separators: at least one, and an empty one where two separators touch
 --     number_of word      the number that a word spells, in decimal with no leading zero; None where it is spelled otherwise
 --     number_within most word      what `read_number` answers
-use Rattle.std.specs.Prelude.{ℕ, Bool, List, length, ◌&&◌, ◌||◌, ◌==◌, nat_lt, nat_le, not, slice_index, if◌then◌else◌, Option, Some, None, Result, Ok, Err}
+use Rattle.std.specs.Prelude.{ℕ, Bool, List, length, ◌&&◌, ◌||◌, ◌==◌, nat_lt, nat_le, not, slice_index, if◌then◌else◌, Option, Some, None}
+use Rattle.std.specs.Prelude.{Result, Ok, Err}
 use Rattle.std.specs.List.{slice_split}
 use Rattle.std.specs.Str.{all_ascii_digits}
 use Rattle.std.specs.Str.Parse.{digits_value}

@@ -4,7 +4,8 @@ ghost use Rattle.std.specs.Cmp.{partial_equiv_from_equiv};
 ghost use Rattle.std.specs.Cmp.Lexicographic.{slice_cmp, nat_list_eq_equiv, nat_list_cmp_total, texts_ties, texts_po};
 ghost use Rattle.std.specs.Ordering.{nat_cmp};
 ghost use Rattle.std.specs.Result.{result_err};
-ghost use Rattle.xc_base.specs.Names.{within, are_bytes, is_plain, is_key, is_value, in_alphabet, name_fault, key_fault, value_fault, length_fault};
+ghost use Rattle.xc_base.specs.Names.{within, are_bytes, is_plain, is_key, is_value, in_alphabet, name_fault};
+ghost use Rattle.xc_base.specs.Names.{key_fault, value_fault, length_fault};
 ghost use Rattle.xc_base.specs.Escapes.{wrong_place, escaped, unescaped, word_fault};
 ghost use Rattle.std.specs.List.{position_or_len, list_all};
 
@@ -48,8 +49,8 @@ impl Model for Key {
 pub enum BadName {
     /// The number of bytes, where it is out of the limits. Of bytes it is looked at first, of a word last.
     Length(usize),
-    /// The place of the first byte outside the alphabet, counted from 0; of a word, the first place where neither a byte of
-    /// the alphabet nor the escape of another byte begins.
+    /// The place of the first byte outside the alphabet, counted from 0; of a word, the first place where neither a
+    /// byte of the alphabet nor the escape of another byte begins.
     Byte(usize),
 }
 
@@ -133,8 +134,8 @@ fn check_name(bytes: &[u8], least: usize, most: usize) -> Result<(), BadName>
 }
 
 impl Key {
-    /// The key of these plain bytes. `Length` comes exactly where there are none or more than 32, and else `Byte` exactly
-    /// where a byte is outside the alphabet.
+    /// The key of these plain bytes. `Length` comes exactly where there are none or more than 32, and else `Byte`
+    /// exactly where a byte is outside the alphabet.
     pub fn new(bytes: &[u8]) -> Result<Key, BadName>
         ensures key { IfOk result (λ key. key ≡ bytes.now) }
         ensures fault { result_err result ≡ key_fault bytes.now }
@@ -248,8 +249,8 @@ impl Model for Value {
 }
 
 impl Value {
-    /// The value of these plain bytes. `Length` comes exactly where there are more than 64, and else `Byte` exactly where a
-    /// byte is outside the alphabet.
+    /// The value of these plain bytes. `Length` comes exactly where there are more than 64, and else `Byte` exactly
+    /// where a byte is outside the alphabet.
     pub fn new(bytes: &[u8]) -> Result<Value, BadName>
         ensures value { IfOk result (λ value. value ≡ bytes.now) }
         ensures fault { result_err result ≡ value_fault bytes.now }

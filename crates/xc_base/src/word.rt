@@ -1,8 +1,11 @@
 // Words for keys and values of any bytes.
-ghost use Rattle.std.specs.Prelude.{◌≡◌, ◌≤◌, ◌<◌, ◌+◌, ◌*◌, ◌++◌, ◌∷◌, true, length, take, drop, Some, None, option_map, if◌then◌else◌, IfOk, MatchResult, OnOk, OnErr, vec_len, vec_capacity};
+ghost use Rattle.std.specs.Prelude.{◌≡◌, ◌≤◌, ◌<◌, ◌+◌, ◌*◌, ◌++◌, ◌∷◌, true, length, take, drop, Some, None};
+ghost use Rattle.std.specs.Prelude.{option_map, if◌then◌else◌, IfOk, MatchResult, OnOk, OnErr, vec_len, vec_capacity};
 ghost use Rattle.std.specs.Result.{result_err};
 ghost use Rattle.xc_base.specs.Names.{are_bytes, is_key, is_value};
-ghost use Rattle.xc_base.specs.Escapes.{digit, is_digit, digit_value, escaped_byte, escaped, escape_value, begins_escape, begins_byte, wrong_place, unescaped, word_fault, EscapedIsRead, ReadIsEscaped};
+ghost use Rattle.xc_base.specs.Escapes.{digit, is_digit, digit_value, escaped_byte, escaped, escape_value};
+ghost use Rattle.xc_base.specs.Escapes.{begins_escape, begins_byte, wrong_place, unescaped, word_fault, EscapedIsRead};
+ghost use Rattle.xc_base.specs.Escapes.{ReadIsEscaped};
 ghost use Rattle.xc_base.specs.declared.name.BadName.TheVariants.{Byte};
 
 use crate::bytes::Bytes;
@@ -58,7 +61,8 @@ fn begins_byte(word: &[u8]) -> bool
 
 // How many bytes the word stands for, or its first wrong place.
 fn count(word: &[u8]) -> Result<usize, BadName>
-    ensures { MatchResult result (λ n. (wrong_place word.now ≡ None) × (n ≡ length (unescaped word.now))) (λ e. option_map Byte (wrong_place word.now) ≡ Some e) }
+    ensures { MatchResult result (λ n. (wrong_place word.now ≡ None)
+        × (n ≡ length (unescaped word.now))) (λ e. option_map Byte (wrong_place word.now) ≡ Some e) }
 {
     let mut digits = 0u8;
     let mut len = 0;

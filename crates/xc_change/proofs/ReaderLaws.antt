@@ -1,6 +1,8 @@
 -- What a reader makes of records that a feed gave.
-use Rattle.std.proofs.Common.{◌≡◌, ℕ, zero, suc, ◌+◌, ◌-◌, ◌<◌, ◌≤◌, ◌^◌, Bool, true, false, ◌||◌, List, [], ◌∷◌, ◌++◌, length, take, drop, min, refl, sym, ap, ◌∙◌, subst, arith, ◌⊎◌, inl, inr}
-use Rattle.std.specs.Prelude.{fold, Option, Some, None, IfSome, if◌then◌else◌, get_or, ◌==◌, ◌&&◌, nat_le, nat_lt, slice_get, slice_index, is_some}
+use Rattle.std.proofs.Common.{◌≡◌, ℕ, zero, suc, ◌+◌, ◌-◌, ◌<◌, ◌≤◌, ◌^◌, Bool, true, false, ◌||◌, List, [], ◌∷◌, ◌++◌, length, take, drop}
+use Rattle.std.proofs.Common.{min, refl, sym, ap, ◌∙◌, subst, arith, ◌⊎◌, inl, inr}
+use Rattle.std.specs.Prelude.{fold, Option, Some, None, IfSome, if◌then◌else◌, get_or, ◌==◌, ◌&&◌, nat_le, nat_lt, slice_get, slice_index}
+use Rattle.std.specs.Prelude.{is_some}
 use Rattle.std.specs.Option.{option_map_or}
 use Rattle.std.specs.Bool.{beq}
 use Rattle.std.specs.Cmp.{booleans_Decides}
@@ -37,7 +39,8 @@ drop-min n xs = elim (cases_lt (length xs) n) [
 ]
 
 -- no more are found than there are
-pub new-few : (r : ReaderState) (rs : List Record) → length (new_ones r rs) + (r.checked - r.cursor) ≤ length rs ⊎ (length (new_ones r rs) ≡ 0)
+pub new-few : (r : ReaderState) (rs : List Record)
+    → length (new_ones r rs) + (r.checked - r.cursor) ≤ length rs ⊎ (length (new_ones r rs) ≡ 0)
 new-few r rs =
     let few = accepted-length r.order (unchecked r rs) in
     let rest = length-drop (r.checked - r.cursor) rs in
@@ -46,27 +49,34 @@ new-few r rs =
 pub new-within : (r : ReaderState) (rs : List Record) → length (new_ones r rs) ≤ length rs
 new-within r rs = elim (new-few r rs) [ inl l ↦ omega arith | inr e ↦ omega arith ]
 
-pub taken-stopped : (r : ReaderState) (rs : List Record) (next : Next) → good r rs ≡ 0 → IsStopped (r.cursor + 1) (halt_from r.order 1 (unchecked r rs)) next → IsTaken r rs next
+pub taken-stopped : (r : ReaderState) (rs : List Record) (next : Next) → good r rs ≡ 0
+    → IsStopped (r.cursor + 1) (halt_from r.order 1 (unchecked r rs)) next → IsTaken r rs next
 taken-stopped r rs (Given batch) none h = absurd h
 taken-stopped r rs AtEnd none h = (none, h)
 taken-stopped r rs (Halted number kind) none h = (none, h)
 
 -- ---- splits
 
-kind-split : (header : Header) (pair : Option (Header × Header)) (ends : Bool) (r : Record) → kind_keeps header pair ends r.kind ≡ true → is_split r.kind ≡ ends
-kind-split header pair ends r e = (booleans_Decides (is_split r.kind) ends).0 (and_parts (beq (is_split r.kind) ends) (keeps_header header pair r.kind) e).0
+kind-split : (header : Header) (pair : Option (Header × Header)) (ends : Bool) (r : Record) → kind_keeps header pair ends r.kind ≡ true
+    → is_split r.kind ≡ ends
+kind-split header pair ends r e =
+    (booleans_Decides (is_split r.kind) ends).0 (and_parts (beq (is_split r.kind) ends) (keeps_header header pair r.kind) e).0
 
 -- the record of a number is a split where it is the last one of a tablet with children
-keep-at : (header : Header) (pair : Option (Header × Header)) (count number i : ℕ) (r : Record) (rs : List Record) → keep_from header pair count number rs ≡ true
+keep-at : (header : Header) (pair : Option (Header × Header)) (count number i : ℕ) (r : Record) (rs : List Record)
+    → keep_from header pair count number rs ≡ true
     → slice_get rs i ≡ Some r → is_split r.kind ≡ (number + i == count && is_some pair)
 keep-at header pair count number i r [] e there = cc
 keep-at header pair count number zero r (x ∷ rs) e there =
-    let parts = and_parts (kind_keeps header pair (number == count && is_some pair) x.kind) (keep_from header pair count (number + 1) rs) e in
+    let parts = and_parts (kind_keeps header pair (number == count && is_some pair) x.kind) (keep_from header pair count (number + 1) rs) e
+    in
     let same : x ≡ r = cc in
     let n : number + 0 ≡ number = omega arith in
-    subst (λ (y : Record). is_split y.kind ≡ (number + 0 == count && is_some pair)) same (kind-split header pair _ x parts.0 ∙ ap (λ m. m == count && is_some pair) (sym n))
+    subst (λ (y : Record). is_split y.kind ≡ (number + 0 == count && is_some pair)) same (kind-split header pair _ x parts.0
+    ∙ ap (λ m. m == count && is_some pair) (sym n))
 keep-at header pair count number (suc i) r (x ∷ rs) e there =
-    let parts = and_parts (kind_keeps header pair (number == count && is_some pair) x.kind) (keep_from header pair count (number + 1) rs) e in
+    let parts = and_parts (kind_keeps header pair (number == count && is_some pair) x.kind) (keep_from header pair count (number + 1) rs) e
+    in
     let n : number + 1 + i ≡ number + suc i = omega arith in
     keep-at header pair count (number + 1) i r rs parts.1 there ∙ ap (λ m. m == count && is_some pair) n
 
@@ -74,23 +84,28 @@ abbrev reaches : Option (Header × Header) → ℕ → ℕ → ℕ → Bool
 reaches pair count number n = is_some pair && (nat_le number count && nat_lt count (number + n))
 
 step-split : (ends some split : Bool) (number count n : ℕ) → ends ≡ (number == count && some)
-    → ((if ends then true else split) || (some && (nat_le (number + 1) count && nat_lt count (number + 1 + n)))) ≡ (split || (some && (nat_le number count && nat_lt count (number + suc n))))
+    → ((if ends then true else split) || (some && (nat_le (number + 1) count && nat_lt count (number + 1 + n)))) ≡
+    (split || (some && (nat_le number count && nat_lt count (number + suc n))))
 step-split ends some split number count n e = grind (arith, nat_tests)
 
 -- a split is taken where the records reach the end of a tablet with children
-split-from : (header : Header) (pair : Option (Header × Header)) (count number : ℕ) (p : Progress) (rs : List Record) → keep_from header pair count number rs ≡ true
+split-from : (header : Header) (pair : Option (Header × Header)) (count number : ℕ) (p : Progress) (rs : List Record)
+    → keep_from header pair count number rs ≡ true
     → (fold after p rs).split ≡ (p.split || reaches pair count number (length rs))
 split-from header pair count number p [] e = grind (arith, nat_tests)
 split-from header pair count number p (r ∷ rs) e =
-    let parts = and_parts (kind_keeps header pair (number == count && is_some pair) r.kind) (keep_from header pair count (number + 1) rs) e in
+    let parts = and_parts (kind_keeps header pair (number == count && is_some pair) r.kind) (keep_from header pair count (number + 1) rs) e
+    in
     split-from header pair count (number + 1) (after p r) rs parts.1
     ∙ step-split (is_split r.kind) (is_some pair) p.split number count (length rs) (kind-split header pair _ r parts.0)
 
-kept-by : (headers : List Header) (counts : List ℕ) (id from : ℕ) (rs : List Record) → id < length headers → KeepHeader headers counts id from rs
+kept-by : (headers : List Header) (counts : List ℕ) (id from : ℕ) (rs : List Record) → id < length headers
+    → KeepHeader headers counts id from rs
     → (header : Header) × (keep_from header (children headers id) (slice_index counts id) from rs ≡ true)
 kept-by headers counts id from rs within keep = go (slice_get_cases headers id).1
   where
-    go : ((h : Header) × (id < length headers) × (slice_get headers id ≡ Some h) × (get_or headers id h ≡ h)) ⊎ ((length headers ≤ id) × (slice_get headers id ≡ None))
+    go : ((h : Header) × (id < length headers) × (slice_get headers id ≡ Some h) × (get_or headers id h ≡ h)) ⊎
+        ((length headers ≤ id) × (slice_get headers id ≡ None))
         → (header : Header) × (keep_from header (children headers id) (slice_index counts id) from rs ≡ true)
     go (inl (h, w, there, g)) = (h, rw there at keep)
     go (inr (past, none)) = absurd (omega arith)
@@ -106,10 +121,12 @@ pub record Gave (headers : List Header) (counts : List ℕ) (max : ℕ) (r : Rea
   pub some : 1 ≤ max
 
 split-new : (some : Bool) (checked a count : ℕ) → checked + a ≤ count
-    → ((some && (checked == count)) || (some && (nat_le (checked + 1) count && nat_lt count (checked + 1 + a)))) ≡ (some && (checked + a == count))
+    → ((some && (checked == count)) || (some && (nat_le (checked + 1) count && nat_lt count (checked + 1 + a)))) ≡
+    (some && (checked + a == count))
 split-new some checked a count l = grind (arith, nat_tests)
 
-pub fits-looked : (headers : List Header) (counts : List ℕ) (max : ℕ) (r : ReaderState) (rs : List Record) → Gave headers counts max r rs → FitsFeed headers counts (looked r rs)
+pub fits-looked : (headers : List Header) (counts : List ℕ) (max : ℕ) (r : ReaderState) (rs : List Record) → Gave headers counts max r rs
+    → FitsFeed headers counts (looked r rs)
 fits-looked headers counts max r rs g =
     let count = slice_index counts r.id in
     let known = r.checked - r.cursor in
@@ -121,11 +138,13 @@ fits-looked headers counts max r rs g =
     let kept = kept-by headers counts r.id (r.cursor + 1) rs g.fits.tablet g.keep in
     let pair = children headers r.id in
     let rest : keep_from kept.0 pair count (r.checked + 1) (unchecked r rs) ≡ true =
-    subst (λ n. keep_from kept.0 pair count n (unchecked r rs) ≡ true) (omega arith) (keep_from-drop kept.0 pair count (r.cursor + 1) known rs kept.1) in
+    subst (λ n. keep_from kept.0 pair count n (unchecked r rs) ≡ true) (omega arith)
+    (keep_from-drop kept.0 pair count (r.cursor + 1) known rs kept.1) in
     let first : new_ones r rs ≡ take (length (new_ones r rs)) (unchecked r rs) =
     sym (take-length (new_ones r rs)) ∙ accepted-first r.order (length (new_ones r rs)) (unchecked r rs) (omega arith) in
     let found : keep_from kept.0 pair count (r.checked + 1) (new_ones r rs) ≡ true =
-    subst (λ xs. keep_from kept.0 pair count (r.checked + 1) xs ≡ true) (sym first) (keep_from-take kept.0 pair count (r.checked + 1) (length (new_ones r rs)) (unchecked r rs) rest) in
+    subst (λ xs. keep_from kept.0 pair count (r.checked + 1) xs ≡ true) (sym first)
+    (keep_from-take kept.0 pair count (r.checked + 1) (length (new_ones r rs)) (unchecked r rs) rest) in
     record {
       tablet = g.fits.tablet;
       within = within;
@@ -136,7 +155,8 @@ fits-looked headers counts max r rs g =
     }
 
 -- a reader that found nothing yet, in an order without a split, fits every feed that has its tablet
-pub new-fits : (headers : List Header) (counts : List ℕ) (logs : Option Logs) (id : ℕ) (order : Progress) → IsFeed headers counts logs → id < length headers → order.split ≡ false
+pub new-fits : (headers : List Header) (counts : List ℕ) (logs : Option Logs) (id : ℕ) (order : Progress) → IsFeed headers counts logs
+    → id < length headers → order.split ≡ false
     → FitsFeed headers counts (record { id = id; cursor = 0; checked = 0; order = order })
 new-fits headers counts logs id order feed within unsplit =
     record { tablet = within; within = omega arith; split = unsplit ∙ go (children headers id) refl }
@@ -159,7 +179,8 @@ halt-some : (p : Progress) (n m : ℕ) (kind : Break) (rs : List Record) → hal
 halt-some p n m kind [] h = cc
 halt-some p n m kind (r ∷ rs) h = omega arith
 
-pub next-is : (headers : List Header) (counts : List ℕ) (max : ℕ) (r : ReaderState) (rs : List Record) (next : Next) → Gave headers counts max r rs → IsTaken r rs next
+pub next-is : (headers : List Header) (counts : List ℕ) (max : ℕ) (r : ReaderState) (rs : List Record) (next : Next)
+    → Gave headers counts max r rs → IsTaken r rs next
     → IsNext headers counts max r (looked r rs) next
 next-is headers counts max r rs (Given batch) g t =
     let count = slice_index counts r.id in
@@ -177,7 +198,8 @@ next-is headers counts max r rs (Given batch) g t =
     let kept = kept-by headers counts r.id (r.cursor + 1) rs g.fits.tablet g.keep in
     let pair = children headers r.id in
     let front : keep_from kept.0 pair count (r.cursor + 1) batch.records ≡ true =
-    subst (λ xs. keep_from kept.0 pair count (r.cursor + 1) xs ≡ true) (sym is) (keep_from-take kept.0 pair count (r.cursor + 1) (good r rs) rs kept.1) in
+    subst (λ xs. keep_from kept.0 pair count (r.cursor + 1) xs ≡ true) (sym is)
+    (keep_from-take kept.0 pair count (r.cursor + 1) (good r rs) rs kept.1) in
     let some : 1 ≤ length batch.records = elim few [ inl l ↦ omega arith | inr e ↦ omega arith ] in
     record {
       from = number;
@@ -186,17 +208,26 @@ next-is headers counts max r rs (Given batch) g t =
       checked = omega arith;
       keep = keeps-front headers counts r.id (r.cursor + 1) batch.from (good r rs) rs batch.records number is g.keep;
       splits = λ i x there split.
-          let ends : true ≡ (r.cursor + 1 + i == count && is_some pair) = sym split ∙ keep-at kept.0 pair count (r.cursor + 1) i x batch.records front there in
+          let ends : true ≡ (r.cursor + 1 + i == count && is_some pair) =
+          sym split ∙ keep-at kept.0 pair count (r.cursor + 1) i x batch.records front there in
           let within : i < length batch.records = slice_get_within batch.records i x there in
           let parts = and_parts (r.cursor + 1 + i == count) (is_some pair) (sym ends) in
           let at : r.cursor + 1 + i ≡ count = eqb-true _ _ parts.0 in
-          let all : r.checked + length (new_ones r rs) ≡ count = omega arith in
-          (omega arith, (omega arith, fits.split ∙ ap (λ b. b && (r.checked + length (new_ones r rs) == count)) parts.1 ∙ eqb-refl _ _ all));
+          let all : r.checked + length (new_ones r rs) ≡ count = omega arith in (
+            omega arith,
+            (
+              omega arith,
+              fits.split ∙ ap (λ b. b && (r.checked + length (new_ones r rs) == count)) parts.1
+                  ∙ eqb-refl _ _ all,
+            ),
+          );
     }
   where
-    keeps-front : (headers : List Header) (counts : List ℕ) (id from number k : ℕ) (rs xs : List Record) → number ≡ from → xs ≡ take k rs → KeepHeader headers counts id from rs → KeepHeader headers counts id number xs
+    keeps-front : (headers : List Header) (counts : List ℕ) (id from number k : ℕ) (rs xs : List Record) → number ≡ from → xs ≡ take k rs
+        → KeepHeader headers counts id from rs → KeepHeader headers counts id number xs
     keeps-front headers counts id from number k rs xs e is keep =
-        rw (e, is) (IfSome_then (slice_get headers id) keep (λ header held. keep_from-take header (children headers id) (slice_index counts id) from k rs held))
+        rw (e, is) (IfSome_then (slice_get headers id) keep
+        (λ header held. keep_from-take header (children headers id) (slice_index counts id) from k rs held))
 
     eqb-refl : (m n : ℕ) → m ≡ n → (m == n) ≡ true
     eqb-refl m n e = grind (arith, nat_tests)
@@ -236,11 +267,13 @@ first-of xs k max ys is =
     let n : length xs ≡ min (min k max) (length ys) = ap length (is ∙ one) ∙ length-take (min k max) ys in
     is ∙ one ∙ sym (take_min (min k max) ys) ∙ ap (λ i. take i ys) (sym n)
 
-under : (p : Progress) (c n : ℕ) (rs : List Record) → c + n ≤ length (accepted_from p rs) → take n (drop c (accepted_from p rs)) ≡ take n (drop c rs)
+under : (p : Progress) (c n : ℕ) (rs : List Record) → c + n ≤ length (accepted_from p rs)
+    → take n (drop c (accepted_from p rs)) ≡ take n (drop c rs)
 under p c n rs h = sym (drop-take c n (accepted_from p rs)) ∙ ap (drop c) (accepted-first p (c + n) rs h) ∙ drop-take c n rs
 
 -- where none is accepted, the number of the break is that of the first record
-halt-number : (p : Progress) (n m l : ℕ) (kind : Break) (rs : List Record) → length (accepted_from p rs) ≡ 0 → halt_from p n rs ≡ Some (m, kind) → halt_from p l rs ≡ Some (l, kind)
+halt-number : (p : Progress) (n m l : ℕ) (kind : Break) (rs : List Record) → length (accepted_from p rs) ≡ 0
+    → halt_from p n rs ≡ Some (m, kind) → halt_from p l rs ≡ Some (l, kind)
 halt-number p n m l kind [] e h = cc
 halt-number p n m l kind (r ∷ rs) e h = go (break_of p r) refl e h
   where
@@ -276,7 +309,8 @@ module _ (logs : Logs) (max : ℕ) (r : ReaderState) (rs : List Record) (b : Acc
   given-are = let e : r.cursor + 1 - 1 ≡ r.cursor = omega arith in t.given ∙ ap (λ i. take max (drop i all)) e
 
   here : r.order ≡ fold after b.start (take r.checked all)
-  here = t.reads.order ∙ ap (λ xs. fold after b.start (take r.checked xs)) accepted-are ∙ ap (fold after b.start) (accepted-first b.start r.checked all within)
+  here = t.reads.order ∙ ap (λ xs. fold after b.start (take r.checked xs)) accepted-are
+      ∙ ap (fold after b.start) (accepted-first b.start r.checked all within)
 
   unchecked-are : unchecked r rs ≡ take (max - (r.checked - r.cursor)) (drop r.checked all)
   unchecked-are =
@@ -286,9 +320,11 @@ module _ (logs : Logs) (max : ℕ) (r : ReaderState) (rs : List Record) (b : Acc
       let rest = drop-drop known r.cursor all ∙ ap (λ i. drop i all) on in
       ap (drop known) given-are ∙ elim (cases_lt max known) [
         | inl l ↦ let e : max - known ≡ 0 = omega arith in
-            drop_all known (take max (drop r.cursor all)) (let n = length-take max (drop r.cursor all) in omega arith) ∙ ap (λ i. take i (drop r.checked all)) (sym e)
+            drop_all known (take max (drop r.cursor all)) (let n = length-take max (drop r.cursor all) in omega arith)
+            ∙ ap (λ i. take i (drop r.checked all)) (sym e)
         | inr l ↦ let e : known + (max - known) ≡ max = omega arith in
-            ap (λ m. drop known (take m (drop r.cursor all))) (sym e) ∙ drop-take known (max - known) (drop r.cursor all) ∙ ap (take (max - known)) rest
+            ap (λ m. drop known (take m (drop r.cursor all))) (sym e) ∙ drop-take known (max - known) (drop r.cursor all)
+            ∙ ap (take (max - known)) rest
       ]
 
   new-are : new_ones r rs ≡ take (max - (r.checked - r.cursor)) (drop r.checked b.records)
@@ -309,7 +345,8 @@ module _ (logs : Logs) (max : ℕ) (r : ReaderState) (rs : List Record) (b : Acc
       let h = t.reads.checked in
       let n = new-count in
       let ones : new_ones r rs ≡ take a (drop r.checked b.records) =
-      new-are ∙ sym (take_min k (drop r.checked b.records)) ∙ ap (λ i. take i (drop r.checked b.records)) (ap (min k) (length-drop r.checked b.records) ∙ sym new-count) in
+      new-are ∙ sym (take_min k (drop r.checked b.records))
+      ∙ ap (λ i. take i (drop r.checked b.records)) (ap (min k) (length-drop r.checked b.records) ∙ sym new-count) in
       record {
         tablet = t.reads.tablet;
         reached = t.reads.reached;
@@ -360,7 +397,8 @@ module _ (logs : Logs) (max : ℕ) (r : ReaderState) (rs : List Record) (b : Acc
         accepted_is =
             let e = ap length accepted-are in
             let d = length-drop r.checked (accepted_from b.start all) in
-            ap (λ p. length (accepted_from p (drop r.checked all))) here ∙ ap length (accepted-rest b.start r.checked all within) ∙ omega arith;
+            ap (λ p. length (accepted_from p (drop r.checked all))) here ∙ ap length (accepted-rest b.start r.checked all within)
+            ∙ omega arith;
         halt_is = λ n o h.
             ap (λ c. if c then halt_from b.start 1 all else None) t.reads.reached
             ∙ halt-rest b.start 1 r.checked all within
@@ -382,12 +420,15 @@ module _ (logs : Logs) (max : ℕ) (r : ReaderState) (rs : List Record) (b : Acc
       let behind : (r.cursor == length b.records) ≡ true = grind (arith, nat_tests) in
       record { answer = rw (behind, halts, whole) refl; records_are = refl }
 
-  halted : (number m : ℕ) (kind : Break) → good r rs ≡ 0 → number ≡ r.cursor + 1 → halt_from r.order 1 (unchecked r rs) ≡ Some (m, kind) → IsNextOf logs b max r (Halted number kind)
+  halted : (number m : ℕ) (kind : Break) → good r rs ≡ 0 → number ≡ r.cursor + 1 → halt_from r.order 1 (unchecked r rs) ≡ Some (m, kind)
+      → IsNextOf logs b max r (Halted number kind)
   halted number m kind none is h =
       let at = at-last none in
       let rest : halt_from r.order 1 (drop r.checked all) ≡ Some (m, kind) =
-      sym (halt-of-take r.order 1 max (drop r.checked all) t.some (length-0 at.accepted_is)) ∙ ap (halt_from r.order 1) (sym at.unchecked_is) ∙ h in
-      let halts : halt_of b all ≡ Some (1 + r.checked, kind) = at.halt_is 1 _ (halt-number r.order 1 m (1 + r.checked) kind (drop r.checked all) at.accepted_is rest) in
+      sym (halt-of-take r.order 1 max (drop r.checked all) t.some (length-0 at.accepted_is))
+      ∙ ap (halt_from r.order 1) (sym at.unchecked_is) ∙ h in
+      let halts : halt_of b all ≡ Some (1 + r.checked, kind) =
+      at.halt_is 1 _ (halt-number r.order 1 m (1 + r.checked) kind (drop r.checked all) at.accepted_is rest) in
       let here = at.at in
       let last = at.last in
       let n : 1 + r.checked ≡ number = omega arith in
@@ -407,7 +448,8 @@ module _ (logs : Logs) (max : ℕ) (r : ReaderState) (rs : List Record) (b : Acc
       let n = new-count in
       let one = t.some in
       let some = h.1.0 in
-      let size : length batch.records ≡ min max (length b.records - r.cursor) = ap length h.1.1 ∙ length-take (good r rs) rs ∙ counts-are some in
+      let size : length batch.records ≡ min max (length b.records - r.cursor) =
+      ap length h.1.1 ∙ length-take (good r rs) rs ∙ counts-are some in
       let before : r.cursor < length b.records = omega arith in
       let apart : (r.cursor == length b.records) ≡ false = grind (arith, nat_tests) in
       let inside : (r.cursor == length all) ≡ false = grind (arith, nat_tests) in
@@ -416,14 +458,17 @@ module _ (logs : Logs) (max : ℕ) (r : ReaderState) (rs : List Record) (b : Acc
         records_are = batch-are batch.records h.1.1 size;
       }
     where
-      batch-are : (xs : List Record) → xs ≡ take (good r rs) rs → length xs ≡ min max (length b.records - r.cursor) → xs ≡ take (length xs) (drop r.cursor b.records)
+      batch-are : (xs : List Record) → xs ≡ take (good r rs) rs → length xs ≡ min max (length b.records - r.cursor)
+          → xs ≡ take (length xs) (drop r.cursor b.records)
       batch-are xs is size =
           let low = t.order in
           let c = t.reads.checked in
           let e = ap length accepted-are in
           let n : length xs ≤ length b.records - r.cursor = omega arith in
-          let whole : xs ≡ take (length xs) (drop r.cursor all) = first-of xs (good r rs) max (drop r.cursor all) (is ∙ ap (take (good r rs)) given-are) in
-          let front : take (length xs) (drop r.cursor (accepted_from b.start all)) ≡ take (length xs) (drop r.cursor all) = under b.start r.cursor (length xs) all (omega arith) in
+          let whole : xs ≡ take (length xs) (drop r.cursor all) =
+          first-of xs (good r rs) max (drop r.cursor all) (is ∙ ap (take (good r rs)) given-are) in
+          let front : take (length xs) (drop r.cursor (accepted_from b.start all)) ≡ take (length xs) (drop r.cursor all) =
+          under b.start r.cursor (length xs) all (omega arith) in
           whole ∙ sym (ap (λ ys. take (length xs) (drop r.cursor ys)) accepted-are ∙ front)
   next-of AtEnd h = at-end h.0 h.1
   next-of (Halted number kind) h = halted number h.1.1.0 kind h.0 h.1.0 h.1.1.1

@@ -4,7 +4,8 @@
 --     ReadsLogs logs r b      the records that the reader found in order are the first accepted ones of the tablet b of the logs
 --     IsNext headers counts max before after next      what a reader hands out, whatever the feed tells
 --     IsNextOf logs max before next      what it hands out of the logs
-use Rattle.std.specs.Prelude.{◌≡◌, ℕ, ◌+◌, ◌<◌, ◌≤◌, ◌==◌, ◌&&◌, true, List, [], length, take, drop, slice_get, slice_index, Option, Some, is_some}
+use Rattle.std.specs.Prelude.{◌≡◌, ℕ, ◌+◌, ◌<◌, ◌≤◌, ◌==◌, ◌&&◌, true, List, [], length, take, drop, slice_get, slice_index, Option, Some}
+use Rattle.std.specs.Prelude.{is_some}
 use Rattle.xc_record.specs.declared.record.Header.{Header}
 use Rattle.xc_record.specs.declared.record.Record.{Record}
 use Rattle.xc_record.specs.declared.record.Logs.{Logs}

@@ -103,8 +103,10 @@ impl Reader {
         ensures next { IfOk result (IsNext (F.headers feed.old) (F.counts feed.old) max self.old self.new) }
 
         // Where it tells logs whose first records the reader found in order.
-        ensures logs { IfSome (F.logs feed.old) (λ logs. (b : AcceptedTablet) → ReadsLogs logs self.old b → ReadsLogs logs self.new b) }
-        ensures next_of { IfSome (F.logs feed.old) (λ logs. (b : AcceptedTablet) → ReadsLogs logs self.old b → IfOk result (IsNextOf logs b max self.old)) }
+        ensures logs { IfSome (F.logs feed.old) (λ logs. (b : AcceptedTablet) → ReadsLogs logs self.old b
+            → ReadsLogs logs self.new b) }
+        ensures next_of { IfSome (F.logs feed.old) (λ logs. (b : AcceptedTablet) → ReadsLogs logs self.old b
+            → IfOk result (IsNextOf logs b max self.old)) }
 
         // A failure changes nothing, and has its cause in the feed.
         ensures failed { OnErr result (self.new ≡ self.old) }

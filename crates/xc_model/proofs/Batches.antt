@@ -83,11 +83,14 @@ moved-none s x = record {
 same-range : (x y : TargetTablet) → y.lo ≡ x.lo → y.hi ≡ x.hi → range_of y ≡ range_of x
 same-range x y l h = cc
 
-moved-one : (s : ℕ) (r : Record) (rs : List Record) (x z y : TargetTablet) → s < length x.places → TakesIn s r x z → Moved s rs z y → Moved s (r ∷ rs) x y
+moved-one : (s : ℕ) (r : Record) (rs : List Record) (x z y : TargetTablet) → s < length x.places → TakesIn s r x z → Moved s rs z y
+    → Moved s (r ∷ rs) x y
 moved-one s r rs x z y low t m =
     let more = slice_index x.places s + 1 in
-    let at : slice_index z.places s ≡ slice_index x.places s + 1 = ap (λ w. slice_index w s) t.places ∙ get_or-set_same x.places s (slice_index x.places s + 1) 0 low in
-    let l : length z.floors.closed ≡ length x.floors.closed = ap (λ (f : Floors). length f.closed) t.floors ∙ count-kept s r.kind x.floors in
+    let at : slice_index z.places s ≡ slice_index x.places s + 1 =
+    ap (λ w. slice_index w s) t.places ∙ get_or-set_same x.places s (slice_index x.places s + 1) 0 low in
+    let l : length z.floors.closed ≡ length x.floors.closed =
+    ap (λ (f : Floors). length f.closed) t.floors ∙ count-kept s r.kind x.floors in
     let p = m.place in
     record {
       range = m.range ∙ same-range x z t.range.0 t.range.1;
@@ -96,7 +99,8 @@ moved-one s r rs x z y low t m =
       place = omega arith;
       places = λ i n. m.places i n ∙ ap (λ w. slice_index w i) t.places ∙ get_or-set_other x.places s i (slice_index x.places s + 1) 0 n;
       closed = λ i n. m.closed i n ∙ ap (λ f. has_closed f i) t.floors ∙ others-kept s i r.kind x.floors n;
-      splits = λ h. m.splits (omega arith) ∙ ap (λ b. b || list_any (λ r. is_split r.kind) rs) (ap (λ f. has_closed f s) t.floors ∙ closed-by s r.kind x.floors h)
+      splits = λ h. m.splits (omega arith)
+          ∙ ap (λ b. b || list_any (λ r. is_split r.kind) rs) (ap (λ f. has_closed f s) t.floors ∙ closed-by s r.kind x.floors h)
           ∙ or-assoc (has_closed x.floors s) (is_split r.kind) (list_any (λ r. is_split r.kind) rs);
     }
 
@@ -111,7 +115,8 @@ batches-move s from rs x y one first low t =
     let more = past (slice_index x.places s) from rs in
     let m : Moved s (past (slice_index x.places s) from rs) x y = all-moved s more x y low t in
     let p = m.place in
-    let n : length (past (slice_index x.places s) from rs) ≡ length rs - (slice_index x.places s + 1 - from) = length-drop (slice_index x.places s + 1 - from) rs in
+    let n : length (past (slice_index x.places s) from rs) ≡ length rs - (slice_index x.places s + 1 - from) =
+    length-drop (slice_index x.places s + 1 - from) rs in
     record {
       range = m.range;
       headers = m.headers;

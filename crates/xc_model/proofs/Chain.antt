@@ -32,7 +32,8 @@ abbrev pub last_after : ℕ → List Record → ℕ
 last_after l [] = l
 last_after l (r ∷ rs) = last_after r.time rs
 
-goes-by : (o : Progress) (time : ℕ) (kind : Kind) → is_none (first_violated (violations o time kind)) ≡ true → (o.last < time) × KindGoes o.floor time kind
+goes-by : (o : Progress) (time : ℕ) (kind : Kind) → is_none (first_violated (violations o time kind)) ≡ true
+    → (o.last < time) × KindGoes o.floor time kind
 goes-by o time (log.Write ops) h = (grind (arith, nat_tests), tt)
 goes-by o time (log.Intent n sub ops) h = (grind (arith, nat_tests), tt)
 goes-by o time (log.Apply n c without) h = (grind (arith, nat_tests), (grind (arith, nat_tests), grind (arith, nat_tests)))
@@ -58,7 +59,8 @@ pub goes-append : (f l : ℕ) (xs ys : List Record) → Goes f l xs → Goes (fl
 goes-append f l [] ys h g = g
 goes-append f l (x ∷ xs) ys h g = (h.0, h.1, goes-append (floor_by f x.kind) x.time xs ys h.2 g)
 
-pub after-parts : (o : Progress) (rs : List Record) → ((fold after o rs).floor ≡ floor_after o.floor rs) × ((fold after o rs).last ≡ last_after o.last rs)
+pub after-parts : (o : Progress) (rs : List Record)
+    → ((fold after o rs).floor ≡ floor_after o.floor rs) × ((fold after o rs).last ≡ last_after o.last rs)
 after-parts o [] = (refl, refl)
 after-parts o (r ∷ rs) = after-parts (after o r) rs
 
@@ -66,8 +68,14 @@ pub grown-goes : (b : AcceptedTablet) → IsGrown b → Goes b.start.floor b.sta
 grown-goes b g = subst (Goes b.start.floor b.start.last) g.in_order (accept-goes b.start b.records)
 
 -- where a tablet ends
-pub grown-end : (b : AcceptedTablet) → IsGrown b → (b.end.floor ≡ floor_after b.start.floor b.records) × (b.end.last ≡ last_after b.start.last b.records)
-grown-end b g = let parts = after-parts b.start b.records in (ap (λ (p : Progress). p.floor) g.end ∙ parts.0, ap (λ (p : Progress). p.last) g.end ∙ parts.1)
+pub grown-end : (b : AcceptedTablet) → IsGrown b
+    → (b.end.floor ≡ floor_after b.start.floor b.records) × (b.end.last ≡ last_after b.start.last b.records)
+grown-end b g =
+    let parts = after-parts b.start b.records in (
+      ap (λ (p : Progress). p.floor) g.end ∙ parts.0,
+      ap (λ (p : Progress). p.last) g.end
+          ∙ parts.1,
+    )
 
 -- a path keeps the order rules
 pub path-goes : (o : Progress) (xs : List AcceptedTablet) → Threads o xs → Goes o.floor o.last (records_along xs)
@@ -76,5 +84,7 @@ path-goes o (b ∷ xs) h =
     let parts = grown-end b h.0.grown in
     let rest : Goes b.end.floor b.end.last (records_along xs) = path-goes b.end xs h.1 in
     let deep : Goes (floor_after b.start.floor b.records) (last_after b.start.last b.records) (records_along xs) =
-    subst (λ (w : ℕ). Goes (floor_after b.start.floor b.records) w (records_along xs)) parts.1 (subst (λ (w : ℕ). Goes w b.end.last (records_along xs)) parts.0 rest) in
-    subst (λ (p : Progress). Goes p.floor p.last (b.records ++ records_along xs)) h.0.start (goes-append b.start.floor b.start.last b.records (records_along xs) (grown-goes b h.0.grown) deep)
+    subst (λ (w : ℕ). Goes (floor_after b.start.floor b.records) w (records_along xs)) parts.1
+    (subst (λ (w : ℕ). Goes w b.end.last (records_along xs)) parts.0 rest) in
+    subst (λ (p : Progress). Goes p.floor p.last (b.records ++ records_along xs)) h.0.start
+    (goes-append b.start.floor b.start.last b.records (records_along xs) (grown-goes b h.0.grown) deep)

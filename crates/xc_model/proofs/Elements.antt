@@ -4,19 +4,22 @@ use Rattle.std.specs.List.{filter, slice_get}
 use Rattle.std.proofs.lemmas.Option.{same_Some}
 use Rattle.xc_model.proofs.StableSort.{Each, Exists}
 
-pub exists-filter : {A : Type 0} (P Q : A → Type 0) (p : A → Bool) → ((x : A) → P x → (p x ≡ true) × Q x) → (xs : List A) → Exists P xs → Exists Q (filter p xs)
+pub exists-filter : {A : Type 0} (P Q : A → Type 0) (p : A → Bool) → ((x : A) → P x → (p x ≡ true) × Q x) → (xs : List A) → Exists P xs
+    → Exists Q (filter p xs)
 exists-filter P Q p f [] i = i
 exists-filter P Q p f (x ∷ xs) i =
     ⊎_elim
     (λ h. let k = f x h in subst (λ b. Exists Q (cond b (x ∷ filter p xs) (filter p xs))) (sym k.0) (inl k.1))
-    (λ r. elim (p x) as (λ b. Exists Q (cond b (x ∷ filter p xs) (filter p xs))) [ true ↦ inr (exists-filter P Q p f xs r) | false ↦ exists-filter P Q p f xs r ])
+    (λ r. elim (p x) as (λ b. Exists Q (cond b (x ∷ filter p xs) (filter p xs)))
+    [ true ↦ inr (exists-filter P Q p f xs r) | false ↦ exists-filter P Q p f xs r ])
     i
 
 pub each-passes : {A : Type 0} (p : A → Bool) (xs : List A) → Each (λ x. p x ≡ true) (filter p xs)
 each-passes p [] = tt
 each-passes p (x ∷ xs) =
     let at : (b : Bool) → p x ≡ b → Each (λ x. p x ≡ true) (cond b (x ∷ filter p xs) (filter p xs)) =
-    λ b. elim b as (λ b. p x ≡ b → Each (λ x. p x ≡ true) (cond b (x ∷ filter p xs) (filter p xs))) [ true ↦ λ e. (e, each-passes p xs) | false ↦ λ e. each-passes p xs ]
+    λ b. elim b as (λ b. p x ≡ b → Each (λ x. p x ≡ true) (cond b (x ∷ filter p xs) (filter p xs)))
+    [ true ↦ λ e. (e, each-passes p xs) | false ↦ λ e. each-passes p xs ]
     in at (p x) refl
 
 pub each-both : {A : Type 0} (P Q : A → Type 0) (xs : List A) → Each P xs → Each Q xs → Each (λ x. P x × Q x) xs

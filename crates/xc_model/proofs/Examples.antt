@@ -1,5 +1,5 @@
--- What each law says of small logs: a split tablet, a transaction over both of its children, a removal, a subtransaction that was rolled back.
--- Every premise is proved, and the law gives the conclusion, which is then computed.
+-- What each law says of small logs: a split tablet, a transaction over both of its children, a removal, a subtransaction that was rolled
+-- back. Every premise is proved, and the law gives the conclusion, which is then computed.
 use Rattle.std.proofs.Common.{◌≡◌, ℕ, zero, suc, ◌≤◌, true, false, List, [], ◌∷◌, Some, None, refl, sym, arith, length, take, drop}
 use Rattle.std.specs.Prelude.{codes, slice_index, slice_get, Option}
 use Rattle.std.specs.List.{AllByRecursion}
@@ -28,7 +28,8 @@ use Rattle.xc_model.specs.Floors.{has_closed}
 use Rattle.xc_model.specs.Laws.{BatchTaken}
 use Rattle.xc_model.specs.Lines.{Says}
 use Rattle.xc_model.specs.Sessions.{IsRising, named_times}
-use Rattle.xc_model.specs.Stands.{TargetTablet, in_range, kept_at, rows_shown, given_at, StandsFor, covers, KeepsFrom, RestoredTo, restore, TakesAll}
+use Rattle.xc_model.specs.Stands.{TargetTablet, in_range, kept_at, rows_shown, given_at, StandsFor, covers, KeepsFrom, RestoredTo, restore}
+use Rattle.xc_model.specs.Stands.{TakesAll}
 use Rattle.xc_model.proofs.Batches.{batches-move, batches-grow}
 use Rattle.xc_model.proofs.DeliverLaw.{deliveries-keep}
 use Rattle.xc_model.proofs.FloorLaw.{kept-values, safe-rises}
@@ -40,7 +41,10 @@ use Rattle.xc_model.proofs.ReadLaw.{reads-show-rows, keys-suffice}
 use Rattle.xc_model.proofs.Restores.{restores-keep}
 use Rattle.xc_model.proofs.SessionLaws.{sessions-start, steps-keep, steps-rise}
 use Rattle.xc_model.proofs.TimeLaws.{named-times-rise, closed-stays, closed-times, failover-closes}
-use Rattle.xc_model.proofs.WorkedTablets.{valid, by-key, removed, version, new, new-stands-for, after_intent, after_safe, early, early-stands, before_split, before-split-taken, the_split, split-taken, last-taken, half, left_apply-taken, left_apply, parent_records, right_records, drained, drained-stands, lower, lower-stands, upper, upper-stands, half-stands}
+use Rattle.xc_model.proofs.WorkedTablets.{valid, by-key, removed, version, new, new-stands-for, after_intent, after_safe, early}
+use Rattle.xc_model.proofs.WorkedTablets.{early-stands, before_split, before-split-taken, the_split, split-taken, last-taken, half}
+use Rattle.xc_model.proofs.WorkedTablets.{left_apply-taken, left_apply, parent_records, right_records, drained, drained-stands, lower}
+use Rattle.xc_model.proofs.WorkedTablets.{lower-stands, upper, upper-stands, half-stands}
 
 agree : disagreement with_both_children ≡ None
 unfolding computed
@@ -90,7 +94,9 @@ shared = (refl, (omega arith, (refl, (omega arith, refl))))
 -- the lower one shows the row of a, the upper one that of z
 rows-of-both : rows with_both_children 12 ≡ (a, codes "1") ∷ (z, codes "2") ∷ []
 unfolding computed
-rows-of-both = sym (partitions-by reads-show-lists with_both_children both 0 12 agree shared ((lower-stands, omega arith), ((upper-stands, omega arith), tt)) (omega arith))
+rows-of-both =
+    sym (partitions-by reads-show-lists with_both_children both 0 12 agree shared
+    ((lower-stands, omega arith), ((upper-stands, omega arith), tt)) (omega arith))
 
 lower-back : RestoredTo with_both_children 0 12 lower (restore 12 lower)
 unfolding computed
@@ -103,7 +109,8 @@ upper-back = record { stood = upper-stands; after_cutoff = omega arith; covered 
 restored-rows : rows with_both_children 11 ≡ (a, codes "1") ∷ (z, codes "2") ∷ []
 unfolding computed
 restored-rows =
-    sym (restored-partitions-by restored-show with_both_children (restore 12 lower ∷ restore 12 upper ∷ []) 0 12 11 agree shared ((lower, lower-back), ((upper, upper-back), tt)) (omega arith) (omega arith))
+    sym (restored-partitions-by restored-show with_both_children (restore 12 lower ∷ restore 12 upper ∷ []) 0 12 11 agree shared
+    ((lower, lower-back), ((upper, upper-back), tt)) (omega arith) (omega arith))
 
 -- ---- agreement
 
@@ -132,17 +139,25 @@ disagrees agrees = differ ((keys-suffice (two_tablets 15 15) two-valid).1 agrees
 -- ---- deliveries
 
 -- The left child's apply takes what waits at its own key alone, and of that what was not rolled back.
-half-a : given_at with_both_children 0 (5 ∷ 1 ∷ 0 ∷ []) a ≡ record { versions = record { commit = 10; txn = 0; value = Some (codes "1") } ∷ record { commit = 16; txn = 5; value = Some (codes "3") } ∷ []; held = [] }
+half-a : given_at with_both_children 0 (5 ∷ 1 ∷ 0 ∷ []) a ≡ record {
+  versions = record { commit = 10; txn = 0; value = Some (codes "1") } ∷ record { commit = 16; txn = 5; value = Some (codes "3") } ∷ [];
+  held = [];
+}
 unfolding computed
 half-a = sym ((deliveries-keep with_both_children early half 0 1 left_apply early-stands refl refl left_apply-taken).keys a refl)
 
-half-z : given_at with_both_children 0 (5 ∷ 1 ∷ 0 ∷ []) z ≡ record { versions = record { commit = 10; txn = 0; value = Some (codes "2") } ∷ []; held = record { txn = 5; sub = 0; value = None } ∷ [] }
+half-z : given_at with_both_children 0 (5 ∷ 1 ∷ 0 ∷ []) z ≡ record
+    { versions = record { commit = 10; txn = 0; value = Some (codes "2") } ∷ []; held = record { txn = 5; sub = 0; value = None } ∷ [] }
 unfolding computed
 half-z = sym ((deliveries-keep with_both_children early half 0 1 left_apply early-stands refl refl left_apply-taken).keys z refl)
 
 -- after the parent's five records, in two batches of which the second repeats two, the transaction waits at both keys
 early-a : given_at with_both_children 0 (5 ∷ 0 ∷ 0 ∷ []) a
-    ≡ record { versions = record { commit = 10; txn = 0; value = Some (codes "1") } ∷ []; held = record { txn = 5; sub = 1; value = Some (codes "8") } ∷ record { txn = 5; sub = 0; value = Some (codes "3") } ∷ [] }
+    ≡ record {
+      versions = record { commit = 10; txn = 0; value = Some (codes "1") } ∷ [];
+      held = record
+          { txn = 5; sub = 1; value = Some (codes "8") } ∷ record { txn = 5; sub = 0; value = Some (codes "3") } ∷ [];
+    }
 unfolding computed
 early-a = sym (early-stands.keys a refl)
 
@@ -164,7 +179,8 @@ unfolding computed
 early-closed = repeated.splits (omega arith)
 
 -- no other place moves, and no other source tablet is closed
-early-others : (i : ℕ) → (i ≡ 0 → ⊥) → (slice_index early.places i ≡ slice_index after_intent.places i) × (has_closed early.floors i ≡ has_closed after_intent.floors i)
+early-others : (i : ℕ) → (i ≡ 0 → ⊥)
+    → (slice_index early.places i ≡ slice_index after_intent.places i) × (has_closed early.floors i ≡ has_closed after_intent.floors i)
 early-others i n = (repeated.places i n, repeated.closed i n)
 
 -- a batch of records that were all applied changes nothing
@@ -185,7 +201,8 @@ pruned-keeps : KeepsFrom 16 drained pruned
 unfolding computed
 pruned-keeps = record {
   rest = refl;
-  keys = by-key (λ k. in_range drained k ≡ true → versions_at k pruned.versions ≡ kept_from 16 (versions_at k drained.versions)) (λ _. refl) (λ _. refl) (λ k other _. rw (other.a, other.z) refl);
+  keys = by-key (λ k. in_range drained k ≡ true → versions_at k pruned.versions ≡ kept_from 16 (versions_at k drained.versions)) (λ _. refl)
+      (λ _. refl) (λ k other _. rw (other.a, other.z) refl);
   within = (refl, (refl, tt));
 }
 
@@ -193,7 +210,8 @@ pruned-stands : StandsFor with_both_children 16 pruned
 unfolding computed
 pruned-stands = cutoffs-keep with_both_children drained pruned 0 16 drained-stands (covered 16 (omega arith)) pruned-keeps
 
-pruned-a : given_at with_both_children 16 (5 ∷ 2 ∷ 2 ∷ []) a ≡ record { versions = record { commit = 16; txn = 5; value = Some (codes "3") } ∷ []; held = [] }
+pruned-a : given_at with_both_children 16 (5 ∷ 2 ∷ 2 ∷ []) a ≡ record
+    { versions = record { commit = 16; txn = 5; value = Some (codes "3") } ∷ []; held = [] }
 unfolding computed
 pruned-a = sym (pruned-stands.keys a refl)
 
@@ -238,7 +256,8 @@ restored-list : where_key (slice_cmp nat_cmp) (in_range half) (rows with_both_ch
 unfolding computed
 restored-list = sym (restored-show with_both_children (restore 12 half) half 0 12 12 half-back agree (omega arith) (omega arith)).1
 
-restored-keeps : kept_at (restore 12 half) a ≡ record { versions = record { commit = 10; txn = 0; value = Some (codes "1") } ∷ []; held = [] }
+restored-keeps : kept_at (restore 12 half) a ≡ record
+    { versions = record { commit = 10; txn = 0; value = Some (codes "1") } ∷ []; held = [] }
 unfolding computed
 restored-keeps = refl
 
@@ -254,7 +273,8 @@ rises-through-the-split : safe_time with_both_children (4 ∷ 0 ∷ 0 ∷ []) �
 rises-through-the-split = safe-rises with_both_children (4 ∷ 0 ∷ 0 ∷ []) (5 ∷ 2 ∷ 2 ∷ []) drained-stands.places climbs
 
 -- the right child, of which nothing was polled yet, counts with its parent's final floor
-safe-times : safe_time with_both_children (4 ∷ 0 ∷ 0 ∷ []) ∷ safe_time with_both_children (5 ∷ 0 ∷ 0 ∷ []) ∷ safe_time with_both_children (5 ∷ 2 ∷ 0 ∷ []) ∷ safe_time with_both_children (5 ∷ 2 ∷ 2 ∷ []) ∷ [] ≡ 12 ∷ 12 ∷ 12 ∷ 19 ∷ []
+safe-times : safe_time with_both_children (4 ∷ 0 ∷ 0 ∷ []) ∷ safe_time with_both_children (5 ∷ 0 ∷ 0 ∷ []) ∷ safe_time with_both_children
+    (5 ∷ 2 ∷ 0 ∷ []) ∷ safe_time with_both_children (5 ∷ 2 ∷ 2 ∷ []) ∷ [] ≡ 12 ∷ 12 ∷ 12 ∷ 19 ∷ []
 unfolding computed
 safe-times = refl
 
@@ -287,11 +307,13 @@ rooted = roots-share-out the_headers refl
 
 same-root : (i : ℕ) (h : Header) → slice_get the_headers i ≡ Some h → h.parent ≡ None → holds h 30785 ≡ true → 0 ≡ i
 unfolding computed
-same-root i h e p q = one-root-holds the_headers 30785 0 i (record { id = 0; lo = 0; hi = 65535; parent = None }) h refl refl e refl p refl q
+same-root i h e p q =
+    one-root-holds the_headers 30785 0 i (record { id = 0; lo = 0; hi = 65535; parent = None }) h refl refl e refl p refl q
 
 halved : SharesOut (0, 65535) ((0, 32767) ∷ (32768, 65535) ∷ [])
 unfolding computed
-halved = children-share-out the_headers 0 (record { id = 0; lo = 0; hi = 65535; parent = None }) (record { id = 1; lo = 0; hi = 32767; parent = Some 0 }) (record { id = 2; lo = 32768; hi = 65535; parent = Some 0 }) refl refl refl
+halved = children-share-out the_headers 0 (record { id = 0; lo = 0; hi = 65535; parent = None })
+    (record { id = 1; lo = 0; hi = 32767; parent = Some 0 }) (record { id = 2; lo = 32768; hi = 65535; parent = Some 0 }) refl refl refl
 
 -- ---- sessions
 
@@ -334,8 +356,11 @@ unfolding computed
 drain-rises = steps-rise with_both_children (start with_both_children) command.Drain valid starts
 
 -- after two records, a stop over the other three and a restart leave the places
-stop-keeps : (places_of (step with_both_children (record at_start { positions = at_place 2 2 1 ∷ at_place 0 0 0 ∷ at_place 0 0 0 ∷ [] }) (command.Stop 0 9 0)).0 ≡ 2 ∷ 0 ∷ 0 ∷ [])
-    × (places_of (step with_both_children (record at_start { positions = at_place 2 2 1 ∷ at_place 0 0 0 ∷ at_place 0 0 0 ∷ [] }) (command.Restart 0)).0 ≡ 2 ∷ 0 ∷ 0 ∷ [])
+stop-keeps : (places_of
+    (step with_both_children (record at_start { positions = at_place 2 2 1 ∷ at_place 0 0 0 ∷ at_place 0 0 0 ∷ [] }) (command.Stop 0 9 0)).0
+    ≡ 2 ∷ 0 ∷ 0 ∷ [])
+    × (places_of (step with_both_children (record at_start { positions = at_place 2 2 1 ∷ at_place 0 0 0 ∷ at_place 0 0 0 ∷ [] })
+    (command.Restart 0)).0 ≡ 2 ∷ 0 ∷ 0 ∷ [])
 stop-keeps = stops-keep with_both_children (record at_start { positions = at_place 2 2 1 ∷ at_place 0 0 0 ∷ at_place 0 0 0 ∷ [] }) 0 9 0
 
 -- the line of a cutoff that is asked for below the one that stands

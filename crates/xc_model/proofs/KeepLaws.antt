@@ -1,5 +1,6 @@
 -- Cutoffs, restores and new tablets.
-use Rattle.std.proofs.Common.{◌≡◌, ℕ, zero, suc, ◌≤◌, max, true, false, List, length, replicate, Option, Some, None, refl, ap, sym, ◌∙◌, arith, subst, ⊎_elim, get_or}
+use Rattle.std.proofs.Common.{◌≡◌, ℕ, zero, suc, ◌≤◌, max, true, false, List, length, replicate, Option, Some, None, refl, ap, sym, ◌∙◌}
+use Rattle.std.proofs.Common.{arith, subst, ⊎_elim, get_or}
 use Rattle.std.specs.Prelude.{filter, slice_get, slice_index}
 use Rattle.std.proofs.lemmas.Bool.{true≢false}
 use Rattle.std.proofs.lemmas.List.{length-replicate, length-map}
@@ -38,7 +39,8 @@ pruned-shown u w es =
     let o = versions es in
     let put : List Version → Kept = λ v. record { versions = v; held = waiting es } in
     ⊎_elim
-    (λ h. let m : max u w ≡ w = omega arith in ap put (kept_from-more u w o (omega arith) (in_order-sort version_cmp version-orders vs) ∙ ap (λ n. kept_from n o) (sym m)))
+    (λ h. let m : max u w ≡ w = omega arith in ap put (kept_from-more u w o (omega arith) (in_order-sort version_cmp version-orders vs)
+    ∙ ap (λ n. kept_from n o) (sym m)))
     (λ h. let m : max u w ≡ u = omega arith in ap put (kept_from-less u w o h ∙ ap (λ n. kept_from n o) (sym m)))
     (cases_lt u w)
 
@@ -49,11 +51,13 @@ cutoffs-keep logs x y u w s b p =
       places = s.places;
       covered = (let q : u ≤ safe_time logs x.places = s.covered in let r : w ≤ safe_time logs x.places = b in omega arith);
       floors = s.floors;
-      keys = λ k q. kept-versions (versions_at k y.versions) (kept_at x k) w (p.keys k q) ∙ ap (pruned w) (s.keys k q) ∙ pruned-shown u w (events k (path_to logs x.places k));
+      keys = λ k q. kept-versions (versions_at k y.versions) (kept_at x k) w (p.keys k q) ∙ ap (pruned w) (s.keys k q)
+          ∙ pruned-shown u w (events k (path_to logs x.places k));
       within = record { versions = p.within; held = s.within.held };
     })
   where
-    kept-versions : (vs : List Version) (x : Kept) (w : ℕ) → vs ≡ (pruned w x).versions → (let z : Kept = record { versions = vs; held = x.held } in z) ≡ pruned w x
+    kept-versions : (vs : List Version) (x : Kept) (w : ℕ) → vs ≡ (pruned w x).versions
+        → (let z : Kept = record { versions = vs; held = x.held } in z) ≡ pruned w x
     kept-versions vs x w e = ap (λ (vs : List Version). let z : Kept = record { versions = vs; held = x.held } in z) e
 
 -- ---- a new tablet
@@ -72,7 +76,9 @@ module _ (logs : Logs) (valid : is_valid logs ≡ true) where
   zero-at i = index-same (length (headers_of logs.tablets)) i 0
 
   all-open : Each (λ b. is_closed_in zeros b ≡ false) (accepted_tablets logs)
-  all-open = Each-weaker (IsOne (accepted_tablets logs)) (λ b. is_closed_in zeros b ≡ false) (λ b o. empty-open zeros b o.grown (one-unsplit (accepted_tablets logs) b o) (zero-at b.header.id)) (accepted_tablets logs) (each-one logs valid)
+  all-open = Each-weaker (IsOne (accepted_tablets logs)) (λ b. is_closed_in zeros b ≡ false)
+      (λ b o. empty-open zeros b o.grown (one-unsplit (accepted_tablets logs) b o) (zero-at b.header.id)) (accepted_tablets logs)
+      (each-one logs valid)
 
   none-closed : (p : ℕ) → is_closed logs zeros p ≡ false
   unfolding is_closed
@@ -86,8 +92,10 @@ module _ (logs : Logs) (valid : is_valid logs ≡ true) where
   unfolding zeros
   new-places = record {
     count = length-replicate (length (headers_of logs.tablets)) 0 ∙ length-map logs.tablets (λ (t : Tablet). t.header);
-    within = Each-weaker (λ b. is_closed_in zeros b ≡ false) (λ b. place zeros b ≤ length b.records) (λ b _. let q : place zeros b ≡ 0 = zero-at b.header.id in omega arith) (accepted_tablets logs) all-open;
-    starts = Each-weaker (λ b. is_closed_in zeros b ≡ false) (StartsAfter logs zeros) (λ b _ _. zero-at b.header.id) (accepted_tablets logs) all-open;
+    within = Each-weaker (λ b. is_closed_in zeros b ≡ false) (λ b. place zeros b ≤ length b.records)
+        (λ b _. let q : place zeros b ≡ 0 = zero-at b.header.id in omega arith) (accepted_tablets logs) all-open;
+    starts = Each-weaker (λ b. is_closed_in zeros b ≡ false) (StartsAfter logs zeros) (λ b _ _. zero-at b.header.id) (accepted_tablets logs)
+        all-open;
   }
 
   first-safe : (b : AcceptedTablet) → last_safe_in zeros b ≡ b.start.floor
@@ -111,10 +119,14 @@ module _ (logs : Logs) (valid : is_valid logs ≡ true) where
           (λ b h. record {
             closed = index-same (length (headers_of logs.tablets)) b.header.id false ∙ sym h.0;
             safe = λ e. zero-at b.header.id ∙ sym (first-safe b ∙ ap (λ (p : Progress). p.floor) (h.1 (started-root b.header.parent e)));
-          }) (accepted_tablets logs) (each-both (λ b. is_closed_in zeros b ≡ false) StartsRoot (accepted_tablets logs) all-open (each-root logs));
+          }) (accepted_tablets logs) (each-both (λ b. is_closed_in zeros b ≡ false) StartsRoot (accepted_tablets logs) all-open (each-root
+          logs));
     };
-    keys = λ k q. sym (ap (λ rs. shown 0 (events k rs)) (along-path logs zeros k ∙ nothing-applied zeros (filter (own (hash_of k)) (accepted_tablets logs))
-        (Each-filter (λ d. place zeros d ≡ 0) (own (hash_of k)) (accepted_tablets logs) (Each-weaker (λ b. is_closed_in zeros b ≡ false) (λ d. place zeros d ≡ 0) (λ d _. zero-at d.header.id) (accepted_tablets logs) all-open))));
+    keys = λ k q. sym (ap (λ rs. shown 0 (events k rs)) (along-path logs zeros k
+        ∙ nothing-applied zeros (filter (own (hash_of k)) (accepted_tablets logs))
+        (Each-filter (λ d. place zeros d ≡ 0) (own (hash_of k)) (accepted_tablets logs)
+        (Each-weaker (λ b. is_closed_in zeros b ≡ false) (λ d. place zeros d ≡ 0) (λ d _. zero-at d.header.id) (accepted_tablets logs)
+        all-open))));
     within = record { versions = tt; held = tt };
   }
 

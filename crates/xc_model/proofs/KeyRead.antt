@@ -13,7 +13,8 @@ use Rattle.xc_record.specs.Lists.{sort_by}
 use Rattle.xc_record.specs.Accepted.{AcceptedTablet}
 use Rattle.xc_record.specs.SafeTime.{last_safe_in, is_closed_in}
 use Rattle.xc_model.proofs.Elements.{each-front, each-back}
-use Rattle.xc_model.proofs.Along.{origin, floor_by, records_along, applied_along, Threads, LegalChain, Stops, KindAgrees, Agrees, NoStragglers}
+use Rattle.xc_model.proofs.Along.{origin, floor_by, records_along, applied_along, Threads, LegalChain, Stops, KindAgrees, Agrees}
+use Rattle.xc_model.proofs.Along.{NoStragglers}
 use Rattle.xc_model.proofs.Sorts.{filter-sort, in_order-sort}
 use Rattle.xc_model.proofs.ApplyPath.{version-orders}
 use Rattle.xc_model.proofs.Keep.{newest-kept_from}
@@ -30,7 +31,8 @@ pub goes-back : (f l : ℕ) (xs ys : List Record) → Goes f l (xs ++ ys) → Go
 goes-back f l [] ys g = g
 goes-back f l (x ∷ xs) ys g = goes-back (floor_by f x.kind) x.time xs ys g.2
 
-pub stragglers-front : (outcomes : Outcomes) (k : List ℕ) (seen xs ys : List Record) → NoStragglers outcomes k seen (xs ++ ys) → NoStragglers outcomes k seen xs
+pub stragglers-front : (outcomes : Outcomes) (k : List ℕ) (seen xs ys : List Record) → NoStragglers outcomes k seen (xs ++ ys)
+    → NoStragglers outcomes k seen xs
 stragglers-front outcomes k seen [] ys h = tt
 stragglers-front outcomes k seen (x ∷ xs) ys h = (h.0, stragglers-front outcomes k (seen ++ x ∷ []) xs ys h.1)
 
@@ -38,11 +40,13 @@ pub floor-le-last : (f l : ℕ) (xs : List Record) → f ≤ l → Goes f l xs �
 floor-le-last f l [] h g = h
 floor-le-last f l (x ∷ xs) h g = floor-le-last (floor_by f x.kind) x.time xs (floor-time f l x.time x.kind h g.0 g.1) g.2
 
-pub later-late : (outcomes : Outcomes) (t : ℕ) (k : List ℕ) (f l : ℕ) (xs : List Record) → t ≤ l → Goes f l xs → Each (Agrees outcomes) xs → Each (ComesAfter outcomes t) (events k xs)
+pub later-late : (outcomes : Outcomes) (t : ℕ) (k : List ℕ) (f l : ℕ) (xs : List Record) → t ≤ l → Goes f l xs → Each (Agrees outcomes) xs
+    → Each (ComesAfter outcomes t) (events k xs)
 later-late outcomes t k f l [] h g a = tt
 later-late outcomes t k f l (x ∷ xs) h g a =
     let first : t < x.time = let p = g.0 in omega arith in
-    Each-append (ComesAfter outcomes t) (record_events k x) (events k xs) (record-late outcomes t k x.time x.kind first a.0) (later-late outcomes t k (floor_by f x.kind) x.time xs (omega arith) g.2 a.1)
+    Each-append (ComesAfter outcomes t) (record_events k x) (events k xs) (record-late outcomes t k x.time x.kind first a.0)
+    (later-late outcomes t k (floor_by f x.kind) x.time xs (omega arith) g.2 a.1)
 
 puts-agree : (outcomes : Outcomes) (time : ℕ) (vs : List Written) → Each (AgreesAt outcomes) (map (λ v. Put time v) vs)
 puts-agree outcomes time [] = tt
@@ -52,7 +56,8 @@ holds-agree : (outcomes : Outcomes) (n sub time : ℕ) (vs : List Written) → E
 holds-agree outcomes n sub time [] = tt
 holds-agree outcomes n sub time (v ∷ vs) = (tt, holds-agree outcomes n sub time vs)
 
-kind-agrees : (outcomes : Outcomes) (k : List ℕ) (time : ℕ) (kind : Kind) → KindAgrees outcomes time kind → Each (AgreesAt outcomes) (kind_events k time kind)
+kind-agrees : (outcomes : Outcomes) (k : List ℕ) (time : ℕ) (kind : Kind) → KindAgrees outcomes time kind
+    → Each (AgreesAt outcomes) (kind_events k time kind)
 kind-agrees outcomes k time (log.Write ops) h = puts-agree outcomes time (puts k ops)
 kind-agrees outcomes k time (log.Intent n sub ops) h = holds-agree outcomes n sub time (puts k ops)
 kind-agrees outcomes k time (log.Apply n c without) h = (h, tt)
@@ -60,12 +65,17 @@ kind-agrees outcomes k time (log.Abort n) h = (h, tt)
 kind-agrees outcomes k time (log.Safe v) h = (tt, tt)
 kind-agrees outcomes k time (log.Split at left right) h = tt
 
-pub events-agree : (outcomes : Outcomes) (k : List ℕ) (xs : List Record) → Each (Agrees outcomes) xs → Each (AgreesAt outcomes) (events k xs)
+pub events-agree : (outcomes : Outcomes) (k : List ℕ) (xs : List Record) → Each (Agrees outcomes) xs
+    → Each (AgreesAt outcomes) (events k xs)
 events-agree outcomes k [] h = tt
-events-agree outcomes k (x ∷ xs) h = Each-append (AgreesAt outcomes) (record_events k x) (events k xs) (kind-agrees outcomes k x.time x.kind h.0) (events-agree outcomes k xs h.1)
+events-agree outcomes k (x ∷ xs) h =
+    Each-append (AgreesAt outcomes) (record_events k x) (events k xs) (kind-agrees outcomes k x.time x.kind h.0)
+    (events-agree outcomes k xs h.1)
 
-pub key-versions : (outcomes : Outcomes) (k : List ℕ) (t : ℕ) (ps : List ℕ) (xs : List AcceptedTablet) → Threads origin xs → Stops origin xs → LegalChain ps xs → NoStragglers outcomes k [] (records_along xs) → Each (Agrees outcomes) (records_along xs)
-    → Each (λ b. (is_closed_in ps b ≡ true) ⊎ (t ≤ last_safe_in ps b)) xs → filter (upto t) (versions_along (events k (applied_along ps xs))) ≡ filter (upto t) (committed outcomes (events k (records_along xs)))
+pub key-versions : (outcomes : Outcomes) (k : List ℕ) (t : ℕ) (ps : List ℕ) (xs : List AcceptedTablet) → Threads origin xs
+    → Stops origin xs → LegalChain ps xs → NoStragglers outcomes k [] (records_along xs) → Each (Agrees outcomes) (records_along xs)
+    → Each (λ b. (is_closed_in ps b ≡ true) ⊎ (t ≤ last_safe_in ps b)) xs
+    → filter (upto t) (versions_along (events k (applied_along ps xs))) ≡ filter (upto t) (committed outcomes (events k (records_along xs)))
 key-versions outcomes k t ps xs h e l s a c =
     let up = applied_along ps xs in
     let front = path-front ps xs l in
@@ -75,20 +85,31 @@ key-versions outcomes k t ps xs h e l s a c =
     let agree : Each (Agrees outcomes) (up ++ later) = subst (Each (Agrees outcomes)) front.1 a in
     let bound : t ≤ floor_after 0 up = covered t ps origin xs refl h e l c in
     let goes-up : Goes 0 0 up = goes-front 0 0 up later goes in
-    let cut : Cut outcomes t k up = cut-from outcomes t k 0 0 [] up (omega arith) goes-up (stragglers-front outcomes k [] up later free) (each-front (Agrees outcomes) up later agree)
+    let cut : Cut outcomes t k up =
+    cut-from outcomes t k 0 0 [] up (omega arith) goes-up (stragglers-front outcomes k [] up later free)
+    (each-front (Agrees outcomes) up later agree)
     (λ _. record { before = []; rest = []; is = refl; late = tt; free = tt }) bound in
-    let within : t ≤ last_after 0 up = let f : floor_after 0 up ≤ last_after 0 up = floor-le-last 0 0 up (omega arith) goes-up in omega arith in
-    let after = later-late outcomes t k (floor_after 0 up) (last_after 0 up) later within (goes-back 0 0 up later goes) (each-back (Agrees outcomes) up later agree) in
-    let agreed : Each (AgreesAt outcomes) (cut.before ++ cut.rest) = subst (Each (AgreesAt outcomes)) cut.is (events-agree outcomes k up (each-front (Agrees outcomes) up later agree)) in
-    let here = read-path outcomes t cut.before cut.rest (events k later) agreed cut.late (Each-append (ComesAfter outcomes t) cut.rest (events k later) cut.late after) cut.free in
+    let within : t ≤ last_after 0 up =
+    let f : floor_after 0 up ≤ last_after 0 up = floor-le-last 0 0 up (omega arith) goes-up in omega arith in
+    let after = later-late outcomes t k (floor_after 0 up) (last_after 0 up) later within (goes-back 0 0 up later goes)
+    (each-back (Agrees outcomes) up later agree) in
+    let agreed : Each (AgreesAt outcomes) (cut.before ++ cut.rest) =
+    subst (Each (AgreesAt outcomes)) cut.is (events-agree outcomes k up (each-front (Agrees outcomes) up later agree)) in
+    let here = read-path outcomes t cut.before cut.rest (events k later) agreed cut.late
+    (Each-append (ComesAfter outcomes t) cut.rest (events k later) cut.late after) cut.free in
     ap (λ w. filter (upto t) (versions_along w)) cut.is ∙ here
-    ∙ ap (λ w. filter (upto t) (committed outcomes w)) (sym (append_assoc cut.before cut.rest (events k later)) ∙ ap (λ w. w ++ events k later) (sym cut.is) ∙ sym (flat_map-append (record_events k) up later) ∙ ap (events k) (sym front.1))
+    ∙ ap (λ w. filter (upto t) (committed outcomes w)) (sym (append_assoc cut.before cut.rest (events k later))
+    ∙ ap (λ w. w ++ events k later) (sym cut.is) ∙ sym (flat_map-append (record_events k) up later) ∙ ap (events k) (sym front.1))
 
 -- and so is what a tablet with a cutoff shows
-pub key-read : (outcomes : Outcomes) (k : List ℕ) (u t : ℕ) (ps : List ℕ) (xs : List AcceptedTablet) → Threads origin xs → Stops origin xs → LegalChain ps xs → NoStragglers outcomes k [] (records_along xs) → Each (Agrees outcomes) (records_along xs)
+pub key-read : (outcomes : Outcomes) (k : List ℕ) (u t : ℕ) (ps : List ℕ) (xs : List AcceptedTablet) → Threads origin xs → Stops origin xs
+    → LegalChain ps xs → NoStragglers outcomes k [] (records_along xs) → Each (Agrees outcomes) (records_along xs)
     → Each (λ b. (is_closed_in ps b ≡ true) ⊎ (t ≤ last_safe_in ps b)) xs → u ≤ t
-    → newest t (kept_from u (versions (events k (applied_along ps xs)))) ≡ newest t (sort_by version_cmp (committed outcomes (events k (records_along xs))))
+    → newest t (kept_from u (versions (events k (applied_along ps xs)))) ≡ newest t
+    (sort_by version_cmp (committed outcomes (events k (records_along xs))))
 key-read outcomes k u t ps xs h e l s a c b =
     let vs = versions_along (events k (applied_along ps xs)) in
     newest-kept_from u t (sort_by version_cmp vs) b (in_order-sort version_cmp version-orders vs)
-    ∙ ap (λ w. last_of w) (filter-sort version_cmp version-orders (upto t) vs ∙ ap (sort_by version_cmp) (key-versions outcomes k t ps xs h e l s a c) ∙ sym (filter-sort version_cmp version-orders (upto t) (committed outcomes (events k (records_along xs)))))
+    ∙ ap (λ w. last_of w) (filter-sort version_cmp version-orders (upto t) vs
+    ∙ ap (sort_by version_cmp) (key-versions outcomes k t ps xs h e l s a c)
+    ∙ sym (filter-sort version_cmp version-orders (upto t) (committed outcomes (events k (records_along xs)))))

@@ -1,5 +1,6 @@
 -- What each line says of the session.
-use Rattle.std.proofs.Common.{◌≡◌, ℕ, zero, suc, ◌+◌, ◌<◌, ◌≤◌, max, Bool, true, false, List, [], ◌∷◌, map, length, Option, Some, None, refl, ap, sym, arith}
+use Rattle.std.proofs.Common.{◌≡◌, ℕ, zero, suc, ◌+◌, ◌<◌, ◌≤◌, max, Bool, true, false, List, [], ◌∷◌, map, length, Option, Some, None}
+use Rattle.std.proofs.Common.{refl, ap, sym, arith}
 use Rattle.std.specs.Prelude.{nat_lt, slice_get, slice_set, if◌then◌else◌, option_and_then}
 use Rattle.std.specs.Option.{option_map_or, option_map}
 use Rattle.std.specs.List.{filter_map, cons_option}
@@ -17,7 +18,8 @@ use Rattle.xc_record.specs.declared.session.PollAnswer.TheVariants as poll
 use Rattle.xc_record.specs.Accepted.{AcceptedTablet, accepted_tablets, accepted_tablet, records, halt_from, halt_of, halt}
 use Rattle.xc_record.specs.Rows.{rows, row}
 use Rattle.xc_record.specs.Session.{Position, Session, new_position, position, places_of, safe_now, IsSession}
-use Rattle.xc_record.specs.Step.{poll_answer, with_position, moved, set_back, acknowledge, poll_step, stop_step, drained, read_at_line, prune_step, open_step, refuses, is_change, step}
+use Rattle.xc_record.specs.Step.{poll_answer, with_position, moved, set_back, acknowledge, poll_step, stop_step, drained, read_at_line}
+use Rattle.xc_record.specs.Step.{prune_step, open_step, refuses, is_change, step}
 use Rattle.xc_record.proofs.ListLaws.{Each}
 use Rattle.xc_model.specs.Lines.{Says, is_reached}
 use Rattle.xc_model.specs.Laws.{CutoffsRise, StopsKeepPlaces, LinesNameSessions}
@@ -44,7 +46,9 @@ stop-cutoff m s (poll.Halted number kind) = omega arith
 prune-cutoff : (logs : Logs) (m : Session) (u : ℕ) → m.cutoff ≤ (prune_step logs m u).0.cutoff
 prune-cutoff logs m u = go (nat_lt (safe_now logs m) u)
   where
-    go : (b : Bool) → m.cutoff ≤ (either {A = Session × List Line} b (m, line.Ahead u (safe_now logs m) ∷ []) (record m { cutoff = max m.cutoff u }, line.Prune (max m.cutoff u) ∷ [])).0.cutoff
+    go : (b : Bool)
+        → m.cutoff ≤ (either {A = Session × List Line} b (m, line.Ahead u (safe_now logs m) ∷ [])
+        (record m { cutoff = max m.cutoff u }, line.Prune (max m.cutoff u) ∷ [])).0.cutoff
     go true = omega arith
     go false = omega arith
 
@@ -67,7 +71,8 @@ pub cutoffs-rise : CutoffsRise
 unfolding step
 cutoffs-rise logs m c = go (refuses m c)
   where
-    go : (o : Option ℕ) → m.cutoff ≤ (option_map_or {T = ℕ} {U = Session × List Line} (λ t. (m, line.Closed t ∷ [])) o (open_step logs m c)).0.cutoff
+    go : (o : Option ℕ)
+        → m.cutoff ≤ (option_map_or {T = ℕ} {U = Session × List Line} (λ t. (m, line.Closed t ∷ [])) o (open_step logs m c)).0.cutoff
     go None = open-cutoff logs m c
     go (Some t) = omega arith
 
@@ -81,11 +86,15 @@ pub stops-keep : StopsKeepPlaces
 unfolding step open_step
 stops-keep logs m s n last = (stop m.closed, restart m.closed)
   where
-    stop : (o : Option ℕ) → places_of (option_map_or {T = ℕ} {U = Session × List Line} (λ t. (m, line.Closed t ∷ [])) o (stop_step m s (poll_answer logs m s n))).0 ≡ places_of m
+    stop : (o : Option ℕ)
+        → places_of (option_map_or {T = ℕ} {U = Session × List Line} (λ t. (m, line.Closed t ∷ [])) o
+        (stop_step m s (poll_answer logs m s n))).0 ≡ places_of m
     stop None = stop-places m s (poll_answer logs m s n)
     stop (Some t) = refl
 
-    restart : (o : Option ℕ) → places_of (option_map_or {T = ℕ} {U = Session × List Line} (λ t. (m, line.Closed t ∷ [])) o (with_position s (set_back (position m s)) m, line.Restart s (position m s).acknowledged ∷ [])).0 ≡ places_of m
+    restart : (o : Option ℕ)
+        → places_of (option_map_or {T = ℕ} {U = Session × List Line} (λ t. (m, line.Closed t ∷ [])) o
+        (with_position s (set_back (position m s)) m, line.Restart s (position m s).acknowledged ∷ [])).0 ≡ places_of m
     restart None = places-same m s (set_back (position m s)) refl
     restart (Some t) = refl
 
@@ -100,7 +109,8 @@ position-in (q ∷ ps) zero p h = refl
 position-in (q ∷ ps) (suc s) p h = position-in ps s p (omega arith)
 
 -- past the last one too, where f leaves a new position as it is
-position-by : (f : Position → Position) (ps : List Position) (s : ℕ) → f new_position ≡ new_position → at (slice_set ps s (f (at ps s))) s ≡ f (at ps s)
+position-by : (f : Position → Position) (ps : List Position) (s : ℕ) → f new_position ≡ new_position
+    → at (slice_set ps s (f (at ps s))) s ≡ f (at ps s)
 position-by f [] s e = sym e
 position-by f (q ∷ ps) zero e = refl
 position-by f (q ∷ ps) (suc s) e = position-by f ps s e
@@ -122,12 +132,14 @@ halts-reached logs s found e = go (accepted_tablet logs s) e
     by-reached true o w = refl
     by-reached false o w = cc
 
-    go : (o : Option AcceptedTablet) → option_and_then (λ b. halt_of b (records logs s)) o ≡ Some found → option_map_or (λ (b : AcceptedTablet). b.reached) o false ≡ true
+    go : (o : Option AcceptedTablet) → option_and_then (λ b. halt_of b (records logs s)) o ≡ Some found
+        → option_map_or (λ (b : AcceptedTablet). b.reached) o false ≡ true
     go None w = cc
     go (Some b) w = by-reached b.reached (halt_from b.start 1 (records logs s)) w
 
 module _ (logs : Logs) (m : Session) (st : IsSession logs m) where
-  moved-cursor : (s n k : ℕ) → WasPolled logs m s n k → (position (with_position s (moved k (position m s)) m) s).cursor ≡ (position m s).cursor + k
+  moved-cursor : (s n k : ℕ) → WasPolled logs m s n k
+      → (position (with_position s (moved k (position m s)) m) s).cursor ≡ (position m s).cursor + k
   moved-cursor s n k w =
       let a : s < length (accepted_tablets logs) = slice_get_within (accepted_tablets logs) s w.tablet w.there in
       let b = length-logs logs in
@@ -167,16 +179,21 @@ module _ (logs : Logs) (m : Session) (st : IsSession logs m) where
   read-line u key = go (nat_lt (safe_now logs m) u) refl (nat_lt u m.cutoff) refl
     where
       go : (a : Bool) → nat_lt (safe_now logs m) u ≡ a → (b : Bool) → nat_lt u m.cutoff ≡ b
-          → Each (Says logs m m) ((if a then line.Ahead u (safe_now logs m) else (if b then line.Pruned u m.cutoff else line.ReadAt u key (row logs u key))) ∷ [])
+          → Each (Says logs m m)
+          ((if a then line.Ahead u (safe_now logs m) else (if b then line.Pruned u m.cutoff else line.ReadAt u key (row logs u key))) ∷ [])
       go true e b f = ((refl, (let w : safe_now logs m < u = grind (arith, nat_tests) in w)), tt)
       go false e true f = ((refl, (let w : u < m.cutoff = grind (arith, nat_tests) in w)), tt)
-      go false e false f = (((let w : m.cutoff ≤ u = grind (arith, nat_tests) in w), ((let w : u ≤ safe_now logs m = grind (arith, nat_tests) in w), refl)), tt)
+      go false e false f = (
+        ((let w : m.cutoff ≤ u = grind (arith, nat_tests) in w), ((let w : u ≤ safe_now logs m = grind (arith, nat_tests) in w), refl)),
+        tt,
+      )
 
   prune-line : (u : ℕ) → Each (Says logs m (prune_step logs m u).0) (prune_step logs m u).1
   prune-line u = go (nat_lt (safe_now logs m) u) refl
     where
       go : (b : Bool) → nat_lt (safe_now logs m) u ≡ b
-          → (let x = either {A = Session × List Line} b (m, line.Ahead u (safe_now logs m) ∷ []) (record m { cutoff = max m.cutoff u }, line.Prune (max m.cutoff u) ∷ []) in Each (Says logs m x.0) x.1)
+          → (let x = either {A = Session × List Line} b (m, line.Ahead u (safe_now logs m) ∷ [])
+          (record m { cutoff = max m.cutoff u }, line.Prune (max m.cutoff u) ∷ []) in Each (Says logs m x.0) x.1)
       go true e = ((refl, (let w : safe_now logs m < u = grind (arith, nat_tests) in w)), tt)
       go false e = (refl, tt)
 
@@ -193,7 +210,8 @@ module _ (logs : Logs) (m : Session) (st : IsSession logs m) where
   open-lines command.Scan = ((refl, refl), rows-say m (rows logs (safe_now logs m)))
   open-lines (command.Prune u) = prune-line u
   open-lines command.Failover = ((refl, refl), rows-say (record m { closed = Some (safe_now logs m) }) (rows logs (safe_now logs m)))
-  open-lines command.Report = (record { acks_are = refl; closed_is = refl; cursors_are = refl; cutoff_is = refl; places_are = refl; safe_is = refl }, tt)
+  open-lines command.Report =
+      (record { acks_are = refl; closed_is = refl; cursors_are = refl; cutoff_is = refl; places_are = refl; safe_is = refl }, tt)
 
 -- where a command is refused, the session is closed
 refused-closed : (m : Session) (t : ℕ) (b : Bool) → (if b then m.closed else None) ≡ Some t → m.closed ≡ Some t
@@ -204,6 +222,8 @@ pub lines-name : LinesNameSessions
 unfolding step
 lines-name logs m c st = go (refuses m c) refl
   where
-    go : (o : Option ℕ) → refuses m c ≡ o → (let x = option_map_or {T = ℕ} {U = Session × List Line} (λ t. (m, line.Closed t ∷ [])) o (open_step logs m c) in Each (Says logs m x.0) x.1)
+    go : (o : Option ℕ) → refuses m c ≡ o
+        → (let x = option_map_or {T = ℕ} {U = Session × List Line} (λ t. (m, line.Closed t ∷ [])) o (open_step logs m c) in Each
+        (Says logs m x.0) x.1)
     go None e = open-lines logs m st c
     go (Some t) e = ((refused-closed m t (is_change c) e, refl), tt)

@@ -1,7 +1,8 @@
 -- Where no disagreement is found, no case stands at any key: the keys of a transaction's own operations are enough.
 use Rattle.xc_record.specs.Lists.{first_some, or_else}
 use Rattle.std.specs.Option.{option_map_or, option_map}
-use Rattle.std.proofs.Common.{◌≡◌, ◌≢◌, ℕ, Bool, true, false, cond, List, [], ◌∷◌, ◌++◌, Option, Some, None, refl, ap, sym, ◌∙◌, subst, append_assoc, append-nil, ◌⊎◌, inl, inr, ⊎_elim}
+use Rattle.std.proofs.Common.{◌≡◌, ◌≢◌, ℕ, Bool, true, false, cond, List, [], ◌∷◌, ◌++◌, Option, Some, None, refl, ap, sym, ◌∙◌, subst}
+use Rattle.std.proofs.Common.{append_assoc, append-nil, ◌⊎◌, inl, inr, ⊎_elim}
 use Rattle.std.specs.Prelude.{filter, flat_map, ◌==◌, ◌&&◌, ◌||◌, if◌then◌else◌, map, bytes_eq}
 use Rattle.std.specs.List.{list_any}
 use Rattle.std.proofs.lemmas.Bool.{cases_Bool, cases_eq, eq-eqb, ne_eqb, true≢false, and_right}
@@ -14,10 +15,12 @@ use Rattle.xc_record.specs.declared.record.Record.{Record}
 use Rattle.xc_record.specs.declared.record.Logs.{Logs}
 use Rattle.xc_record.specs.Hash.{hash_of, holds}
 use Rattle.xc_record.specs.Accepted.{AcceptedTablet, accepted_tablets}
-use Rattle.xc_record.specs.Path.{Written, Event, Hold, Put, Fate, Waits, Taken, RolledBack, Dropped, fate, Waiting, waiting, waiting_by, events, kind_events, puts}
+use Rattle.xc_record.specs.Path.{Written, Event, Hold, Put, Fate, Waits, Taken, RolledBack, Dropped, fate, Waiting, waiting, waiting_by}
+use Rattle.xc_record.specs.Path.{events, kind_events, puts}
 use Rattle.xc_record.specs.Commits.{commit_of, undone, applied, provisional_ops}
 use Rattle.xc_record.specs.Valid.{is_valid}
-use Rattle.xc_record.specs.Agreement.{Disagreement, disagreement_on, commit_differs, rollback_differs, late_intent, aborted, straggler, kind_at, disagreement, path_above, straggles_at, HasNoCase, Agrees}
+use Rattle.xc_record.specs.Agreement.{Disagreement, disagreement_on, commit_differs, rollback_differs, late_intent, aborted, straggler}
+use Rattle.xc_record.specs.Agreement.{kind_at, disagreement, path_above, straggles_at, HasNoCase, Agrees}
 use Rattle.xc_record.proofs.HeaderLaws.{Numbered}
 use Rattle.xc_record.proofs.AgreementLaws.{agrees}
 use Rattle.xc_model.proofs.StableSort.{Each, Exists}
@@ -34,33 +37,43 @@ use Rattle.xc_record.proofs.ListLaws.{Each-append, Each-weaker, none-cases}
 pub sound-logs : (logs : Logs) (k : List ℕ) → is_valid logs ≡ true → Sound (accepted_tablets logs) k
 sound-logs logs k valid =
     let v = rules-suffice logs valid in
-    record { away = v.away k; numbered = v.numbered; goes = path-goes origin (filter (own (hash_of k)) (accepted_tablets logs)) (chained logs (hash_of k) valid).threads }
+    record {
+      away = v.away k;
+      numbered = v.numbered;
+      goes = path-goes origin (filter (own (hash_of k)) (accepted_tablets logs))
+          (chained logs (hash_of k) valid).threads;
+    }
 
 -- ---- nothing of n waits where its intents say nothing of the key
 
 abbrev none_of : ℕ → List Waiting → Bool
 none_of n hs = list_any (λ w. w.txn == n) hs
 
-waits-other : (n m sub : ℕ) (v : Written) (f : Fate) (hs : List Waiting) → m ≢ n → none_of n hs ≡ false → none_of n (waiting_by f m sub v ++ hs) ≡ false
+waits-other : (n m sub : ℕ) (v : Written) (f : Fate) (hs : List Waiting) → m ≢ n → none_of n hs ≡ false
+    → none_of n (waiting_by f m sub v ++ hs) ≡ false
 waits-other n m sub v Waits hs d e = ap (λ b. b || none_of n hs) (ne_eqb m n d) ∙ e
 waits-other n m sub v (Taken c) hs d e = e
 waits-other n m sub v RolledBack hs d e = e
 waits-other n m sub v Dropped hs d e = e
 
-holds-other : (n m sub time : ℕ) (vs : List Written) (es : List Event) → m ≢ n → none_of n (waiting es) ≡ false → none_of n (waiting (map (λ v. Hold m sub time v) vs ++ es)) ≡ false
+holds-other : (n m sub time : ℕ) (vs : List Written) (es : List Event) → m ≢ n → none_of n (waiting es) ≡ false
+    → none_of n (waiting (map (λ v. Hold m sub time v) vs ++ es)) ≡ false
 holds-other n m sub time [] es d e = e
 holds-other n m sub time (v ∷ vs) es d e =
     let rest = map (λ v. Hold m sub time v) vs ++ es in
     waits-other n m sub v (fate m sub rest) (waiting rest) d (holds-other n m sub time vs es d e)
 
-puts-none : (n time : ℕ) (vs : List Written) (es : List Event) → none_of n (waiting es) ≡ false → none_of n (waiting (map (λ v. Put time v) vs ++ es)) ≡ false
+puts-none : (n time : ℕ) (vs : List Written) (es : List Event) → none_of n (waiting es) ≡ false
+    → none_of n (waiting (map (λ v. Put time v) vs ++ es)) ≡ false
 puts-none n time [] es e = e
 puts-none n time (v ∷ vs) es e = puts-none n time vs es e
 
-kind-none : (n : ℕ) (k : List ℕ) (time : ℕ) (kind : Kind) (es : List Event) → kind_lefts k n [] kind ≡ [] → none_of n (waiting es) ≡ false → none_of n (waiting (kind_events k time kind ++ es)) ≡ false
+kind-none : (n : ℕ) (k : List ℕ) (time : ℕ) (kind : Kind) (es : List Event) → kind_lefts k n [] kind ≡ [] → none_of n (waiting es) ≡ false
+    → none_of n (waiting (kind_events k time kind ++ es)) ≡ false
 kind-none n k time (log.Write ops) es h e = puts-none n time (puts k ops) es e
 kind-none n k time (log.Intent m sub ops) es h e =
-    ⊎_elim (λ q. let none : puts k ops ≡ [] = sym (ap (λ b. cond b (puts k ops) []) (eq-eqb m n q)) ∙ h in subst (λ vs. none_of n (waiting (map (λ v. Hold m sub time v) vs ++ es)) ≡ false) (sym none) e)
+    ⊎_elim (λ q. let none : puts k ops ≡ [] = sym (ap (λ b. cond b (puts k ops) []) (eq-eqb m n q))
+    ∙ h in subst (λ vs. none_of n (waiting (map (λ v. Hold m sub time v) vs ++ es)) ≡ false) (sym none) e)
     (λ d. holds-other n m sub time (puts k ops) es d e) (cases_eq m n)
 kind-none n k time (log.Apply m c without) es h e = e
 kind-none n k time (log.Abort m) es h e = e
@@ -74,7 +87,8 @@ none-waits : (n : ℕ) (k : List ℕ) (rs : List Record) → Each (Silent n k) r
 none-waits n k [] h = refl
 none-waits n k (r ∷ rs) h = kind-none n k r.time r.kind (events k rs) h.0 (none-waits n k rs h.1)
 
-none-straggles : (n c : ℕ) (k : List ℕ) (before rs : List Record) → Each (Silent n k) before → Each (Silent n k) rs → straggles_at n c k before rs ≡ false
+none-straggles : (n c : ℕ) (k : List ℕ) (before rs : List Record) → Each (Silent n k) before → Each (Silent n k) rs
+    → straggles_at n c k before rs ≡ false
 none-straggles n c k before [] h g = refl
 none-straggles n c k before (r ∷ rs) h g =
     ap (λ b. if b then true else straggles_at n c k (before ++ r ∷ []) rs) (and_right _ _ (none-waits n k before h))
@@ -95,14 +109,17 @@ key-among : (k : List ℕ) (ops : List Op) → Exists (λ op. k ≡ op.key) ops 
 key-among k [] = inr refl
 key-among k (op ∷ ops) =
     ⊎_elim (λ t. inl (inl ((bytes_eq-Decides k op.key).0 t)))
-    (λ f. ⊎_elim (λ i. inl (inr i)) (λ n. inr (ap (λ b. cond b (op.value ∷ puts k ops) (puts k ops)) f ∙ n)) (key-among k ops)) (cases_Bool (bytes_eq k op.key))
+    (λ f. ⊎_elim (λ i. inl (inr i)) (λ n. inr (ap (λ b. cond b (op.value ∷ puts k ops) (puts k ops)) f
+    ∙ n)) (key-among k ops)) (cases_Bool (bytes_eq k op.key))
 
 abbrev straggles_on : Logs → ℕ → ℕ → AcceptedTablet → List ℕ → Bool
 straggles_on logs n c b k = holds b.header (hash_of k) && straggles_at n c k (path_above (accepted_tablets logs) b k) b.records
 
-found-key : (logs : Logs) (n c : ℕ) (b : AcceptedTablet) (k : List ℕ) (ops : List Op) → Each (λ op. straggles_on logs n c b op.key ≡ false) ops → Exists (λ op. k ≡ op.key) ops → straggles_on logs n c b k ≡ false
+found-key : (logs : Logs) (n c : ℕ) (b : AcceptedTablet) (k : List ℕ) (ops : List Op)
+    → Each (λ op. straggles_on logs n c b op.key ≡ false) ops → Exists (λ op. k ≡ op.key) ops → straggles_on logs n c b k ≡ false
 found-key logs n c b k [] h i = absurd i
-found-key logs n c b k (op ∷ ops) h i = ⊎_elim (λ e. subst (λ q. straggles_on logs n c b q ≡ false) (sym e) h.0) (λ r. found-key logs n c b k ops h.1 r) i
+found-key logs n c b k (op ∷ ops) h i =
+    ⊎_elim (λ e. subst (λ q. straggles_on logs n c b q ≡ false) (sym e) h.0) (λ r. found-key logs n c b k ops h.1 r) i
 
 held-out : (a b : Bool) → a ≡ true → (a && b) ≡ false → b ≡ false
 held-out true b t e = e
@@ -112,20 +129,34 @@ held-out false b t e = cc
 abbrev Free : Logs → ℕ → ℕ → List ℕ → AcceptedTablet → Type 0
 Free logs n c k b = holds b.header (hash_of k) ≡ true → straggles_at n c k (path_above (accepted_tablets logs) b k) b.records ≡ false
 
-silent-free : (logs : Logs) (n c : ℕ) (k : List ℕ) (before after : List AcceptedTablet) → Numbered 0 (heads (accepted_tablets logs)) → accepted_tablets logs ≡ before ++ after → Each (Silent n k) (path_of (hash_of k) before) → Each (Silent n k) (path_of (hash_of k) after) → Each (Free logs n c k) after
+silent-free : (logs : Logs) (n c : ℕ) (k : List ℕ) (before after : List AcceptedTablet) → Numbered 0 (heads (accepted_tablets logs))
+    → accepted_tablets logs ≡ before ++ after → Each (Silent n k) (path_of (hash_of k) before)
+    → Each (Silent n k) (path_of (hash_of k) after) → Each (Free logs n c k) after
 silent-free logs n c k before [] m s h g = tt
 silent-free logs n c k before (b ∷ after) m s h g =
     let q = hash_of k in
-    let above : path_above (accepted_tablets logs) b k ≡ path_of q before = ap (λ w. path_above w b k) s ∙ above-before k before b after (subst (λ w. Numbered 0 (heads w)) s m) in
-    let at : (o : Bool) → owns q b.header ≡ o → Each (Silent n k) (flat_map (λ (w : AcceptedTablet). w.records) (cond o (b ∷ filter (λ w. owns q w.header) after) (filter (λ w. owns q w.header) after))) → (o ≡ true → Each (Silent n k) b.records) × Each (Silent n k) (path_of q after) =
-    λ o. elim o as (λ o. owns q b.header ≡ o → Each (Silent n k) (flat_map (λ (w : AcceptedTablet). w.records) (cond o (b ∷ filter (λ w. owns q w.header) after) (filter (λ w. owns q w.header) after))) → (o ≡ true → Each (Silent n k) b.records) × Each (Silent n k) (path_of q after)) [
+    let above : path_above (accepted_tablets logs) b k ≡ path_of q before =
+    ap (λ w. path_above w b k) s ∙ above-before k before b after (subst (λ w. Numbered 0 (heads w)) s m) in
+    let at : (o : Bool) → owns q b.header ≡ o
+    → Each (Silent n k)
+    (flat_map (λ (w : AcceptedTablet). w.records)
+    (cond o (b ∷ filter (λ w. owns q w.header) after) (filter (λ w. owns q w.header) after))) → (o ≡ true
+    → Each (Silent n k) b.records) × Each (Silent n k) (path_of q after) =
+    λ o. elim o as
+    (λ o. owns q b.header ≡ o → Each (Silent n k)
+    (flat_map (λ (w : AcceptedTablet). w.records)
+    (cond o (b ∷ filter (λ w. owns q w.header) after) (filter (λ w. owns q w.header) after))) → (o ≡ true
+    → Each (Silent n k) b.records) × Each (Silent n k) (path_of q after)) [
       | true ↦ λ e w. ((λ _. each-front (Silent n k) b.records (path_of q after) w), each-rest b.records (path_of q after) w)
       | false ↦ λ e w. ((λ z. absurd (true≢false (sym z))), w)
     ]
     in
     let parts = at (owns q b.header) refl g in
-    let more : Each (Silent n k) (path_of q (before ++ b ∷ [])) = subst (Each (Silent n k)) (sym (path-of-append q before (b ∷ []))) (Each-append (Silent n k) (path_of q before) (path_of q (b ∷ [])) h (one (owns q b.header) parts.0)) in (
-      (λ o. subst (λ w. straggles_at n c k w b.records ≡ false) (sym above) (none-straggles n c k (path_of q before) b.records h (parts.0 o))),
+    let more : Each (Silent n k) (path_of q (before ++ b ∷ [])) =
+    subst (Each (Silent n k)) (sym (path-of-append q before (b ∷ [])))
+    (Each-append (Silent n k) (path_of q before) (path_of q (b ∷ [])) h (one (owns q b.header) parts.0)) in (
+      (λ o. subst (λ w. straggles_at n c k w b.records ≡ false) (sym above)
+          (none-straggles n c k (path_of q before) b.records h (parts.0 o))),
       silent-free logs n c k (before ++ b ∷ []) after m (s ∙ sym (append_assoc before (b ∷ []) after)) more parts.1,
     )
   where
@@ -133,15 +164,19 @@ silent-free logs n c k before (b ∷ after) m s h g =
     each-rest [] ys w = w
     each-rest (x ∷ xs) ys w = each-rest xs ys w.1
 
-    one : (o : Bool) → (o ≡ true → Each (Silent n k) b.records) → Each (Silent n k) (flat_map (λ (w : AcceptedTablet). w.records) (cond o (b ∷ []) []))
+    one : (o : Bool) → (o ≡ true → Each (Silent n k) b.records)
+        → Each (Silent n k) (flat_map (λ (w : AcceptedTablet). w.records) (cond o (b ∷ []) []))
     one true f = subst (Each (Silent n k)) (sym (append-nil b.records)) (f refl)
     one false f = tt
 
-key-free : (logs : Logs) (n c : ℕ) (k : List ℕ) → is_valid logs ≡ true → puts k (provisional_ops logs n) ≡ [] → Each (Free logs n c k) (accepted_tablets logs)
+key-free : (logs : Logs) (n c : ℕ) (k : List ℕ) → is_valid logs ≡ true → puts k (provisional_ops logs n) ≡ []
+    → Each (Free logs n c k) (accepted_tablets logs)
 key-free logs n c k valid e =
     let es = accepted_tablets logs in
     let m = each-numbered logs valid in
-    let silent : Each (Silent n k) (path_of (hash_of k) es) = each-nil (λ (r : Record). kind_lefts k n [] r.kind) (path_of (hash_of k) es) (sym (provisional-lefts logs k n m (sound-logs logs k valid)) ∙ e) in
+    let silent : Each (Silent n k) (path_of (hash_of k) es) =
+    each-nil (λ (r : Record). kind_lefts k n [] r.kind) (path_of (hash_of k) es)
+    (sym (provisional-lefts logs k n m (sound-logs logs k valid)) ∙ e) in
     silent-free logs n c k [] es m refl tt silent
 
 -- ---- all tests
@@ -164,11 +199,14 @@ tests-false logs n c b e =
     let five = none-cases _ _ _ four.1 in
     record { same_commit = one.0; same_rollback = two.0; early_intents = three.0; no_abort = four.0; no_straggler = five.0 }
 
-straggler-keys : (logs : Logs) (n c : ℕ) (b : AcceptedTablet) → straggler logs n c b ≡ false → Each (λ op. straggles_on logs n c b op.key ≡ false) (provisional_ops logs n)
+straggler-keys : (logs : Logs) (n c : ℕ) (b : AcceptedTablet) → straggler logs n c b ≡ false
+    → Each (λ op. straggles_on logs n c b op.key ≡ false) (provisional_ops logs n)
 unfolding straggler
 straggler-keys logs n c b e = any-none (λ (op : Op). straggles_on logs n c b op.key) (provisional_ops logs n) e
 
-no-cases : (logs : Logs) (n c : ℕ) (bs : List AcceptedTablet) → ((k : List ℕ) → puts k (provisional_ops logs n) ≡ [] → Each (Free logs n c k) bs) → Each (λ b. kind_at logs n c b ≡ None) bs → Each (HasNoCase logs n c) bs
+no-cases : (logs : Logs) (n c : ℕ) (bs : List AcceptedTablet)
+    → ((k : List ℕ) → puts k (provisional_ops logs n) ≡ [] → Each (Free logs n c k) bs) → Each (λ b. kind_at logs n c b ≡ None) bs
+    → Each (HasNoCase logs n c) bs
 no-cases logs n c [] f h = tt
 no-cases logs n c (b ∷ bs) f h =
     let tests = tests-false logs n c b h.0 in
@@ -178,14 +216,17 @@ no-cases logs n c (b ∷ bs) f h =
         same_rollback = tests.same_rollback;
         early_intents = tests.early_intents;
         no_abort = tests.no_abort;
-        no_straggler = λ k o. ⊎_elim (λ i. held-out (holds b.header (hash_of k)) _ o (found-key logs n c b k (provisional_ops logs n) keys i)) (λ e. (f k e).0 o) (key-among k (provisional_ops logs n));
+        no_straggler =
+            λ k o. ⊎_elim (λ i. held-out (holds b.header (hash_of k)) _ o (found-key logs n c b k (provisional_ops logs n) keys i))
+            (λ e. (f k e).0 o) (key-among k (provisional_ops logs n));
       },
       no-cases logs n c bs (λ k e. (f k e).1) h.1,
     )
 
 -- logs in which no disagreement is found agree
 pub no-disagreement : (logs : Logs) → is_valid logs ≡ true → disagreement logs ≡ None → Agrees logs
-no-disagreement logs valid e = record { no_case = λ n c q. no-cases logs n c (accepted_tablets logs) (λ k z. key-free logs n c k valid z) (agrees logs n c e q) }
+no-disagreement logs valid e =
+    record { no_case = λ n c q. no-cases logs n c (accepted_tablets logs) (λ k z. key-free logs n c k valid z) (agrees logs n c e q) }
 
 -- ---- and back
 
@@ -199,7 +240,14 @@ none-any p (x ∷ xs) f = ap (λ b. b || list_any p xs) (f x) ∙ none-any p xs 
 
 no-kind : (logs : Logs) (n c : ℕ) (b : AcceptedTablet) → HasNoCase logs n c b → kind_at logs n c b ≡ None
 unfolding kind_at straggler
-no-kind logs n c b h = all-first _ _ _ h.same_commit (all-first _ _ _ h.same_rollback (all-first _ _ _ h.early_intents (all-first _ _ _ h.no_abort (all-first _ _ _ (none-any (λ (op : Op). straggles_on logs n c b op.key) (provisional_ops logs n) (λ op. off (holds b.header (hash_of op.key)) _ (h.no_straggler op.key))) refl))))
+no-kind logs n c b h =
+    all-first _ _ _ h.same_commit
+    (all-first _ _ _ h.same_rollback
+    (all-first _ _ _ h.early_intents
+    (all-first _ _ _ h.no_abort
+    (all-first _ _ _
+    (none-any (λ (op : Op). straggles_on logs n c b op.key) (provisional_ops logs n)
+    (λ op. off (holds b.header (hash_of op.key)) _ (h.no_straggler op.key))) refl))))
   where
     off : (a d : Bool) → (a ≡ true → d ≡ false) → (a && d) ≡ false
     off true d f = f refl
@@ -215,9 +263,16 @@ every P (x ∷ xs) f = (f x, every P xs f)
 
 pub agrees-found : (logs : Logs) → Agrees logs → disagreement logs ≡ None
 unfolding disagreement disagreement_on
-agrees-found logs a = first-none (λ n. option_map_or (disagreement_on logs n) (commit_of logs n) None) (applied logs) (every _ (applied logs) (λ n. one n (commit_of logs n) refl))
+agrees-found logs a =
+    first-none (λ n. option_map_or (disagreement_on logs n) (commit_of logs n) None) (applied logs)
+    (every _ (applied logs) (λ n. one n (commit_of logs n) refl))
   where
     one : (n : ℕ) (o : Option ℕ) → commit_of logs n ≡ o → option_map_or (disagreement_on logs n) o None ≡ None
     one n None e = refl
-    one n (Some c) e = first-none (λ b. option_map {U = Disagreement} (λ kind. record { txn = n; tablet = b.header.id; kind = kind }) (kind_at logs n c b)) (accepted_tablets logs)
-        (Each-weaker (HasNoCase logs n c) (λ b. option_map {U = Disagreement} (λ kind. record { txn = n; tablet = b.header.id; kind = kind }) (kind_at logs n c b) ≡ None) (λ b h. ap (option_map {U = Disagreement} (λ kind. record { txn = n; tablet = b.header.id; kind = kind })) (no-kind logs n c b h)) (accepted_tablets logs) (a.no_case n c e))
+    one n (Some c) e =
+        first-none (λ b. option_map {U = Disagreement} (λ kind. record { txn = n; tablet = b.header.id; kind = kind }) (kind_at logs n c b))
+        (accepted_tablets logs)
+        (Each-weaker (HasNoCase logs n c)
+        (λ b. option_map {U = Disagreement} (λ kind. record { txn = n; tablet = b.header.id; kind = kind }) (kind_at logs n c b) ≡ None)
+        (λ b h. ap (option_map {U = Disagreement} (λ kind. record { txn = n; tablet = b.header.id; kind = kind }))
+        (no-kind logs n c b h)) (accepted_tablets logs) (a.no_case n c e))

@@ -1,5 +1,6 @@
 -- The rows that several tablets show, merged, are the rows of the logs.
-use Rattle.std.proofs.Common.{◌≡◌, ℕ, ◌+◌, ◌*◌, ◌%◌, ◌<◌, ◌≤◌, Bool, true, false, ◌&&◌, T, List, [], ◌∷◌, ◌++◌, map, None, refl, ap, ◌∙◌, subst, arith, inl, inr, ⊎_elim}
+use Rattle.std.proofs.Common.{◌≡◌, ℕ, ◌+◌, ◌*◌, ◌%◌, ◌<◌, ◌≤◌, Bool, true, false, ◌&&◌, T, List, [], ◌∷◌, ◌++◌, map, None, refl, ap, ◌∙◌}
+use Rattle.std.proofs.Common.{subst, arith, inl, inr, ⊎_elim}
 use Rattle.std.specs.Prelude.{flat_map, nat_le}
 use Rattle.std.specs.List.Sorted.{IsPermutation, IsSortedByKey}
 use Rattle.std.specs.Ordering.{is_lt, nat_cmp}
@@ -40,12 +41,16 @@ hash-below k = hash-from-below 0 k (omega arith)
 abbrev pub in_tablet : TargetTablet → Row → Bool
 in_tablet x r = in_range x r.0
 
-none-holds : (lo : ℕ) (xs : List TargetTablet) (r : Row) → Follows lo 65536 (map range_of xs) → hash_of r.0 < lo → Each (λ x. in_tablet x r ≡ false) xs
+none-holds : (lo : ℕ) (xs : List TargetTablet) (r : Row) → Follows lo 65536 (map range_of xs) → hash_of r.0 < lo
+    → Each (λ x. in_tablet x r ≡ false) xs
 none-holds lo [] r f b = tt
 none-holds lo (x ∷ xs) r f b =
     let low : x.lo ≡ lo = f.0 in
-    let wide : x.lo ≤ x.hi = f.1.0 in
-    ((let e : (nat_le x.lo (hash_of r.0) && nat_le (hash_of r.0) x.hi) ≡ false = grind (arith, nat_tests) in e), none-holds (x.hi + 1) xs r f.1.1 (omega arith))
+    let wide : x.lo ≤ x.hi = f.1.0 in (
+      (let e : (nat_le x.lo (hash_of r.0) && nat_le (hash_of r.0) x.hi) ≡ false = grind (arith, nat_tests) in e),
+      none-holds (x.hi + 1) xs r
+          f.1.1 (omega arith),
+    )
 
 one-holds : (lo : ℕ) (xs : List TargetTablet) (r : Row) → Follows lo 65536 (map range_of xs) → lo ≤ hash_of r.0 → PassesOne in_tablet xs r
 one-holds lo [] r f b = let h = hash-below r.0 in let e : lo ≡ 65536 = f in absurd (omega arith)
@@ -53,8 +58,16 @@ one-holds lo (x ∷ xs) r f b =
     let low : x.lo ≡ lo = f.0 in
     let wide : x.lo ≤ x.hi = f.1.0 in
     ⊎_elim
-    (λ above. inr ((let e : (nat_le x.lo (hash_of r.0) && nat_le (hash_of r.0) x.hi) ≡ false = grind (arith, nat_tests) in e), one-holds (x.hi + 1) xs r f.1.1 (omega arith)))
-    (λ here. inl ((let e : (nat_le x.lo (hash_of r.0) && nat_le (hash_of r.0) x.hi) ≡ true = grind (arith, nat_tests) in e), none-holds (x.hi + 1) xs r f.1.1 (omega arith)))
+    (λ above. inr (
+      (let e : (nat_le x.lo (hash_of r.0) && nat_le (hash_of r.0) x.hi) ≡ false = grind (arith, nat_tests) in e),
+      one-holds (x.hi + 1) xs
+          r f.1.1 (omega arith),
+    ))
+    (λ here. inl (
+      (let e : (nat_le x.lo (hash_of r.0) && nat_le (hash_of r.0) x.hi) ≡ true = grind (arith, nat_tests) in e),
+      none-holds
+          (x.hi + 1) xs r f.1.1 (omega arith),
+    ))
     (cases_lt x.hi (hash_of r.0))
 
 each-one : (xs : List TargetTablet) (rs : List Row) → IsPartition (map range_of xs) → Each (PassesOne in_tablet xs) rs
@@ -80,12 +93,19 @@ row_below r s = is_lt (row_cmp r s)
 
 each-below : (r : Row) (rs : List Row) → T (below_all (slice_cmp nat_cmp) r.0 rs) → Each (λ s. row_below r s ≡ true) rs
 each-below r [] h = tt
-each-below r (s ∷ rs) h = (true-of (row_below r s) (first-of (row_below r s) (below_all (slice_cmp nat_cmp) r.0 rs) h), each-below r rs (second-of (row_below r s) (below_all (slice_cmp nat_cmp) r.0 rs) h))
+each-below r (s ∷ rs) h = (
+  true-of (row_below r s) (first-of (row_below r s) (below_all (slice_cmp nat_cmp) r.0 rs) h),
+  each-below r rs
+      (second-of (row_below r s) (below_all (slice_cmp nat_cmp) r.0 rs) h),
+)
 
 ascends : (rs : List Row) → T (is_sorted (slice_cmp nat_cmp) rs) → Ascends row_below rs
 ascends [] h = tt
-ascends (r ∷ rs) h =
-    (each-below r rs (first-of (below_all (slice_cmp nat_cmp) r.0 rs) (is_sorted (slice_cmp nat_cmp) rs) h), ascends rs (second-of (below_all (slice_cmp nat_cmp) r.0 rs) (is_sorted (slice_cmp nat_cmp) rs) h))
+ascends (r ∷ rs) h = (
+  each-below r rs (first-of (below_all (slice_cmp nat_cmp) r.0 rs) (is_sorted (slice_cmp nat_cmp) rs) h),
+  ascends rs
+      (second-of (below_all (slice_cmp nat_cmp) r.0 rs) (is_sorted (slice_cmp nat_cmp) rs) h),
+)
 
 -- ---- the rows of all tablets
 
@@ -93,28 +113,40 @@ ascends (r ∷ rs) h =
 abbrev pub ShowsPart : ℕ → List Row → TargetTablet → Type 0
 ShowsPart t rs x = rows_shown t x ≡ where_key (slice_cmp nat_cmp) (in_range x) rs
 
-pub shown-parts : (t : ℕ) (rs : List Row) (xs : List TargetTablet) → Each (ShowsPart t rs) xs → flat_map (rows_shown t) xs ≡ parts in_tablet xs rs
+pub shown-parts : (t : ℕ) (rs : List Row) (xs : List TargetTablet) → Each (ShowsPart t rs) xs
+    → flat_map (rows_shown t) xs ≡ parts in_tablet xs rs
 shown-parts t rs [] h = refl
-shown-parts t rs (x ∷ xs) h = ap (λ w. w ++ flat_map (rows_shown t) xs) h.0 ∙ ap (λ w. where_key (slice_cmp nat_cmp) (in_range x) rs ++ w) (shown-parts t rs xs h.1)
+shown-parts t rs (x ∷ xs) h =
+    ap (λ w. w ++ flat_map (rows_shown t) xs) h.0 ∙ ap (λ w. where_key (slice_cmp nat_cmp) (in_range x) rs ++ w) (shown-parts t rs xs h.1)
 
-all-parts : (t : ℕ) (rs : List Row) (xs : List TargetTablet) → IsPartition (map range_of xs) → Each (ShowsPart t rs) xs → T (is_sorted (slice_cmp nat_cmp) rs) → all_rows t xs ≡ rs
-all-parts t rs xs p h s = ap (sort_by row_cmp) (shown-parts t rs xs h) ∙ sort-parts row_cmp (on_texts (λ (r : Row). r.0)) in_tablet xs rs (ascends rs s) (each-one xs rs p)
+all-parts : (t : ℕ) (rs : List Row) (xs : List TargetTablet) → IsPartition (map range_of xs) → Each (ShowsPart t rs) xs
+    → T (is_sorted (slice_cmp nat_cmp) rs) → all_rows t xs ≡ rs
+all-parts t rs xs p h s =
+    ap (sort_by row_cmp) (shown-parts t rs xs h)
+    ∙ sort-parts row_cmp (on_texts (λ (r : Row). r.0)) in_tablet xs rs (ascends rs s) (each-one xs rs p)
 
 -- so do they in any order that is sorted by keys, as std's sort makes one
-pub sorted-rows : (t : ℕ) (rs : List Row) (xs : List TargetTablet) (ys : List Row) → IsPartition (map range_of xs) → Each (ShowsPart t rs) xs → T (is_sorted (slice_cmp nat_cmp) rs)
+pub sorted-rows : (t : ℕ) (rs : List Row) (xs : List TargetTablet) (ys : List Row) → IsPartition (map range_of xs)
+    → Each (ShowsPart t rs) xs → T (is_sorted (slice_cmp nat_cmp) rs)
     → IsPermutation (flat_map (rows_shown t) xs) ys → IsSortedByKey (λ (r : Row). r.0) (slice_cmp nat_cmp) ys → ys ≡ rs
 sorted-rows t rs xs ys p h s q o =
     sorted-parts row_below in_tablet xs rs ys (ranks_by nat_list_cmp_total (λ (r : Row). r.0)) (ascends rs s) (each-one xs rs p)
     (subst (λ w. IsPermutation w ys) (shown-parts t rs xs h) q) o
 
-each-shows : ReadsShowLists → (logs : Logs) (u t : ℕ) (xs : List TargetTablet) → disagreement logs ≡ None → u ≤ t → Each (λ x. StandsFor logs u x × (t ≤ covers logs x)) xs → Each (ShowsPart t (rows logs t)) xs
-each-shows lists logs u t xs agree b h = Each-weaker (λ x. StandsFor logs u x × (t ≤ covers logs x)) (ShowsPart t (rows logs t)) (λ x s. lists logs x u t s.0 agree b s.1) xs h
+each-shows : ReadsShowLists → (logs : Logs) (u t : ℕ) (xs : List TargetTablet) → disagreement logs ≡ None → u ≤ t
+    → Each (λ x. StandsFor logs u x × (t ≤ covers logs x)) xs → Each (ShowsPart t (rows logs t)) xs
+each-shows lists logs u t xs agree b h =
+    Each-weaker (λ x. StandsFor logs u x × (t ≤ covers logs x)) (ShowsPart t (rows logs t)) (λ x s. lists logs x u t s.0 agree b s.1) xs h
 
-each-restored : RestoredShowRows → (logs : Logs) (u t v : ℕ) (xs : List TargetTablet) → disagreement logs ≡ None → u ≤ v → v ≤ t → Each (λ x. (y : TargetTablet) × RestoredTo logs u t y x) xs → Each (ShowsPart v (rows logs v)) xs
-each-restored shows logs u t v xs agree b c h = Each-weaker (λ x. (y : TargetTablet) × RestoredTo logs u t y x) (ShowsPart v (rows logs v)) (λ x s. (shows logs x s.0 u t v s.1 agree b c).1) xs h
+each-restored : RestoredShowRows → (logs : Logs) (u t v : ℕ) (xs : List TargetTablet) → disagreement logs ≡ None → u ≤ v → v ≤ t
+    → Each (λ x. (y : TargetTablet) × RestoredTo logs u t y x) xs → Each (ShowsPart v (rows logs v)) xs
+each-restored shows logs u t v xs agree b c h =
+    Each-weaker (λ x. (y : TargetTablet) × RestoredTo logs u t y x) (ShowsPart v (rows logs v))
+    (λ x s. (shows logs x s.0 u t v s.1 agree b c).1) xs h
 
 pub partitions-by : ReadsShowLists → PartitionsShowRows
 partitions-by lists logs xs u t agree p h b = all-parts t (rows logs t) xs p (each-shows lists logs u t xs agree b h) (rows-sorted logs t)
 
 pub restored-partitions-by : RestoredShowRows → RestoredPartitionsShowRows
-restored-partitions-by shows logs xs u t v agree p h b c = all-parts v (rows logs v) xs p (each-restored shows logs u t v xs agree b c h) (rows-sorted logs v)
+restored-partitions-by shows logs xs u t v agree p h b c =
+    all-parts v (rows logs v) xs p (each-restored shows logs u t v xs agree b c h) (rows-sorted logs v)

@@ -1,7 +1,8 @@
 -- What proofs on the events of a key speak of.
 use Rattle.std.specs.Prelude.{◌≡◌, ℕ, ◌<◌, Bool, true, false, List, [], ◌∷◌, ◌++◌, Option, Some, None, if◌then◌else◌}
 use Rattle.xc_record.specs.Lists.{has}
-use Rattle.xc_record.specs.Path.{Event, Put, Hold, Apply, Abort, Safe, Written, Version, Fate, Waits, Taken, RolledBack, Dropped, versions, waiting}
+use Rattle.xc_record.specs.Path.{Event, Put, Hold, Apply, Abort, Safe, Written, Version, Fate, Waits, Taken, RolledBack, Dropped, versions}
+use Rattle.xc_record.specs.Path.{waiting}
 use Rattle.xc_record.specs.Kept.{Kept, kept_from}
 
 -- what the events of a path leave at a cutoff u

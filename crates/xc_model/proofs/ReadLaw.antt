@@ -13,7 +13,9 @@ pub reads-show-rows : ReadsShowRows
 reads-show-rows logs x u t k s agree b c w =
     let m = each-numbered logs s.valid in
     ap (read t) (s.keys k w)
-    ∙ ap value_of (reads-rows logs (outcomes_of logs) x.places k u t s.valid (rules-suffice logs s.valid) (no-case-agrees logs m (no-disagreement logs s.valid agree)) s.places b c)
+    ∙ ap value_of
+    (reads-rows logs (outcomes_of logs) x.places k u t s.valid (rules-suffice logs s.valid)
+    (no-case-agrees logs m (no-disagreement logs s.valid agree)) s.places b c)
     ∙ sym (row-newest logs t k m (sound-logs logs k s.valid))
 
 pub keys-suffice : KeysSuffice

@@ -22,10 +22,12 @@ use Rattle.xc_model.proofs.KeyRead.{key-read}
 use Rattle.xc_model.proofs.Tree.{chained, stops, legal-own}
 
 -- a bound on the least of the last safe values
-pub under-safe : (logs : Logs) (ps : List ℕ) (t : ℕ) → t ≤ safe_time logs ps → Each (λ b. (is_closed_in ps b ≡ true) ⊎ (t ≤ last_safe_in ps b)) (accepted_tablets logs)
+pub under-safe : (logs : Logs) (ps : List ℕ) (t : ℕ) → t ≤ safe_time logs ps
+    → Each (λ b. (is_closed_in ps b ≡ true) ⊎ (t ≤ last_safe_in ps b)) (accepted_tablets logs)
 unfolding safe_time
 under-safe logs ps t h =
-    Each-weaker (λ b. not (is_closed_in ps b) ≡ true → t ≤ last_safe_in ps b) (λ b. (is_closed_in ps b ≡ true) ⊎ (t ≤ last_safe_in ps b)) (λ b f. ⊎_elim (λ c. inl c) (λ o. inr (f (ap not o))) (cases_Bool (is_closed_in ps b)))
+    Each-weaker (λ b. not (is_closed_in ps b) ≡ true → t ≤ last_safe_in ps b) (λ b. (is_closed_in ps b ≡ true) ⊎ (t ≤ last_safe_in ps b))
+    (λ b f. ⊎_elim (λ c. inl c) (λ o. inr (f (ap not o))) (cases_Bool (is_closed_in ps b)))
     (accepted_tablets logs) (least-low (last_safe_in ps) (λ b. not (is_closed_in ps b)) (accepted_tablets logs) t h)
 
 -- the path up to the places, as the proofs go along it
@@ -33,13 +35,18 @@ pub along-path : (logs : Logs) (ps k : List ℕ) → path_to logs ps k ≡ appli
 unfolding path_to holders
 along-path logs ps k = refl
 
-pub reads-rows : (logs : Logs) (outcomes : Outcomes) (ps k : List ℕ) (u t : ℕ) → is_valid logs ≡ true → ValidLogs (accepted_tablets logs) → AgreeAll outcomes (accepted_tablets logs) → IsPlaces logs ps → u ≤ t → t ≤ safe_time logs ps
-    → newest t (kept_from u (versions (events k (path_to logs ps k)))) ≡ newest t (sort_by version_cmp (committed outcomes (events k (path_of (hash_of k) (accepted_tablets logs)))))
+pub reads-rows : (logs : Logs) (outcomes : Outcomes) (ps k : List ℕ) (u t : ℕ) → is_valid logs ≡ true → ValidLogs (accepted_tablets logs)
+    → AgreeAll outcomes (accepted_tablets logs) → IsPlaces logs ps → u ≤ t → t ≤ safe_time logs ps
+    → newest t (kept_from u (versions (events k (path_to logs ps k)))) ≡ newest t
+    (sort_by version_cmp (committed outcomes (events k (path_of (hash_of k) (accepted_tablets logs)))))
 reads-rows logs outcomes ps k u t valid v a l b c =
     let bs = accepted_tablets logs in
     let h = hash_of k in
     let xs = filter (own h) bs in
-    let agree : Each (Agrees outcomes) (path_of h bs) = each-flat (Agrees outcomes) (λ (e : AcceptedTablet). e.records) (λ e. Each (Agrees outcomes) e.records) (λ e w. w) xs (Each-filter (λ e. Each (Agrees outcomes) e.records) (own h) bs a.each) in
+    let agree : Each (Agrees outcomes) (path_of h bs) =
+    each-flat (Agrees outcomes) (λ (e : AcceptedTablet). e.records) (λ e. Each (Agrees outcomes) e.records) (λ e w. w) xs
+    (Each-filter (λ e. Each (Agrees outcomes) e.records) (own h) bs a.each) in
     let bound = Each-filter (λ b. (is_closed_in ps b ≡ true) ⊎ (t ≤ last_safe_in ps b)) (own h) bs (under-safe logs ps t c) in
     ap (λ rs. newest t (kept_from u (versions (events k rs)))) (along-path logs ps k)
-    ∙ key-read outcomes k u t ps xs (chained logs h valid).threads (stops logs h valid (v.covers k)) (legal-own logs ps h valid l) (a.stragglers k) agree bound b
+    ∙ key-read outcomes k u t ps xs (chained logs h valid).threads (stops logs h valid (v.covers k)) (legal-own logs ps h valid l)
+    (a.stragglers k) agree bound b

@@ -12,12 +12,14 @@ filter-filter : {A : Type 0} (p q : A → Bool) (xs : List A) → ((x : A) → p
 filter-filter p q [] h = refl
 filter-filter p q (x ∷ xs) h = go (q x) refl (p x) refl (filter-filter p q xs h)
   where
-    go : (b : Bool) → q x ≡ b → (c : Bool) → p x ≡ c → filter p (filter q xs) ≡ filter p xs → filter p (cond b (x ∷ filter q xs) (filter q xs)) ≡ cond c (x ∷ filter p xs) (filter p xs)
+    go : (b : Bool) → q x ≡ b → (c : Bool) → p x ≡ c → filter p (filter q xs) ≡ filter p xs
+        → filter p (cond b (x ∷ filter q xs) (filter q xs)) ≡ cond c (x ∷ filter p xs) (filter p xs)
     go true e c f ih = ap (λ d. cond d (x ∷ filter p (filter q xs)) (filter p (filter q xs))) f ∙ ap (λ w. cond c (x ∷ w) w) ih
     go false e true f ih = absurd (true≢false (sym (h x f) ∙ e))
     go false e false f ih = ih
 
-pub versions-upto : (k : List ℕ) (t : ℕ) (vs : List KeyVersion) → versions_at k (filter (λ v. nat_le v.commit t) vs) ≡ filter (upto t) (versions_at k vs)
+pub versions-upto : (k : List ℕ) (t : ℕ) (vs : List KeyVersion)
+    → versions_at k (filter (λ v. nat_le v.commit t) vs) ≡ filter (upto t) (versions_at k vs)
 versions-upto k t [] = refl
 versions-upto k t (v ∷ vs) = grind (arith, versions-upto k t vs)
 
@@ -26,6 +28,8 @@ earlier v t n h e = grind (arith, nat_tests)
 
 pub restores-keep : RestoresKeepReads
 restores-keep y t v h = (
-  (λ k. ap (λ xs. value_of (last_of (filter (upto v) xs))) (versions-upto k t y.versions) ∙ ap (λ xs. value_of (last_of xs)) (filter-filter (upto v) (upto t) (versions_at k y.versions) (λ x e. earlier v t x.commit h e))),
-  ap (λ vs. rows_after (map written_by vs) []) (filter-filter (λ w. nat_le w.commit v) (λ w. nat_le w.commit t) y.versions (λ w e. earlier v t w.commit h e)),
+  (λ k. ap (λ xs. value_of (last_of (filter (upto v) xs))) (versions-upto k t y.versions)
+      ∙ ap (λ xs. value_of (last_of xs)) (filter-filter (upto v) (upto t) (versions_at k y.versions) (λ x e. earlier v t x.commit h e))),
+  ap (λ vs. rows_after (map written_by vs) [])
+      (filter-filter (λ w. nat_le w.commit v) (λ w. nat_le w.commit t) y.versions (λ w e. earlier v t w.commit h e)),
 )

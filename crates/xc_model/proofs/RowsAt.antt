@@ -1,5 +1,6 @@
 -- The row at a key is what the newest committed operation of its path leaves there.
-use Rattle.std.proofs.Common.{◌≡◌, ◌≢◌, ◌==◌, ℕ, ◌<◌, ◌≤◌, Bool, true, false, cond, not, ◌||◌, List, [], ◌∷◌, ◌++◌, map, Option, Some, None, refl, ap, sym, ◌∙◌, arith, append_assoc, append-nil, inl, inr, ⊎_elim}
+use Rattle.std.proofs.Common.{◌≡◌, ◌≢◌, ◌==◌, ℕ, ◌<◌, ◌≤◌, Bool, true, false, cond, not, ◌||◌, List, [], ◌∷◌, ◌++◌, map, Option, Some, None}
+use Rattle.std.proofs.Common.{refl, ap, sym, ◌∙◌, arith, append_assoc, append-nil, inl, inr, ⊎_elim}
 use Rattle.std.specs.Prelude.{nat_le, nat_lt}
 use Rattle.std.specs.List.{filter, flat_map, filter_map, cons_option}
 use Rattle.std.specs.Option.{option_map_or}
@@ -17,8 +18,10 @@ use Rattle.xc_record.specs.declared.record.Logs.{Logs}
 use Rattle.xc_record.specs.Hash.{hash_of}
 use Rattle.xc_record.specs.Accepted.{AcceptedTablet, accepted_tablets}
 use Rattle.xc_record.specs.Lists.{has, insert_number, distinct, first_some, or_else, sort_by}
-use Rattle.xc_record.specs.Commits.{Commit, commit_cmp, applies, applied_txn, commit_of, undone, applied, txn_ops, write_ops, writes_in, write_commits, txn_commits, commits}
-use Rattle.xc_record.specs.Path.{Event, Put, Hold, Apply, Abort, Safe, Written, Version, version_cmp, puts, events, record_events, kind_events}
+use Rattle.xc_record.specs.Commits.{Commit, commit_cmp, applies, applied_txn, commit_of, undone, applied, txn_ops, write_ops, writes_in}
+use Rattle.xc_record.specs.Commits.{write_commits, txn_commits, commits}
+use Rattle.xc_record.specs.Path.{Event, Put, Hold, Apply, Abort, Safe, Written, Version, version_cmp, puts, events, record_events}
+use Rattle.xc_record.specs.Path.{kind_events}
 use Rattle.xc_record.specs.Kept.{upto, newest, last_of, value_of}
 use Rattle.xc_record.specs.Rows.{ops_to, row}
 use Rattle.xc_record.proofs.HeaderLaws.{Numbered}
@@ -43,17 +46,24 @@ outcomes_of logs = record { commit = commit_of logs; undone = undone logs }
 
 -- ---- `committed` goes record by record
 
-pub committed-append : (outcomes : Outcomes) (es fs : List Event) → committed outcomes (es ++ fs) ≡ committed outcomes es ++ committed outcomes fs
+pub committed-append : (outcomes : Outcomes) (es fs : List Event)
+    → committed outcomes (es ++ fs) ≡ committed outcomes es ++ committed outcomes fs
 committed-append outcomes [] fs = refl
-committed-append outcomes (Put time v ∷ es) fs = ap (λ w. record { commit = time; txn = 0; value = v } ∷ w) (committed-append outcomes es fs)
-committed-append outcomes (Hold n sub time v ∷ es) fs = ap (λ w. version_at (commits_at outcomes n sub) n v ++ w) (committed-append outcomes es fs) ∙ sym (append_assoc (version_at (commits_at outcomes n sub) n v) (committed outcomes es) (committed outcomes fs))
+committed-append outcomes (Put time v ∷ es) fs =
+    ap (λ w. record { commit = time; txn = 0; value = v } ∷ w) (committed-append outcomes es fs)
+committed-append outcomes (Hold n sub time v ∷ es) fs =
+    ap (λ w. version_at (commits_at outcomes n sub) n v ++ w) (committed-append outcomes es fs)
+    ∙ sym (append_assoc (version_at (commits_at outcomes n sub) n v) (committed outcomes es) (committed outcomes fs))
 committed-append outcomes (Apply n c without ∷ es) fs = committed-append outcomes es fs
 committed-append outcomes (Abort n ∷ es) fs = committed-append outcomes es fs
 committed-append outcomes (Safe v ∷ es) fs = committed-append outcomes es fs
 
-pub committed-records : (outcomes : Outcomes) (k : List ℕ) (rs : List Record) → committed outcomes (events k rs) ≡ flat_map (λ r. committed outcomes (record_events k r)) rs
+pub committed-records : (outcomes : Outcomes) (k : List ℕ) (rs : List Record)
+    → committed outcomes (events k rs) ≡ flat_map (λ r. committed outcomes (record_events k r)) rs
 committed-records outcomes k [] = refl
-committed-records outcomes k (r ∷ rs) = committed-append outcomes (record_events k r) (events k rs) ∙ ap (λ w. committed outcomes (record_events k r) ++ w) (committed-records outcomes k rs)
+committed-records outcomes k (r ∷ rs) =
+    committed-append outcomes (record_events k r) (events k rs)
+    ∙ ap (λ w. committed outcomes (record_events k r) ++ w) (committed-records outcomes k rs)
 
 abbrev version_made : ℕ → ℕ → Written → Version
 version_made c n v = record { commit = c; txn = n; value = v }
@@ -67,11 +77,13 @@ has_number n x = n == x.txn
 
 -- ---- writes
 
-puts-zero : (outcomes : Outcomes) (time : ℕ) (vs : List Written) → map (λ v. version_made time 0 v) vs ≡ filter (has_number 0) (committed outcomes (map (λ v. Put time v) vs))
+puts-zero : (outcomes : Outcomes) (time : ℕ) (vs : List Written)
+    → map (λ v. version_made time 0 v) vs ≡ filter (has_number 0) (committed outcomes (map (λ v. Put time v) vs))
 puts-zero outcomes time [] = refl
 puts-zero outcomes time (v ∷ vs) = ap (λ w. version_made time 0 v ∷ w) (puts-zero outcomes time vs)
 
-puts-other : (outcomes : Outcomes) (n time : ℕ) (vs : List Written) → 0 < n → filter (has_number n) (committed outcomes (map (λ v. Put time v) vs)) ≡ []
+puts-other : (outcomes : Outcomes) (n time : ℕ) (vs : List Written) → 0 < n
+    → filter (has_number n) (committed outcomes (map (λ v. Put time v) vs)) ≡ []
 puts-other outcomes n time [] h = refl
 puts-other outcomes n time (v ∷ vs) h = grind (arith, nat_tests, puts-other outcomes n time vs h)
 
@@ -79,12 +91,14 @@ version-other : (n m : ℕ) (o : Option ℕ) (v : Written) → n ≢ m → filte
 version-other n m None v h = refl
 version-other n m (Some c) v h = grind (arith, nat_tests)
 
-holds-other : (outcomes : Outcomes) (n m sub time : ℕ) (vs : List Written) → n ≢ m → filter (has_number n) (committed outcomes (map (λ v. Hold m sub time v) vs)) ≡ []
+holds-other : (outcomes : Outcomes) (n m sub time : ℕ) (vs : List Written) → n ≢ m
+    → filter (has_number n) (committed outcomes (map (λ v. Hold m sub time v) vs)) ≡ []
 holds-other outcomes n m sub time [] h = refl
 holds-other outcomes n m sub time (v ∷ vs) h =
     let o = commits_at outcomes m sub in
     let rest = committed outcomes (map (λ v. Hold m sub time v) vs) in
-    filter-append (has_number n) (version_at o m v) rest ∙ ap (λ w. w ++ filter (has_number n) rest) (version-other n m o v h) ∙ holds-other outcomes n m sub time vs h
+    filter-append (has_number n) (version_at o m v) rest ∙ ap (λ w. w ++ filter (has_number n) rest) (version-other n m o v h)
+    ∙ holds-other outcomes n m sub time vs h
 
 abbrev kind_puts : List ℕ → Kind → List Written
 kind_puts k (log.Write ops) = puts k ops
@@ -94,9 +108,11 @@ kind_puts k (log.Abort n) = []
 kind_puts k (log.Safe v) = []
 kind_puts k (log.Split at left right) = []
 
-kind-writes : (outcomes : Outcomes) (k : List ℕ) (time : ℕ) (kind : Kind) → KindNumbered kind → map (λ v. version_made time 0 v) (kind_puts k kind) ≡ filter (has_number 0) (committed outcomes (kind_events k time kind))
+kind-writes : (outcomes : Outcomes) (k : List ℕ) (time : ℕ) (kind : Kind) → KindNumbered kind
+    → map (λ v. version_made time 0 v) (kind_puts k kind) ≡ filter (has_number 0) (committed outcomes (kind_events k time kind))
 kind-writes outcomes k time (log.Write ops) h = puts-zero outcomes time (puts k ops)
-kind-writes outcomes k time (log.Intent n sub ops) h = sym (holds-other outcomes 0 n sub time (puts k ops) (λ q. let z : ⊥ = omega arith in z))
+kind-writes outcomes k time (log.Intent n sub ops) h =
+    sym (holds-other outcomes 0 n sub time (puts k ops) (λ q. let z : ⊥ = omega arith in z))
 kind-writes outcomes k time (log.Apply n c without) h = refl
 kind-writes outcomes k time (log.Abort n) h = refl
 kind-writes outcomes k time (log.Safe v) h = refl
@@ -113,7 +129,8 @@ writes-away k (log.Split at left right) h = refl
 abbrev write_of : ℕ → ℕ → Kind → List Commit
 write_of s time kind = option_map_or (λ ops. record { time = time; txn = 0; tablet = s; ops = ops } ∷ []) (write_ops kind) []
 
-kind-write : (k : List ℕ) (s time : ℕ) (kind : Kind) → flat_map (versions_of k) (write_of s time kind) ≡ map (λ v. version_made time 0 v) (kind_puts k kind)
+kind-write : (k : List ℕ) (s time : ℕ) (kind : Kind)
+    → flat_map (versions_of k) (write_of s time kind) ≡ map (λ v. version_made time 0 v) (kind_puts k kind)
 kind-write k s time (log.Write ops) = append-nil (map (λ v. version_made time 0 v) (puts k ops))
 kind-write k s time (log.Intent n sub ops) = refl
 kind-write k s time (log.Apply n c without) = refl
@@ -127,20 +144,29 @@ record_versions k r = map (λ v. version_made r.time 0 v) (kind_puts k r.kind)
 records-write : (k : List ℕ) (s : ℕ) (rs : List Record) → flat_map (versions_of k) (writes_in s rs) ≡ flat_map (record_versions k) rs
 records-write k s [] = refl
 records-write k s (r ∷ rs) =
-    flat_map-append (versions_of k) (write_of s r.time r.kind) (writes_in s rs) ∙ ap (λ w. w ++ flat_map (versions_of k) (writes_in s rs)) (kind-write k s r.time r.kind) ∙ ap (λ w. record_versions k r ++ w) (records-write k s rs)
+    flat_map-append (versions_of k) (write_of s r.time r.kind) (writes_in s rs)
+    ∙ ap (λ w. w ++ flat_map (versions_of k) (writes_in s rs)) (kind-write k s r.time r.kind)
+    ∙ ap (λ w. record_versions k r ++ w) (records-write k s rs)
 
-path-numbered : (h : ℕ) (es : List AcceptedTablet) → Each (λ e. Each (λ r. KindNumbered r.kind) e.records) es → Each (λ r. KindNumbered r.kind) (path_of h es)
-path-numbered h es n = each-flat (λ r. KindNumbered r.kind) (λ e. e.records) (λ e. Each (λ r. KindNumbered r.kind) e.records) (λ e w. w) (filter (λ e. owns h e.header) es) (Each-filter (λ e. Each (λ r. KindNumbered r.kind) e.records) (λ e. owns h e.header) es n)
+path-numbered : (h : ℕ) (es : List AcceptedTablet) → Each (λ e. Each (λ r. KindNumbered r.kind) e.records) es
+    → Each (λ r. KindNumbered r.kind) (path_of h es)
+path-numbered h es n =
+    each-flat (λ r. KindNumbered r.kind) (λ e. e.records) (λ e. Each (λ r. KindNumbered r.kind) e.records) (λ e w. w)
+    (filter (λ e. owns h e.header) es) (Each-filter (λ e. Each (λ r. KindNumbered r.kind) e.records) (λ e. owns h e.header) es n)
 
-writes-at : (logs : Logs) (outcomes : Outcomes) (k : List ℕ) → Sound (accepted_tablets logs) k → flat_map (versions_of k) (write_commits logs) ≡ filter (has_number 0) (committed outcomes (events k (path_of (hash_of k) (accepted_tablets logs))))
+writes-at : (logs : Logs) (outcomes : Outcomes) (k : List ℕ) → Sound (accepted_tablets logs) k
+    → flat_map (versions_of k) (write_commits logs) ≡ filter (has_number 0)
+    (committed outcomes (events k (path_of (hash_of k) (accepted_tablets logs))))
 unfolding write_commits
 writes-at logs outcomes k s =
     let es = accepted_tablets logs in
     let p = path_of (hash_of k) es in
     flat-flat (λ (b : AcceptedTablet). writes_in b.header.id b.records) (versions_of k) es
-    ∙ flat-all (λ (b : AcceptedTablet). flat_map (versions_of k) (writes_in b.header.id b.records)) (λ b. flat_map (record_versions k) b.records) (λ b. records-write k b.header.id b.records) es
+    ∙ flat-all (λ (b : AcceptedTablet). flat_map (versions_of k) (writes_in b.header.id b.records))
+    (λ b. flat_map (record_versions k) b.records) (λ b. records-write k b.header.id b.records) es
     ∙ away-none (record_versions k) k es s (λ r w. ap (map (λ v. version_made r.time 0 v)) (writes-away k r.kind w))
-    ∙ flat-same (record_versions k) (λ r. filter (has_number 0) (committed outcomes (record_events k r))) (λ r. KindNumbered r.kind) (λ r. kind-writes outcomes k r.time r.kind) p (path-numbered (hash_of k) es s.numbered)
+    ∙ flat-same (record_versions k) (λ r. filter (has_number 0) (committed outcomes (record_events k r))) (λ r. KindNumbered r.kind)
+    (λ r. kind-writes outcomes k r.time r.kind) p (path-numbered (hash_of k) es s.numbered)
     ∙ sym (filter-flat (has_number 0) (λ r. committed outcomes (record_events k r)) p)
     ∙ ap (filter (has_number 0)) (sym (committed-records outcomes k p))
 
@@ -149,34 +175,49 @@ writes-at logs outcomes k s =
 version-same : (n c : ℕ) (o : Option ℕ) (v : Written) → o ≡ Some c → filter (has_number n) (version_at o n v) ≡ version_made c n v ∷ []
 version-same n c o v e = ap (λ w. filter (has_number n) (version_at w n v)) e ∙ grind (arith, nat_tests)
 
-holds-same : (outcomes : Outcomes) (n c sub time : ℕ) (vs : List Written) → commits_at outcomes n sub ≡ Some c → filter (has_number n) (committed outcomes (map (λ v. Hold n sub time v) vs)) ≡ map (λ v. version_made c n v) vs
+holds-same : (outcomes : Outcomes) (n c sub time : ℕ) (vs : List Written) → commits_at outcomes n sub ≡ Some c
+    → filter (has_number n) (committed outcomes (map (λ v. Hold n sub time v) vs)) ≡ map (λ v. version_made c n v) vs
 holds-same outcomes n c sub time [] e = refl
 holds-same outcomes n c sub time (v ∷ vs) e =
     let o = commits_at outcomes n sub in
     let rest = committed outcomes (map (λ v. Hold n sub time v) vs) in
-    filter-append (has_number n) (version_at o n v) rest ∙ ap (λ w. w ++ filter (has_number n) rest) (version-same n c o v e) ∙ ap (λ w. version_made c n v ∷ w) (holds-same outcomes n c sub time vs e)
+    filter-append (has_number n) (version_at o n v) rest ∙ ap (λ w. w ++ filter (has_number n) rest) (version-same n c o v e)
+    ∙ ap (λ w. version_made c n v ∷ w) (holds-same outcomes n c sub time vs e)
 
-holds-none : (outcomes : Outcomes) (n sub time : ℕ) (vs : List Written) → commits_at outcomes n sub ≡ None → committed outcomes (map (λ v. Hold n sub time v) vs) ≡ []
+holds-none : (outcomes : Outcomes) (n sub time : ℕ) (vs : List Written) → commits_at outcomes n sub ≡ None
+    → committed outcomes (map (λ v. Hold n sub time v) vs) ≡ []
 holds-none outcomes n sub time [] e = refl
-holds-none outcomes n sub time (v ∷ vs) e = ap (λ o. version_at o n v ++ committed outcomes (map (λ v. Hold n sub time v) vs)) e ∙ holds-none outcomes n sub time vs e
+holds-none outcomes n sub time (v ∷ vs) e =
+    ap (λ o. version_at o n v ++ committed outcomes (map (λ v. Hold n sub time v) vs)) e ∙ holds-none outcomes n sub time vs e
 
 -- what was rolled back is left out on both sides
-intent-holds : (outcomes : Outcomes) (k : List ℕ) (n c sub time : ℕ) (ops : List Op) → outcomes.commit n ≡ Some c → map (λ v. version_made c n v) (puts k (cond (not (has sub (outcomes.undone n))) ops [])) ≡ filter (has_number n) (committed outcomes (map (λ v. Hold n sub time v) (puts k ops)))
+intent-holds : (outcomes : Outcomes) (k : List ℕ) (n c sub time : ℕ) (ops : List Op) → outcomes.commit n ≡ Some c
+    → map (λ v. version_made c n v) (puts k (cond (not (has sub (outcomes.undone n))) ops [])) ≡ filter (has_number n)
+    (committed outcomes (map (λ v. Hold n sub time v) (puts k ops)))
 intent-holds outcomes k n c sub time ops h =
-    let at : (b : Bool) → has sub (outcomes.undone n) ≡ b → map (λ v. version_made c n v) (puts k (cond (not b) ops [])) ≡ filter (has_number n) (committed outcomes (map (λ v. Hold n sub time v) (puts k ops))) =
-    λ b. elim b as (λ b. has sub (outcomes.undone n) ≡ b → map (λ v. version_made c n v) (puts k (cond (not b) ops [])) ≡ filter (has_number n) (committed outcomes (map (λ v. Hold n sub time v) (puts k ops)))) [
-      | true ↦ λ e. sym (ap (filter (has_number n)) (holds-none outcomes n sub time (puts k ops) (ap (λ b. cond b None (outcomes.commit n)) e)))
+    let at : (b : Bool) → has sub (outcomes.undone n) ≡ b
+    → map (λ v. version_made c n v) (puts k (cond (not b) ops [])) ≡ filter (has_number n)
+    (committed outcomes (map (λ v. Hold n sub time v) (puts k ops))) =
+    λ b. elim b as
+    (λ b. has sub (outcomes.undone n) ≡ b → map (λ v. version_made c n v) (puts k (cond (not b) ops [])) ≡ filter (has_number n)
+    (committed outcomes (map (λ v. Hold n sub time v) (puts k ops)))) [
+      | true ↦ λ e. sym
+          (ap (filter (has_number n)) (holds-none outcomes n sub time (puts k ops) (ap (λ b. cond b None (outcomes.commit n)) e)))
       | false ↦ λ e. sym (holds-same outcomes n c sub time (puts k ops) (ap (λ b. cond b None (outcomes.commit n)) e ∙ h))
     ]
     in at (has sub (outcomes.undone n)) refl
 
-kind-holds : (outcomes : Outcomes) (k : List ℕ) (n c time : ℕ) (kind : Kind) → 0 < n → outcomes.commit n ≡ Some c → map (λ v. version_made c n v) (kind_lefts k n (outcomes.undone n) kind) ≡ filter (has_number n) (committed outcomes (kind_events k time kind))
+kind-holds : (outcomes : Outcomes) (k : List ℕ) (n c time : ℕ) (kind : Kind) → 0 < n → outcomes.commit n ≡ Some c
+    → map (λ v. version_made c n v) (kind_lefts k n (outcomes.undone n) kind) ≡ filter (has_number n)
+    (committed outcomes (kind_events k time kind))
 kind-holds outcomes k n c time (log.Write ops) p h = sym (puts-other outcomes n time (puts k ops) p)
 kind-holds outcomes k n c time (log.Intent m sub ops) p h =
     let left = puts k (cond (not (has sub (outcomes.undone n))) ops []) in
     ⊎_elim
-    (λ e. ap (λ b. map (λ v. version_made c n v) (cond b left [])) (eq-eqb m n (sym e)) ∙ intent-holds outcomes k n c sub time ops h ∙ ap (λ w. filter (has_number n) (committed outcomes (map (λ v. Hold w sub time v) (puts k ops)))) e)
-    (λ e. ap (λ b. map (λ v. version_made c n v) (cond b left [])) (ne_eqb m n (λ q. e (sym q))) ∙ sym (holds-other outcomes n m sub time (puts k ops) e))
+    (λ e. ap (λ b. map (λ v. version_made c n v) (cond b left [])) (eq-eqb m n (sym e)) ∙ intent-holds outcomes k n c sub time ops h
+    ∙ ap (λ w. filter (has_number n) (committed outcomes (map (λ v. Hold w sub time v) (puts k ops)))) e)
+    (λ e. ap (λ b. map (λ v. version_made c n v) (cond b left [])) (ne_eqb m n (λ q. e (sym q)))
+    ∙ sym (holds-other outcomes n m sub time (puts k ops) e))
     (cases_eq n m)
 kind-holds outcomes k n c time (log.Apply m d without) p h = refl
 kind-holds outcomes k n c time (log.Abort m) p h = refl
@@ -186,8 +227,10 @@ kind-holds outcomes k n c time (log.Split at left right) p h = refl
 abbrev commit_by : Option ℕ → ℕ → List Op → List Commit
 commit_by o n ops = option_map_or (λ c. record { time = c; txn = n; tablet = 0; ops = ops } ∷ []) o []
 
-txn-at : (logs : Logs) (k : List ℕ) (n c : ℕ) → Numbered 0 (heads (accepted_tablets logs)) → Sound (accepted_tablets logs) k → 0 < n → commit_of logs n ≡ Some c
-    → flat_map (versions_of k) (commit_by (commit_of logs n) n (txn_ops logs n)) ≡ filter (has_number n) (committed (outcomes_of logs) (events k (path_of (hash_of k) (accepted_tablets logs))))
+txn-at : (logs : Logs) (k : List ℕ) (n c : ℕ) → Numbered 0 (heads (accepted_tablets logs)) → Sound (accepted_tablets logs) k → 0 < n
+    → commit_of logs n ≡ Some c
+    → flat_map (versions_of k) (commit_by (commit_of logs n) n (txn_ops logs n)) ≡ filter (has_number n)
+    (committed (outcomes_of logs) (events k (path_of (hash_of k) (accepted_tablets logs))))
 txn-at logs k n c m s h e =
     let p = path_of (hash_of k) (accepted_tablets logs) in
     let outcomes = outcomes_of logs in
@@ -195,7 +238,8 @@ txn-at logs k n c m s h e =
     ∙ append-nil (map (λ v. version_made c n v) (puts k (txn_ops logs n)))
     ∙ ap (map (λ v. version_made c n v)) (txn-lefts logs k n m s)
     ∙ map-flat (λ v. version_made c n v) (λ r. kind_lefts k n (undone logs n) r.kind) p
-    ∙ flat-all (λ r. map (λ v. version_made c n v) (kind_lefts k n (undone logs n) r.kind)) (λ r. filter (has_number n) (committed outcomes (record_events k r))) (λ r. kind-holds outcomes k n c r.time r.kind h e) p
+    ∙ flat-all (λ r. map (λ v. version_made c n v) (kind_lefts k n (undone logs n) r.kind))
+    (λ r. filter (has_number n) (committed outcomes (record_events k r))) (λ r. kind-holds outcomes k n c r.time r.kind h e) p
     ∙ sym (filter-flat (has_number n) (λ r. committed outcomes (record_events k r)) p)
     ∙ ap (filter (has_number n)) (sym (committed-records outcomes k p))
 
@@ -219,31 +263,49 @@ here-more r rs n k = (k.0, or-some (applies n r.kind) (first_some (λ r. applies
 
 here-records : (rs : List Record) → Each (λ r. KindNumbered r.kind) rs → Each (KnownHere rs) (filter_map (λ r. applied_txn r.kind) rs)
 here-records [] h = tt
-here-records (r ∷ rs) h = go (Each-weaker (KnownHere rs) (KnownHere (r ∷ rs)) (here-more r rs) (filter_map (λ r. applied_txn r.kind) rs) (here-records rs h.1)) r.kind refl h.0
+here-records (r ∷ rs) h =
+    go (Each-weaker (KnownHere rs) (KnownHere (r ∷ rs)) (here-more r rs) (filter_map (λ r. applied_txn r.kind) rs) (here-records rs h.1))
+    r.kind refl h.0
   where
-    go : Each (KnownHere (r ∷ rs)) (filter_map (λ r. applied_txn r.kind) rs) → (kind : Kind) → r.kind ≡ kind → KindNumbered kind → Each (KnownHere (r ∷ rs)) (cons_option (applied_txn kind) (filter_map (λ r. applied_txn r.kind) rs))
+    go : Each (KnownHere (r ∷ rs)) (filter_map (λ r. applied_txn r.kind) rs) → (kind : Kind) → r.kind ≡ kind → KindNumbered kind
+        → Each (KnownHere (r ∷ rs)) (cons_option (applied_txn kind) (filter_map (λ r. applied_txn r.kind) rs))
     go rest (log.Write ops) e k = rest
     go rest (log.Intent n sub ops) e k = rest
-    go rest (log.Apply n c without) e k = ((k, (c, some-or (applies n r.kind) (first_some (λ r. applies n r.kind) rs) c (ap (applies n) e ∙ ap (λ b. cond b (Some c) None) (eq-eqb n n refl)))), rest)
+    go rest (log.Apply n c without) e k = (
+      (
+        k,
+        (
+          c,
+          some-or (applies n r.kind) (first_some (λ r. applies n r.kind) rs) c (ap (applies n) e
+              ∙ ap (λ b. cond b (Some c) None) (eq-eqb n n refl)),
+        ),
+      ),
+      rest,
+    )
     go rest (log.Abort n) e k = rest
     go rest (log.Safe v) e k = rest
     go rest (log.Split at left right) e k = rest
 
-in-tablets : (es : List AcceptedTablet) → Each (λ e. Each (λ r. KindNumbered r.kind) e.records) es → Each (KnownIn es) (flat_map (λ b. filter_map (λ r. applied_txn r.kind) b.records) es)
+in-tablets : (es : List AcceptedTablet) → Each (λ e. Each (λ r. KindNumbered r.kind) e.records) es
+    → Each (KnownIn es) (flat_map (λ b. filter_map (λ r. applied_txn r.kind) b.records) es)
 in-tablets [] h = tt
 in-tablets (b ∷ es) h =
     let rest = flat_map (λ (b : AcceptedTablet). filter_map (λ r. applied_txn r.kind) b.records) es in
     let later : ℕ → Option ℕ = λ n. first_some (λ (b : AcceptedTablet). first_some (λ r. applies n r.kind) b.records) es in
     Each-append (KnownIn (b ∷ es)) (filter_map (λ r. applied_txn r.kind) b.records) rest
-    (Each-weaker (KnownHere b.records) (KnownIn (b ∷ es)) (λ n k. (k.0, (k.1.0, some-or (first_some (λ r. applies n r.kind) b.records) (later n) k.1.0 k.1.1))) (filter_map (λ r. applied_txn r.kind) b.records) (here-records b.records h.0))
-    (Each-weaker (KnownIn es) (KnownIn (b ∷ es)) (λ n k. (k.0, or-some (first_some (λ r. applies n r.kind) b.records) (later n) k.1.0 k.1.1)) rest (in-tablets es h.1))
+    (Each-weaker (KnownHere b.records) (KnownIn (b ∷ es))
+    (λ n k. (k.0, (k.1.0, some-or (first_some (λ r. applies n r.kind) b.records) (later n) k.1.0 k.1.1)))
+    (filter_map (λ r. applied_txn r.kind) b.records) (here-records b.records h.0))
+    (Each-weaker (KnownIn es) (KnownIn (b ∷ es))
+    (λ n k. (k.0, or-some (first_some (λ r. applies n r.kind) b.records) (later n) k.1.0 k.1.1)) rest (in-tablets es h.1))
 
 each-insert : (P : ℕ → Type 0) (n : ℕ) (ns : List ℕ) → P n → Each P ns → Each P (insert_number n ns)
 each-insert P n [] p h = (p, tt)
 each-insert P n (m ∷ ms) p h =
     elim (nat_lt n m) as (λ b. Each P (cond b (n ∷ m ∷ ms) (cond (n == m) (m ∷ ms) (m ∷ insert_number n ms)))) [
       | true ↦ (p, h)
-      | false ↦ elim (n == m) as (λ b. Each P (cond b (m ∷ ms) (m ∷ insert_number n ms))) [ true ↦ h | false ↦ (h.0, each-insert P n ms p h.1) ]
+      | false ↦ elim (n == m) as (λ b. Each P (cond b (m ∷ ms) (m ∷ insert_number n ms)))
+          [ true ↦ h | false ↦ (h.0, each-insert P n ms p h.1) ]
     ]
 
 each-distinct : (P : ℕ → Type 0) (ns : List ℕ) → Each P ns → Each P (distinct ns)
@@ -253,9 +315,12 @@ each-distinct P (n ∷ ns) h = each-insert P n (distinct ns) h.0 (each-distinct 
 abbrev pub Known : Logs → ℕ → Type 0
 Known logs n = (0 < n) × ((c : ℕ) × (commit_of logs n ≡ Some c))
 
-pub numbers-known : (logs : Logs) → Each (λ e. Each (λ r. KindNumbered r.kind) e.records) (accepted_tablets logs) → Each (Known logs) (applied logs)
+pub numbers-known : (logs : Logs) → Each (λ e. Each (λ r. KindNumbered r.kind) e.records) (accepted_tablets logs)
+    → Each (Known logs) (applied logs)
 unfolding applied commit_of
-numbers-known logs h = each-distinct (KnownIn (accepted_tablets logs)) (flat_map (λ b. filter_map (λ r. applied_txn r.kind) b.records) (accepted_tablets logs)) (in-tablets (accepted_tablets logs) h)
+numbers-known logs h =
+    each-distinct (KnownIn (accepted_tablets logs)) (flat_map (λ b. filter_map (λ r. applied_txn r.kind) b.records) (accepted_tablets logs))
+    (in-tablets (accepted_tablets logs) h)
 
 -- each once
 each-has : (P : ℕ → Type 0) (ns : List ℕ) → ((m : ℕ) → has m ns ≡ true → P m) → Each P ns
@@ -264,17 +329,21 @@ each-has P (n ∷ ns) h = (h n (or_left (n == n) (has n ns) (eq-eqb n n refl)), 
 
 rising-distinct : (ns : List ℕ) → Rising ns → Distinct ns
 rising-distinct [] r = tt
-rising-distinct (n ∷ ns) r = (each-has (λ m. m ≢ n) ns (λ m e k. let q : n < m = r.0 m e in let z : ⊥ = omega arith in z), rising-distinct ns r.1)
+rising-distinct (n ∷ ns) r =
+    (each-has (λ m. m ≢ n) ns (λ m e k. let q : n < m = r.0 m e in let z : ⊥ = omega arith in z), rising-distinct ns r.1)
 
 applied-once : (logs : Logs) → Distinct (applied logs)
 unfolding applied
-applied-once logs = let ns = flat_map (λ (b : AcceptedTablet). filter_map (λ r. applied_txn r.kind) b.records) (accepted_tablets logs) in rising-distinct (distinct ns) (distinct-rising ns)
+applied-once logs =
+    let ns = flat_map (λ (b : AcceptedTablet). filter_map (λ r. applied_txn r.kind) b.records) (accepted_tablets logs) in rising-distinct
+    (distinct ns) (distinct-rising ns)
 
 has-in : (n : ℕ) (ns : List ℕ) → has n ns ≡ true → IsIn n ns
 has-in n [] h = cc
 has-in n (m ∷ ns) h = ⊎_elim (λ e. inl e) (λ d. inr (has-in n ns (sym (ap (λ b. b || has n ns) (ne_eqb m n d)) ∙ h))) (cases_eq m n)
 
-version-in : (logs : Logs) (n sub : ℕ) (v : Written) → Each (λ x. IsIn x.txn (0 ∷ applied logs)) (version_at (commits_at (outcomes_of logs) n sub) n v)
+version-in : (logs : Logs) (n sub : ℕ) (v : Written)
+    → Each (λ x. IsIn x.txn (0 ∷ applied logs)) (version_at (commits_at (outcomes_of logs) n sub) n v)
 version-in logs n sub v = go (has sub (undone logs n)) (commit_of logs n) refl
   where
     go : (b : Bool) (o : Option ℕ) → commit_of logs n ≡ o → Each (λ x. IsIn x.txn (0 ∷ applied logs)) (version_at (cond b None o) n v)
@@ -285,7 +354,9 @@ version-in logs n sub v = go (has sub (undone logs n)) (commit_of logs n) refl
 committed-in : (logs : Logs) (es : List Event) → Each (λ x. IsIn x.txn (0 ∷ applied logs)) (committed (outcomes_of logs) es)
 committed-in logs [] = tt
 committed-in logs (Put time v ∷ es) = (inl refl, committed-in logs es)
-committed-in logs (Hold n sub time v ∷ es) = Each-append (λ x. IsIn x.txn (0 ∷ applied logs)) (version_at (commits_at (outcomes_of logs) n sub) n v) (committed (outcomes_of logs) es) (version-in logs n sub v) (committed-in logs es)
+committed-in logs (Hold n sub time v ∷ es) =
+    Each-append (λ x. IsIn x.txn (0 ∷ applied logs)) (version_at (commits_at (outcomes_of logs) n sub) n v)
+    (committed (outcomes_of logs) es) (version-in logs n sub v) (committed-in logs es)
 committed-in logs (Apply n c without ∷ es) = committed-in logs es
 committed-in logs (Abort n ∷ es) = committed-in logs es
 committed-in logs (Safe v ∷ es) = committed-in logs es
@@ -316,13 +387,17 @@ tablet-agrees x y h e = grind (arith, nat_tests)
 write-first : (x y : Commit) → x.txn ≡ 0 → 0 < y.txn → Agreeing commit_cmp commit_pair x y
 write-first x y a b e = grind (arith, nat_tests)
 
-own-write : (s time : ℕ) (o : Option (List Op)) → Each (λ (x : Commit). (x.tablet ≡ s) × (x.txn ≡ 0)) (option_map_or (λ ops. record { time = time; txn = 0; tablet = s; ops = ops } ∷ []) o [])
+own-write : (s time : ℕ) (o : Option (List Op))
+    → Each (λ (x : Commit). (x.tablet ≡ s) × (x.txn ≡ 0))
+    (option_map_or (λ ops. record { time = time; txn = 0; tablet = s; ops = ops } ∷ []) o [])
 own-write s time None = tt
 own-write s time (Some ops) = ((refl, refl), tt)
 
 own-writes : (s : ℕ) (rs : List Record) → Each (λ (x : Commit). (x.tablet ≡ s) × (x.txn ≡ 0)) (writes_in s rs)
 own-writes s [] = tt
-own-writes s (r ∷ rs) = Each-append (λ (x : Commit). (x.tablet ≡ s) × (x.txn ≡ 0)) (write_of s r.time r.kind) (writes_in s rs) (own-write s r.time (write_ops r.kind)) (own-writes s rs)
+own-writes s (r ∷ rs) =
+    Each-append (λ (x : Commit). (x.tablet ≡ s) × (x.txn ≡ 0)) (write_of s r.time r.kind) (writes_in s rs)
+    (own-write s r.time (write_ops r.kind)) (own-writes s rs)
 
 commit-tablet : (o : Option ℕ) (n : ℕ) (ops : List Op) → Each (λ (x : Commit). x.tablet ≡ 0) (commit_by o n ops)
 commit-tablet None n ops = tt
@@ -332,38 +407,56 @@ commit-number : (o : Option ℕ) (n : ℕ) (ops : List Op) → 0 < n → Each (�
 commit-number None n ops h = tt
 commit-number (Some c) n ops h = (h, tt)
 
-all-tied : (logs : Logs) → Numbered 0 (heads (accepted_tablets logs)) → Each (Known logs) (applied logs) → Ties commit_cmp commit_pair (write_commits logs ++ txn_commits logs)
+all-tied : (logs : Logs) → Numbered 0 (heads (accepted_tablets logs)) → Each (Known logs) (applied logs)
+    → Ties commit_cmp commit_pair (write_commits logs ++ txn_commits logs)
 unfolding write_commits txn_commits
 all-tied logs m known =
     let bs = accepted_tablets logs in
     let f : ℕ → List Commit = λ n. commit_by (commit_of logs n) n (txn_ops logs n) in
     let g : AcceptedTablet → List Commit = λ b. writes_in b.header.id b.records in
-    let zero : Each (λ (y : Commit). y.tablet ≡ 0) (flat_map f (applied logs)) = each-flat (λ (y : Commit). y.tablet ≡ 0) f (λ n. Unit {0}) (λ n _. commit-tablet (commit_of logs n) n (txn_ops logs n)) (applied logs) (each-all (λ n. Unit {0}) (λ n. tt) (applied logs)) in
-    let positive : Each (λ (y : Commit). 0 < y.txn) (flat_map f (applied logs)) = each-flat (λ (y : Commit). 0 < y.txn) f (Known logs) (λ n h. commit-number (commit_of logs n) n (txn_ops logs n) h.0) (applied logs) known in
-    let none : Each (λ (y : Commit). y.txn ≡ 0) (flat_map g bs) = each-flat (λ (y : Commit). y.txn ≡ 0) g (λ b. Unit {0}) (λ b _. Each-weaker (λ (y : Commit). (y.tablet ≡ b.header.id) × (y.txn ≡ 0)) (λ (y : Commit). y.txn ≡ 0) (λ y h. h.1) (writes_in b.header.id b.records) (own-writes b.header.id b.records)) bs (each-all (λ b. Unit {0}) (λ b. tt) bs) in
+    let zero : Each (λ (y : Commit). y.tablet ≡ 0) (flat_map f (applied logs)) =
+    each-flat (λ (y : Commit). y.tablet ≡ 0) f (λ n. Unit {0}) (λ n _. commit-tablet (commit_of logs n) n (txn_ops logs n))
+    (applied logs) (each-all (λ n. Unit {0}) (λ n. tt) (applied logs)) in
+    let positive : Each (λ (y : Commit). 0 < y.txn) (flat_map f (applied logs)) =
+    each-flat (λ (y : Commit). 0 < y.txn) f (Known logs) (λ n h. commit-number (commit_of logs n) n (txn_ops logs n) h.0) (applied logs)
+    known in
+    let none : Each (λ (y : Commit). y.txn ≡ 0) (flat_map g bs) =
+    each-flat (λ (y : Commit). y.txn ≡ 0) g (λ b. Unit {0})
+    (λ b _. Each-weaker (λ (y : Commit). (y.tablet ≡ b.header.id) × (y.txn ≡ 0)) (λ (y : Commit). y.txn ≡ 0) (λ y h. h.1)
+    (writes_in b.header.id b.records) (own-writes b.header.id b.records)) bs (each-all (λ b. Unit {0}) (λ b. tt) bs) in
     ties-append commit_cmp commit_pair (flat_map g bs) (flat_map f (applied logs))
-    (ties-rising commit_cmp commit_pair (λ (y : Commit). y.tablet) tablet-agrees g (λ b. Each-weaker (λ (y : Commit). (y.tablet ≡ b.header.id) × (y.txn ≡ 0)) (λ (y : Commit). y.tablet ≡ b.header.id) (λ y h. h.0) (writes_in b.header.id b.records) (own-writes b.header.id b.records)) 0 bs m)
+    (ties-rising commit_cmp commit_pair (λ (y : Commit). y.tablet) tablet-agrees g
+    (λ b. Each-weaker (λ (y : Commit). (y.tablet ≡ b.header.id) × (y.txn ≡ 0)) (λ (y : Commit). y.tablet ≡ b.header.id) (λ y h. h.0)
+    (writes_in b.header.id b.records) (own-writes b.header.id b.records)) 0 bs m)
     (ties-same commit_cmp commit_pair (λ (y : Commit). y.tablet) tablet-agrees 0 (flat_map f (applied logs)) zero)
-    (Each-weaker (λ (y : Commit). y.txn ≡ 0) (λ y. Each (Agreeing commit_cmp commit_pair y) (flat_map f (applied logs))) (λ y h. Each-weaker (λ (z : Commit). 0 < z.txn) (Agreeing commit_cmp commit_pair y) (λ z k. write-first y z h k) (flat_map f (applied logs)) positive) (flat_map g bs) none)
+    (Each-weaker (λ (y : Commit). y.txn ≡ 0) (λ y. Each (Agreeing commit_cmp commit_pair y) (flat_map f (applied logs)))
+    (λ y h. Each-weaker (λ (z : Commit). 0 < z.txn) (Agreeing commit_cmp commit_pair y) (λ z k. write-first y z h k)
+    (flat_map f (applied logs)) positive) (flat_map g bs) none)
 
 -- ---- the versions of all commits
 
 apart : (x y : Version) → x.txn ≢ y.txn → is_gt (version_cmp x y) ≡ false → is_gt (version_cmp y x) ≡ true
 apart x y h k = grind (arith, nat_tests)
 
-made-keys : (c n : ℕ) (vs : List Written) → Each (λ (x : Version). ◌≡◌ {A = ℕ × ℕ} (x.commit, x.txn) (c, n)) (map (λ v. version_made c n v) vs)
+made-keys : (c n : ℕ) (vs : List Written)
+    → Each (λ (x : Version). ◌≡◌ {A = ℕ × ℕ} (x.commit, x.txn) (c, n)) (map (λ v. version_made c n v) vs)
 made-keys c n [] = tt
 made-keys c n (v ∷ vs) = (refl, made-keys c n vs)
 
 txns-at : (logs : Logs) (k : List ℕ) → Numbered 0 (heads (accepted_tablets logs)) → Sound (accepted_tablets logs) k
-    → flat_map (versions_of k) (txn_commits logs) ≡ flat_map (λ n. filter (has_number n) (committed (outcomes_of logs) (events k (path_of (hash_of k) (accepted_tablets logs))))) (applied logs)
+    → flat_map (versions_of k) (txn_commits logs) ≡ flat_map
+    (λ n. filter (has_number n) (committed (outcomes_of logs) (events k (path_of (hash_of k) (accepted_tablets logs))))) (applied logs)
 unfolding txn_commits
 txns-at logs k m s =
     flat-flat (λ n. commit_by (commit_of logs n) n (txn_ops logs n)) (versions_of k) (applied logs)
-    ∙ flat-same (λ n. flat_map (versions_of k) (commit_by (commit_of logs n) n (txn_ops logs n))) (λ n. filter (has_number n) (committed (outcomes_of logs) (events k (path_of (hash_of k) (accepted_tablets logs))))) (Known logs) (λ n h. txn-at logs k n h.1.0 m s h.0 h.1.1) (applied logs) (numbers-known logs s.numbered)
+    ∙ flat-same (λ n. flat_map (versions_of k) (commit_by (commit_of logs n) n (txn_ops logs n)))
+    (λ n. filter (has_number n) (committed (outcomes_of logs) (events k (path_of (hash_of k) (accepted_tablets logs))))) (Known logs)
+    (λ n h. txn-at logs k n h.1.0 m s h.0 h.1.1) (applied logs) (numbers-known logs s.numbered)
 
 -- the operations on a key in the list of commits are its path's committed operations, in order
-pub commits-at : (logs : Logs) (k : List ℕ) → Numbered 0 (heads (accepted_tablets logs)) → Sound (accepted_tablets logs) k → flat_map (versions_of k) (commits logs) ≡ sort_by version_cmp (committed (outcomes_of logs) (events k (path_of (hash_of k) (accepted_tablets logs))))
+pub commits-at : (logs : Logs) (k : List ℕ) → Numbered 0 (heads (accepted_tablets logs)) → Sound (accepted_tablets logs) k
+    → flat_map (versions_of k) (commits logs) ≡ sort_by version_cmp
+    (committed (outcomes_of logs) (events k (path_of (hash_of k) (accepted_tablets logs))))
 unfolding commits
 commits-at logs k m s =
     let evs = events k (path_of (hash_of k) (accepted_tablets logs)) in
@@ -371,30 +464,41 @@ commits-at logs k m s =
     let all = write_commits logs ++ txn_commits logs in
     let known = numbers-known logs s.numbered in
     ap (flat_map (versions_of k)) (sort-finer commit_cmp commit_pair pair-finer all (all-tied logs m known))
-    ∙ flat-sort pair_cmp pair-orders (λ (c : Commit). (c.time, c.txn)) (λ (v : Version). (v.commit, v.txn)) (versions_of k) (λ c. made-keys c.time c.txn (puts k c.ops))
-    (record { total = λ a b h. pair-total (a.time, a.txn) (b.time, b.txn) h; trans = λ a b c h q. pair-trans (a.time, a.txn) (b.time, b.txn) (c.time, c.txn) h q }) all
+    ∙ flat-sort pair_cmp pair-orders (λ (c : Commit). (c.time, c.txn)) (λ (v : Version). (v.commit, v.txn)) (versions_of k)
+    (λ c. made-keys c.time c.txn (puts k c.ops))
+    (record {
+      total = λ a b h. pair-total (a.time, a.txn) (b.time, b.txn) h;
+      trans = λ a b c h q. pair-trans (a.time, a.txn) (b.time, b.txn)
+          (c.time, c.txn) h q;
+    }) all
     ∙ ap (sort_by version_cmp)
     (flat_map-append (versions_of k) (write_commits logs) (txn_commits logs)
     ∙ ap (λ w. w ++ flat_map (versions_of k) (txn_commits logs)) (writes-at logs (outcomes_of logs) k s)
     ∙ ap (λ w. filter (has_number 0) x ++ w) (txns-at logs k m s))
-    ∙ sort-grouped version_cmp version-orders (λ (v : Version). v.txn) apart (0 ∷ applied logs) x
-    (Each-weaker (Known logs) (λ n. n ≢ 0) (λ n h q. let z : ⊥ = (let p : 0 < n = h.0 in omega arith) in z) (applied logs) known, applied-once logs)
+    ∙ sort-grouped version_cmp version-orders (λ (v : Version). v.txn) apart (0 ∷ applied logs) x (
+      Each-weaker (Known logs) (λ n. n ≢ 0) (λ n h q. let z : ⊥ = (let p : 0 < n = h.0 in omega arith) in z) (applied logs) known,
+      applied-once logs,
+    )
     (committed-in logs evs)
 
 -- ---- the row
 
-made-upto : (t c n : ℕ) (vs : List Written) → filter (upto t) (map (λ v. version_made c n v) vs) ≡ cond (nat_le c t) (map (λ v. version_made c n v) vs) []
+made-upto : (t c n : ℕ) (vs : List Written)
+    → filter (upto t) (map (λ v. version_made c n v) vs) ≡ cond (nat_le c t) (map (λ v. version_made c n v) vs) []
 made-upto t c n [] = elim (nat_le c t) as (λ b. ◌≡◌ {A = List Version} [] (cond b [] [])) [ true ↦ refl | false ↦ refl ]
 made-upto t c n (v ∷ vs) = grind (arith, made-upto t c n vs)
 
-commits-upto : (t : ℕ) (k : List ℕ) (cs : List Commit) → filter (upto t) (flat_map (versions_of k) cs) ≡ flat_map (versions_of k) (filter (λ c. nat_le c.time t) cs)
+commits-upto : (t : ℕ) (k : List ℕ) (cs : List Commit)
+    → filter (upto t) (flat_map (versions_of k) cs) ≡ flat_map (versions_of k) (filter (λ c. nat_le c.time t) cs)
 commits-upto t k [] = refl
 commits-upto t k (c ∷ cs) =
     let early = filter (λ (c : Commit). nat_le c.time t) cs in
     filter-append (upto t) (versions_of k c) (flat_map (versions_of k) cs)
     ∙ ap (λ w. w ++ filter (upto t) (flat_map (versions_of k) cs)) (made-upto t c.time c.txn (puts k c.ops))
     ∙ ap (λ w. cond (nat_le c.time t) (versions_of k c) [] ++ w) (commits-upto t k cs)
-    ∙ elim (nat_le c.time t) as (λ b. cond b (versions_of k c) [] ++ flat_map (versions_of k) early ≡ flat_map (versions_of k) (cond b (c ∷ early) early)) [ true ↦ refl | false ↦ refl ]
+    ∙ elim (nat_le c.time t) as
+    (λ b. cond b (versions_of k c) [] ++ flat_map (versions_of k) early ≡ flat_map (versions_of k) (cond b (c ∷ early) early))
+    [ true ↦ refl | false ↦ refl ]
 
 made-values : (c n : ℕ) (vs : List Written) → map (λ (x : Version). x.value) (map (λ v. version_made c n v) vs) ≡ vs
 made-values c n [] = refl
@@ -406,13 +510,17 @@ after-last [] = refl
 after-last (v ∷ []) = refl
 after-last (v ∷ (w ∷ vs)) = after-last (w ∷ vs)
 
-pub row-newest : (logs : Logs) (t : ℕ) (k : List ℕ) → Numbered 0 (heads (accepted_tablets logs)) → Sound (accepted_tablets logs) k → row logs t k ≡ value_of (newest t (sort_by version_cmp (committed (outcomes_of logs) (events k (path_of (hash_of k) (accepted_tablets logs))))))
+pub row-newest : (logs : Logs) (t : ℕ) (k : List ℕ) → Numbered 0 (heads (accepted_tablets logs)) → Sound (accepted_tablets logs) k
+    → row logs t k ≡ value_of
+    (newest t (sort_by version_cmp (committed (outcomes_of logs) (events k (path_of (hash_of k) (accepted_tablets logs))))))
 unfolding ops_to
 row-newest logs t k m s =
     let cs = filter (λ (c : Commit). nat_le c.time t) (commits logs) in
     row-puts logs t k
     ∙ ap (after_puts None)
-    (puts-flat k (λ (c : Commit). c.ops) cs ∙ flat-all (λ (c : Commit). puts k c.ops) (λ c. map (λ v. v.value) (versions_of k c)) (λ c. sym (made-values c.time c.txn (puts k c.ops))) cs
+    (puts-flat k (λ (c : Commit). c.ops) cs
+    ∙ flat-all (λ (c : Commit). puts k c.ops) (λ c. map (λ v. v.value) (versions_of k c))
+    (λ c. sym (made-values c.time c.txn (puts k c.ops))) cs
     ∙ sym (map-flat (λ (v : Version). v.value) (versions_of k) cs))
     ∙ after-last (flat_map (versions_of k) cs)
     ∙ ap (λ vs. value_of (last_of vs)) (sym (commits-upto t k (commits logs)) ∙ ap (filter (upto t)) (commits-at logs k m s))

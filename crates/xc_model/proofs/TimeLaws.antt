@@ -1,5 +1,6 @@
 -- The times that a session names, along its commands.
-use Rattle.std.proofs.Common.{◌≡◌, ℕ, ◌≤◌, max, Bool, true, false, List, [], ◌∷◌, ◌++◌, map, Option, Some, None, refl, ap, sym, ◌∙◌, arith, subst, ◌⊎◌, inl, inr, ⊎_elim}
+use Rattle.std.proofs.Common.{◌≡◌, ℕ, ◌≤◌, max, Bool, true, false, List, [], ◌∷◌, ◌++◌, map, Option, Some, None, refl, ap, sym, ◌∙◌, arith}
+use Rattle.std.proofs.Common.{subst, ◌⊎◌, inl, inr, ⊎_elim}
 use Rattle.std.specs.Prelude.{nat_lt, if◌then◌else◌, MatchOption}
 use Rattle.std.specs.Option.{option_map_or, option_map}
 use Rattle.std.specs.List.{filter_map, cons_option}
@@ -48,20 +49,27 @@ halt-names : (logs : Logs) (bs : List AcceptedTablet) → named_times (halts_of 
 halt-names logs [] = refl
 halt-names logs (b ∷ bs) = go (halt-names logs bs) (halt logs b.header.id)
   where
-    go : named_times (halts_of logs bs) ≡ [] → (o : Option (ℕ × Break)) → named_times (cons_option (option_map (λ found. line.Halt b.header.id found.0 found.1) o) (halts_of logs bs)) ≡ []
+    go : named_times (halts_of logs bs) ≡ [] → (o : Option (ℕ × Break))
+        → named_times (cons_option (option_map (λ found. line.Halt b.header.id found.0 found.1) o) (halts_of logs bs)) ≡ []
     go ih None = ih
     go ih (Some found) = ih
 
 read-names : (logs : Logs) (m : Session) (u : ℕ) (key : List ℕ) → named_times (read_at_line logs m u key ∷ []) ≡ []
 read-names logs m u key = go (nat_lt (safe_now logs m) u) (nat_lt u m.cutoff) (row logs u key)
   where
-    go : (a b : Bool) (v : Option (List ℕ)) → named_times ((if a then line.Ahead u (safe_now logs m) else (if b then line.Pruned u m.cutoff else line.ReadAt u key v)) ∷ []) ≡ []
+    go : (a b : Bool) (v : Option (List ℕ))
+        → named_times ((if a then line.Ahead u (safe_now logs m) else (if b then line.Pruned u m.cutoff else line.ReadAt u key v)) ∷ []) ≡
+        []
     go true b v = refl
     go false true v = refl
     go false false v = refl
 
 prune-names : (logs : Logs) (m : Session) (u : ℕ) → named_times (prune_step logs m u).1 ≡ []
-prune-names logs m u = elim (nat_lt (safe_now logs m) u) as (λ b. named_times (either b (m, line.Ahead u (safe_now logs m) ∷ []) (record m { cutoff = max m.cutoff u }, line.Prune (max m.cutoff u) ∷ [])).1 ≡ []) [ true ↦ refl | false ↦ refl ]
+prune-names logs m u =
+    elim (nat_lt (safe_now logs m) u) as
+    (λ b. named_times
+    (either b (m, line.Ahead u (safe_now logs m) ∷ []) (record m { cutoff = max m.cutoff u }, line.Prune (max m.cutoff u) ∷ [])).1 ≡
+    []) [ true ↦ refl | false ↦ refl ]
 
 -- the lines of a command name the safe time after it, if any
 open-names : (logs : Logs) (m : Session) (c : Command) → Names (safe_now logs (open_step logs m c).0) (open_step logs m c).1
@@ -83,7 +91,9 @@ step-names : (logs : Logs) (m : Session) (c : Command) → Names (safe_now logs 
 unfolding step
 step-names logs m c = go (refuses m c)
   where
-    go : (o : Option ℕ) → Names (safe_now logs (option_map_or {T = ℕ} {U = Session × List Line} (λ t. (m, line.Closed t ∷ [])) o (open_step logs m c)).0) (option_map_or {T = ℕ} {U = Session × List Line} (λ t. (m, line.Closed t ∷ [])) o (open_step logs m c)).1
+    go : (o : Option ℕ)
+        → Names (safe_now logs (option_map_or {T = ℕ} {U = Session × List Line} (λ t. (m, line.Closed t ∷ [])) o (open_step logs m c)).0)
+        (option_map_or {T = ℕ} {U = Session × List Line} (λ t. (m, line.Closed t ∷ [])) o (open_step logs m c)).1
     go None = open-names logs m c
     go (Some t) = inl refl
 
@@ -97,10 +107,12 @@ named-times-rise logs m (c ∷ commands) valid st =
     let n = (step logs m c).0 in
     let lines = (step logs m c).1 in
     let up : safe_now logs m ≤ safe_now logs n = steps-rise logs m c valid st in
-    let rest : IsRising (safe_now logs n) (named_times (lines_from logs n commands)) = named-times-rise logs n commands valid (steps-keep logs m c valid st) in
+    let rest : IsRising (safe_now logs n) (named_times (lines_from logs n commands)) =
+    named-times-rise logs n commands valid (steps-keep logs m c valid st) in
     subst (IsRising (safe_now logs m)) (sym (filter_map-append named lines (lines_from logs n commands)))
     (⊎_elim
-    (λ e. subst (λ w. IsRising (safe_now logs m) (w ++ named_times (lines_from logs n commands))) (sym e) (lower (safe_now logs m) (safe_now logs n) (named_times (lines_from logs n commands)) up rest))
+    (λ e. subst (λ w. IsRising (safe_now logs m) (w ++ named_times (lines_from logs n commands))) (sym e)
+    (lower (safe_now logs m) (safe_now logs n) (named_times (lines_from logs n commands)) up rest))
     (λ e. subst (λ w. IsRising (safe_now logs m) (w ++ named_times (lines_from logs n commands))) (sym e) (up, rest)) (step-names logs m c))
 
 -- ---- a closed session
@@ -126,5 +138,6 @@ closed-times logs m (c ∷ commands) t st e =
     let lines = (step logs m c).1 in
     let time : safe_now logs (step logs m c).0 ≡ t = ap (safe_now logs) same ∙ closing-time logs m t st e in
     subst (Each (λ w. w ≡ t)) (sym (filter_map-append named lines (lines_from logs (step logs m c).0 commands)))
-    (Each-append (λ w. w ≡ t) (named_times lines) (named_times (lines_from logs (step logs m c).0 commands)) (names-same t (safe_now logs (step logs m c).0) lines time (step-names logs m c))
+    (Each-append (λ w. w ≡ t) (named_times lines) (named_times (lines_from logs (step logs m c).0 commands))
+    (names-same t (safe_now logs (step logs m c).0) lines time (step-names logs m c))
     (subst (λ n. Each (λ w. w ≡ t) (named_times (lines_from logs n commands))) (sym same) (closed-times logs m commands t st e)))

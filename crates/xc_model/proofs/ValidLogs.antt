@@ -12,7 +12,8 @@ use Rattle.xc_model.proofs.Along.{owns, path_of, Agrees, NoStragglers}
 -- each hash has a root, and a child of each tablet that holds it and whose records end in a split
 pub record Covers (bs : List AcceptedTablet) (h : ℕ) : Type 0 where
   pub root : Exists (λ d. (d.header.parent ≡ None) × (owns h d.header ≡ true)) bs
-  pub child : Each (λ b. b.end.split ≡ true → owns h b.header ≡ true → Exists (λ d. (d.header.parent ≡ Some b.header.id) × (owns h d.header ≡ true)) bs) bs
+  pub child : Each (λ b. b.end.split ≡ true → owns h b.header ≡ true
+      → Exists (λ d. (d.header.parent ≡ Some b.header.id) × (owns h d.header ≡ true)) bs) bs
 
 -- the logs agree
 pub record AgreeAll (outcomes : Outcomes) (bs : List AcceptedTablet) : Type 0 where

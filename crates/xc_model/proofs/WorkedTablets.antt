@@ -1,5 +1,5 @@
--- Tablets of the target over small logs, from a new one on, record by record, and that each stands for the logs.
--- The logs have a split tablet, a transaction over both of its children, a removal, and a subtransaction that was rolled back. Their keys are a and z.
+-- Tablets of the target over small logs, from a new one on, record by record, and that each stands for the logs. The logs have a split
+-- tablet, a transaction over both of its children, a removal, and a subtransaction that was rolled back. Their keys are a and z.
 use Rattle.std.proofs.Common.{◌≡◌, ℕ, ◌+◌, true, false, List, [], ◌∷◌, Bool, Some, None, refl, sym, subst, arith, ⊎_elim}
 use Rattle.std.specs.Prelude.{codes, slice_index, slice_set, bytes_eq, if◌then◌else◌}
 use Rattle.std.proofs.lemmas.Bool.{cases_Bool, false≢true}
@@ -28,7 +28,8 @@ pub record IsOther (k : List ℕ) : Type 0 where
 pub by-key : (P : List ℕ → Type 0) → P a → P z → ((k : List ℕ) → IsOther k → P k) → (k : List ℕ) → P k
 by-key P at-a at-z at-other k =
     ⊎_elim (λ e. subst P (sym ((bytes_eq-Decides k a).0 e)) at-a)
-    (λ not-a. ⊎_elim (λ e. subst P (sym ((bytes_eq-Decides k z).0 e)) at-z) (λ not-z. at-other k (record { a = not-a; z = not-z })) (cases_Bool (bytes_eq k z)))
+    (λ not-a. ⊎_elim (λ e. subst P (sym ((bytes_eq-Decides k z).0 e)) at-z) (λ not-z. at-other k (record { a = not-a; z = not-z }))
+    (cases_Bool (bytes_eq k z)))
     (cases_Bool (bytes_eq k a))
 
 -- ---- one more record
@@ -46,13 +47,16 @@ after s r versions held x = record x {
 abbrev At : ℕ → Record → TargetTablet → TargetTablet → List ℕ → Type 0
 At s r x y k = kept_at y k ≡ if owned_by x s k then steps (record_events k r) (kept_at x k) else kept_at x k
 
-taken : (s : ℕ) (r : Record) (vs : List KeyVersion) (ws : List KeyWaiting) (x : TargetTablet) → ((k : List ℕ) → in_range x k ≡ true → At s r x (after s r vs ws x) k) → KeepsWithin (after s r vs ws x)
+taken : (s : ℕ) (r : Record) (vs : List KeyVersion) (ws : List KeyWaiting) (x : TargetTablet)
+    → ((k : List ℕ) → in_range x k ≡ true → At s r x (after s r vs ws x) k) → KeepsWithin (after s r vs ws x)
     → TakesIn s r x (after s r vs ws x)
 taken s r vs ws x keys within = record { range = (refl, refl); places = refl; floors = refl; keys = keys; within = within }
 
-taken-by-key : (s : ℕ) (r : Record) (vs : List KeyVersion) (ws : List KeyWaiting) (x : TargetTablet) → (in_range x a ≡ true → At s r x (after s r vs ws x) a) → (in_range x z ≡ true → At s r x (after s r vs ws x) z)
+taken-by-key : (s : ℕ) (r : Record) (vs : List KeyVersion) (ws : List KeyWaiting) (x : TargetTablet)
+    → (in_range x a ≡ true → At s r x (after s r vs ws x) a) → (in_range x z ≡ true → At s r x (after s r vs ws x) z)
     → ((k : List ℕ) → IsOther k → At s r x (after s r vs ws x) k) → KeepsWithin (after s r vs ws x) → TakesIn s r x (after s r vs ws x)
-taken-by-key s r vs ws x at-a at-z at-other within = taken s r vs ws x (by-key (λ k. in_range x k ≡ true → At s r x (after s r vs ws x) k) at-a at-z (λ k other _. at-other k other)) within
+taken-by-key s r vs ws x at-a at-z at-other within =
+    taken s r vs ws x (by-key (λ k. in_range x k ≡ true → At s r x (after s r vs ws x) k) at-a at-z (λ k other _. at-other k other)) within
 
 -- where the record changes nothing, it doesn't matter whether its tablet owns the key
 either : (b : Bool) (x : Kept) → x ≡ if b then x else x
@@ -154,11 +158,14 @@ early = after 0 the_split written waits after_safe
 
 write-taken : TakesIn 0 the_write new after_write
 unfolding computed
-write-taken = taken-by-key 0 the_write written [] new (λ _. refl) (λ _. refl) (λ k other. rw (other.a, other.z) (either _ _)) (record { versions = (refl, (refl, tt)); held = tt })
+write-taken = taken-by-key 0 the_write written [] new (λ _. refl) (λ _. refl) (λ k other. rw (other.a, other.z) (either _ _))
+    (record { versions = (refl, (refl, tt)); held = tt })
 
 undone-taken : TakesIn 0 undone_intent after_write after_undone
 unfolding computed
-undone-taken = taken-by-key 0 undone_intent written (waits-undone ∷ []) after_write (λ _. refl) (λ _. refl) (λ k other. rw (other.a, other.z) (either _ _))
+undone-taken =
+    taken-by-key 0 undone_intent written (waits-undone ∷ []) after_write (λ _. refl) (λ _. refl)
+    (λ k other. rw (other.a, other.z) (either _ _))
     (record { versions = (refl, (refl, tt)); held = (refl, tt) })
 
 intent-taken : TakesIn 0 the_intent after_undone after_intent
@@ -168,14 +175,17 @@ intent-taken = taken-by-key 0 the_intent written waits after_undone (λ _. refl)
 
 safe-taken : TakesIn 0 parent_safe after_intent after_safe
 unfolding computed
-safe-taken = taken 0 parent_safe written waits after_intent (λ k _. either _ _) (record { versions = (refl, (refl, tt)); held = (refl, (refl, (refl, tt))) })
+safe-taken = taken 0 parent_safe written waits after_intent (λ k _. either _ _)
+    (record { versions = (refl, (refl, tt)); held = (refl, (refl, (refl, tt))) })
 
 pub split-taken : TakesIn 0 the_split after_safe early
 unfolding computed
-split-taken = taken 0 the_split written waits after_safe (λ k _. either _ _) (record { versions = (refl, (refl, tt)); held = (refl, (refl, (refl, tt))) })
+split-taken = taken 0 the_split written waits after_safe (λ k _. either _ _)
+    (record { versions = (refl, (refl, tt)); held = (refl, (refl, (refl, tt))) })
 
 pub before-split-taken : TakesAll 0 before_split new after_safe
-before-split-taken = (after_write, (write-taken, (after_undone, (undone-taken, (after_intent, (intent-taken, (after_safe, (safe-taken, refl))))))))
+before-split-taken =
+    (after_write, (write-taken, (after_undone, (undone-taken, (after_intent, (intent-taken, (after_safe, (safe-taken, refl))))))))
 
 pub three-taken : TakesAll 0 (the_write ∷ undone_intent ∷ the_intent ∷ []) new after_intent
 three-taken = (after_write, (write-taken, (after_undone, (undone-taken, (after_intent, (intent-taken, refl))))))
@@ -185,12 +195,15 @@ last-taken = (after_safe, (safe-taken, (early, (split-taken, refl))))
 
 pub three-stand : StandsFor with_both_children 0 after_intent
 unfolding computed
-three-stand = batches-keep with_both_children new after_intent 0 0 1 (the_write ∷ undone_intent ∷ the_intent ∷ []) new-stands-for refl (omega arith) (omega arith) refl three-taken
+three-stand = batches-keep with_both_children new after_intent 0 0 1 (the_write ∷ undone_intent ∷ the_intent ∷ []) new-stands-for refl
+    (omega arith) (omega arith) refl three-taken
 
 -- the records from the second on, of which two are skipped
 pub early-stands : StandsFor with_both_children 0 early
 unfolding computed
-early-stands = batches-keep with_both_children after_intent early 0 0 2 (undone_intent ∷ the_intent ∷ parent_safe ∷ the_split ∷ []) three-stand refl (omega arith) (omega arith) refl last-taken
+early-stands =
+    batches-keep with_both_children after_intent early 0 0 2 (undone_intent ∷ the_intent ∷ parent_safe ∷ the_split ∷ []) three-stand refl
+    (omega arith) (omega arith) refl last-taken
 
 -- ---- and after the children's
 
@@ -209,7 +222,8 @@ drained = after 2 right_safe written-both [] after_both
 
 pub left_apply-taken : TakesIn 1 left_apply early half
 unfolding computed
-left_apply-taken = taken-by-key 1 left_apply written-a (waits-z ∷ []) early (λ _. refl) (λ _. refl) (λ k other. rw (other.a, other.z) (either _ _))
+left_apply-taken =
+    taken-by-key 1 left_apply written-a (waits-z ∷ []) early (λ _. refl) (λ _. refl) (λ k other. rw (other.a, other.z) (either _ _))
     (record { versions = (refl, (refl, (refl, tt))); held = (refl, tt) })
 
 pub half-stands : StandsFor with_both_children 0 half
@@ -218,7 +232,9 @@ half-stands = deliveries-keep with_both_children early half 0 1 left_apply early
 
 left_safe-taken : TakesIn 1 left_safe half after_left
 unfolding computed
-left_safe-taken = taken 1 left_safe written-a (waits-z ∷ []) half (λ k _. either _ _) (record { versions = (refl, (refl, (refl, tt))); held = (refl, tt) })
+left_safe-taken =
+    taken 1 left_safe written-a (waits-z ∷ []) half (λ k _. either _ _)
+    (record { versions = (refl, (refl, (refl, tt))); held = (refl, tt) })
 
 left-stands : StandsFor with_both_children 0 after_left
 unfolding computed
@@ -226,16 +242,20 @@ left-stands = deliveries-keep with_both_children half after_left 0 1 left_safe h
 
 right_apply-taken : TakesIn 2 right_apply after_left after_both
 unfolding computed
-right_apply-taken = taken-by-key 2 right_apply written-both [] after_left (λ _. refl) (λ _. refl) (λ k other. rw (other.a, other.z) (either _ _))
+right_apply-taken =
+    taken-by-key 2 right_apply written-both [] after_left (λ _. refl) (λ _. refl) (λ k other. rw (other.a, other.z) (either _ _))
     (record { versions = (refl, (refl, (refl, (refl, tt)))); held = tt })
 
 right_safe-taken : TakesIn 2 right_safe after_both drained
 unfolding computed
-right_safe-taken = taken 2 right_safe written-both [] after_both (λ k _. either _ _) (record { versions = (refl, (refl, (refl, (refl, tt)))); held = tt })
+right_safe-taken =
+    taken 2 right_safe written-both [] after_both (λ k _. either _ _) (record { versions = (refl, (refl, (refl, (refl, tt)))); held = tt })
 
 pub drained-stands : StandsFor with_both_children 0 drained
 unfolding computed
-drained-stands = batches-keep with_both_children after_left drained 0 2 1 right_records left-stands refl (omega arith) (omega arith) refl (after_both, (right_apply-taken, (drained, (right_safe-taken, refl))))
+drained-stands =
+    batches-keep with_both_children after_left drained 0 2 1 right_records left-stands refl (omega arith) (omega arith) refl
+    (after_both, (right_apply-taken, (drained, (right_safe-taken, refl))))
 
 -- ---- a tablet of the lower hashes; that of z is not among them
 
@@ -275,44 +295,75 @@ lower = after 1 left_safe lower_committed [] lower_after_apply
 
 lower-write-taken : TakesIn 0 the_write lower_new lower_after_write
 unfolding computed
-lower-write-taken = taken-by-key 0 the_write lower_written [] lower_new (λ _. refl) (λ e. absurd (false≢true e)) (λ k other. rw (other.a, other.z) (either _ _))
+lower-write-taken =
+    taken-by-key 0 the_write lower_written [] lower_new (λ _. refl) (λ e. absurd (false≢true e))
+    (λ k other. rw (other.a, other.z) (either _ _))
     (record { versions = (refl, tt); held = tt })
 
 lower-undone-taken : TakesIn 0 undone_intent lower_after_write lower_after_undone
 unfolding computed
-lower-undone-taken = taken-by-key 0 undone_intent lower_written (waits-undone ∷ []) lower_after_write (λ _. refl) (λ e. absurd (false≢true e)) (λ k other. rw other.a (either _ _))
+lower-undone-taken =
+    taken-by-key 0 undone_intent lower_written (waits-undone ∷ []) lower_after_write (λ _. refl) (λ e. absurd (false≢true e))
+    (λ k other. rw other.a (either _ _))
     (record { versions = (refl, tt); held = (refl, tt) })
 
 lower-intent-taken : TakesIn 0 the_intent lower_after_undone lower_after_intent
 unfolding computed
-lower-intent-taken = taken-by-key 0 the_intent lower_written lower_waits lower_after_undone (λ _. refl) (λ e. absurd (false≢true e)) (λ k other. rw (other.a, other.z) (either _ _))
+lower-intent-taken =
+    taken-by-key 0 the_intent lower_written lower_waits lower_after_undone (λ _. refl) (λ e. absurd (false≢true e))
+    (λ k other. rw (other.a, other.z) (either _ _))
     (record { versions = (refl, tt); held = (refl, (refl, tt)) })
 
 lower-safe-taken : TakesIn 0 parent_safe lower_after_intent lower_after_safe
 unfolding computed
-lower-safe-taken = taken 0 parent_safe lower_written lower_waits lower_after_intent (λ k _. either _ _) (record { versions = (refl, tt); held = (refl, (refl, tt)) })
+lower-safe-taken =
+    taken 0 parent_safe lower_written lower_waits lower_after_intent (λ k _. either _ _)
+    (record { versions = (refl, tt); held = (refl, (refl, tt)) })
 
 lower-split-taken : TakesIn 0 the_split lower_after_safe lower_after_split
 unfolding computed
-lower-split-taken = taken 0 the_split lower_written lower_waits lower_after_safe (λ k _. either _ _) (record { versions = (refl, tt); held = (refl, (refl, tt)) })
+lower-split-taken =
+    taken 0 the_split lower_written lower_waits lower_after_safe (λ k _. either _ _)
+    (record { versions = (refl, tt); held = (refl, (refl, tt)) })
 
 lower-apply-taken : TakesIn 1 left_apply lower_after_split lower_after_apply
 unfolding computed
-lower-apply-taken = taken-by-key 1 left_apply lower_committed [] lower_after_split (λ _. refl) (λ e. absurd (false≢true e)) (λ k other. rw other.a (either _ _))
+lower-apply-taken =
+    taken-by-key 1 left_apply lower_committed [] lower_after_split (λ _. refl) (λ e. absurd (false≢true e))
+    (λ k other. rw other.a (either _ _))
     (record { versions = (refl, (refl, tt)); held = tt })
 
 lower-left_safe-taken : TakesIn 1 left_safe lower_after_apply lower
 unfolding computed
-lower-left_safe-taken = taken 1 left_safe lower_committed [] lower_after_apply (λ k _. either _ _) (record { versions = (refl, (refl, tt)); held = tt })
+lower-left_safe-taken =
+    taken 1 left_safe lower_committed [] lower_after_apply (λ k _. either _ _) (record { versions = (refl, (refl, tt)); held = tt })
 
 lower_split-stands : StandsFor with_both_children 0 lower_after_split
 unfolding computed
-lower_split-stands = batches-keep with_both_children lower_new lower_after_split 0 0 1 parent_records (new-stands with_both_children 0 32767 valid) refl (omega arith) (omega arith) refl
-    (lower_after_write, (lower-write-taken, (lower_after_undone, (lower-undone-taken, (lower_after_intent, (lower-intent-taken, (lower_after_safe, (lower-safe-taken, (lower_after_split, (lower-split-taken, refl))))))))))
+lower_split-stands =
+    batches-keep with_both_children lower_new lower_after_split 0 0 1 parent_records (new-stands with_both_children 0 32767 valid) refl
+    (omega arith) (omega arith) refl (
+      lower_after_write,
+      (
+        lower-write-taken,
+        (
+          lower_after_undone,
+          (
+            lower-undone-taken,
+            (
+              lower_after_intent,
+              (lower-intent-taken, (lower_after_safe, (lower-safe-taken, (lower_after_split, (lower-split-taken, refl))))),
+            ),
+          ),
+        ),
+      ),
+    )
 
 pub lower-stands : StandsFor with_both_children 0 lower
 unfolding computed
-lower-stands = batches-keep with_both_children lower_after_split lower 0 1 1 (left_apply ∷ left_safe ∷ []) lower_split-stands refl (omega arith) (omega arith) refl
+lower-stands =
+    batches-keep with_both_children lower_after_split lower 0 1 1 (left_apply ∷ left_safe ∷ []) lower_split-stands refl (omega arith)
+    (omega arith) refl
     (lower_after_apply, (lower-apply-taken, (lower, (lower-left_safe-taken, refl))))
 
 -- ---- a tablet of the upper hashes; that of a is not among them
@@ -347,36 +398,64 @@ upper = after 2 right_apply upper_committed [] upper_after_split
 
 upper-write-taken : TakesIn 0 the_write upper_new upper_after_write
 unfolding computed
-upper-write-taken = taken-by-key 0 the_write upper_written [] upper_new (λ e. absurd (false≢true e)) (λ _. refl) (λ k other. rw (other.a, other.z) (either _ _))
+upper-write-taken =
+    taken-by-key 0 the_write upper_written [] upper_new (λ e. absurd (false≢true e)) (λ _. refl)
+    (λ k other. rw (other.a, other.z) (either _ _))
     (record { versions = (refl, tt); held = tt })
 
 upper-undone-taken : TakesIn 0 undone_intent upper_after_write upper_after_undone
 unfolding computed
-upper-undone-taken = taken-by-key 0 undone_intent upper_written [] upper_after_write (λ e. absurd (false≢true e)) (λ _. refl) (λ k other. rw (other.a, other.z) (either _ _))
+upper-undone-taken =
+    taken-by-key 0 undone_intent upper_written [] upper_after_write (λ e. absurd (false≢true e)) (λ _. refl)
+    (λ k other. rw (other.a, other.z) (either _ _))
     (record { versions = (refl, tt); held = tt })
 
 upper-intent-taken : TakesIn 0 the_intent upper_after_undone upper_after_intent
 unfolding computed
-upper-intent-taken = taken-by-key 0 the_intent upper_written (waits-z ∷ []) upper_after_undone (λ e. absurd (false≢true e)) (λ _. refl) (λ k other. rw (other.a, other.z) (either _ _))
+upper-intent-taken =
+    taken-by-key 0 the_intent upper_written (waits-z ∷ []) upper_after_undone (λ e. absurd (false≢true e)) (λ _. refl)
+    (λ k other. rw (other.a, other.z) (either _ _))
     (record { versions = (refl, tt); held = (refl, tt) })
 
 upper-safe-taken : TakesIn 0 parent_safe upper_after_intent upper_after_safe
 unfolding computed
-upper-safe-taken = taken 0 parent_safe upper_written (waits-z ∷ []) upper_after_intent (λ k _. either _ _) (record { versions = (refl, tt); held = (refl, tt) })
+upper-safe-taken =
+    taken 0 parent_safe upper_written (waits-z ∷ []) upper_after_intent (λ k _. either _ _)
+    (record { versions = (refl, tt); held = (refl, tt) })
 
 upper-split-taken : TakesIn 0 the_split upper_after_safe upper_after_split
 unfolding computed
-upper-split-taken = taken 0 the_split upper_written (waits-z ∷ []) upper_after_safe (λ k _. either _ _) (record { versions = (refl, tt); held = (refl, tt) })
+upper-split-taken =
+    taken 0 the_split upper_written (waits-z ∷ []) upper_after_safe (λ k _. either _ _)
+    (record { versions = (refl, tt); held = (refl, tt) })
 
 upper-apply-taken : TakesIn 2 right_apply upper_after_split upper
 unfolding computed
-upper-apply-taken = taken-by-key 2 right_apply upper_committed [] upper_after_split (λ e. absurd (false≢true e)) (λ _. refl) (λ k other. rw other.z (either _ _))
+upper-apply-taken =
+    taken-by-key 2 right_apply upper_committed [] upper_after_split (λ e. absurd (false≢true e)) (λ _. refl)
+    (λ k other. rw other.z (either _ _))
     (record { versions = (refl, (refl, tt)); held = tt })
 
 upper_split-stands : StandsFor with_both_children 0 upper_after_split
 unfolding computed
-upper_split-stands = batches-keep with_both_children upper_new upper_after_split 0 0 1 parent_records (new-stands with_both_children 32768 65535 valid) refl (omega arith) (omega arith) refl
-    (upper_after_write, (upper-write-taken, (upper_after_undone, (upper-undone-taken, (upper_after_intent, (upper-intent-taken, (upper_after_safe, (upper-safe-taken, (upper_after_split, (upper-split-taken, refl))))))))))
+upper_split-stands =
+    batches-keep with_both_children upper_new upper_after_split 0 0 1 parent_records (new-stands with_both_children 32768 65535 valid) refl
+    (omega arith) (omega arith) refl (
+      upper_after_write,
+      (
+        upper-write-taken,
+        (
+          upper_after_undone,
+          (
+            upper-undone-taken,
+            (
+              upper_after_intent,
+              (upper-intent-taken, (upper_after_safe, (upper-safe-taken, (upper_after_split, (upper-split-taken, refl))))),
+            ),
+          ),
+        ),
+      ),
+    )
 
 pub upper-stands : StandsFor with_both_children 0 upper
 unfolding computed

@@ -6,7 +6,8 @@
 --     raised s value f      a safe record of s was applied; split_at s f      its split was
 --     floors_after s kind f      a record of s was applied
 --     FloorsFor logs places f      f has of each source tablet what the logs give at its place
-use Rattle.std.specs.Prelude.{◌≡◌, ℕ, max, Bool, true, false, List, filter, map, ◌&&◌, length, replicate, not, slice_index, slice_index_or, slice_get, slice_set}
+use Rattle.std.specs.Prelude.{◌≡◌, ℕ, max, Bool, true, false, List, filter, map, ◌&&◌, length, replicate, not, slice_index, slice_index_or}
+use Rattle.std.specs.Prelude.{slice_get, slice_set}
 use Rattle.std.specs.List.{AllByRecursion}
 use Rattle.std.specs.Option.{option_map_or}
 use Rattle.xc_record.specs.declared.record.Header.{Header}

@@ -12,7 +12,8 @@ use Rattle.xc_record.specs.SafeTime.{is_closed}
 use Rattle.xc_record.specs.Rows.{rows, row}
 use Rattle.xc_record.specs.Session.{Session, position, places_of, safe_now}
 
-pub record ReportOf (logs : Logs) (n : Session) (acks : List ℕ) (closed : Bool) (cursors : List ℕ) (cutoff : ℕ) (places : List ℕ) (safe : ℕ) : Type 0 where
+pub record ReportOf (logs : Logs) (n : Session) (acks : List ℕ) (closed : Bool) (cursors : List ℕ) (cutoff : ℕ) (places : List ℕ) (safe : ℕ)
+    : Type 0 where
   pub acks_are : acks ≡ map (λ p. p.acknowledged) n.positions
   pub closed_is : closed ≡ is_some n.closed
   pub cursors_are : cursors ≡ map (λ p. p.cursor) n.positions

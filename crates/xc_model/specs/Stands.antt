@@ -11,7 +11,8 @@
 --     TakesIn s r x y      y is x after one more record r of the source tablet s
 --     TakesAll s rs x y      y is x after the records rs of s, one after another
 --     TakesBatch s from rs x y      y is x after those of the records of s from the number `from` on that are past its place
-use Rattle.std.specs.Prelude.{◌≡◌, ℕ, ◌+◌, ◌-◌, ◌≤◌, Bool, true, false, List, [], ◌∷◌, filter, nat_le, ◌&&◌, length, replicate, slice_index, slice_get, slice_set, drop, if◌then◌else◌}
+use Rattle.std.specs.Prelude.{◌≡◌, ℕ, ◌+◌, ◌-◌, ◌≤◌, Bool, true, false, List, [], ◌∷◌, filter, nat_le, ◌&&◌, length, replicate, slice_index}
+use Rattle.std.specs.Prelude.{slice_get, slice_set, drop, if◌then◌else◌}
 use Rattle.std.specs.List.{AllByRecursion}
 use Rattle.std.specs.Option.{option_map_or}
 use Rattle.xc_record.specs.declared.record.Header.{Header}
@@ -107,7 +108,8 @@ pub record TakesIn (s : ℕ) (r : Record) (x y : TargetTablet) : Type 0 where
   pub range : (y.lo ≡ x.lo) × (y.hi ≡ x.hi)
   pub places : y.places ≡ slice_set x.places s (slice_index x.places s + 1)
   pub floors : y.floors ≡ floors_after s r.kind x.floors
-  pub keys : (k : List ℕ) → in_range x k ≡ true → kept_at y k ≡ if owned_by x s k then steps (record_events k r) (kept_at x k) else kept_at x k
+  pub keys : (k : List ℕ) → in_range x k ≡ true
+      → kept_at y k ≡ if owned_by x s k then steps (record_events k r) (kept_at x k) else kept_at x k
   pub within : KeepsWithin y
 
 abbrev pub TakesAll : ℕ → List Record → TargetTablet → TargetTablet → Type 0

@@ -1,18 +1,25 @@
 //! The theorem that replication rests on, over the definitions alone: each function's contract is one law.
 //!
-//! A target tablet that stands for the logs shows, at each time from its cutoff to the safe time of its places, the rows of the logs
-//! at that time: the transactions committed by then, each in full, and none that commits later.
+//! A target tablet that stands for the logs shows, at each time from its cutoff to the safe time of its places, the
+//! rows of the logs at that time: the transactions committed by then, each in full, and none that commits later.
 #![tactic(auto)]
 
-ghost use Rattle.xc_record.specs.RangeLaws.{RangesHoldOnce, BoundsShareOut, RootsShareOut, OneRootHolds, ChildrenShareOut};
-ghost use Rattle.xc_model.specs.Laws.{ReadsShowRows, ReadsShowLists, KeysSuffice, FirstCaseIsFound, StragglersAreFound, NewStands, CutoffsKeepStanding, RestoresKeepReads, RestoredShowRows, SafeTimeRises, KeptValuesSuffice, DeliveriesKeepStanding, BatchesKeepStanding, BatchesMovePlaces, BatchesGrow, PartitionsShowRows, RestoredPartitionsShowRows, SessionsStart, StepsKeepSessions, StepsKeepTimes, NamedTimesRise, FailoverCloses, ClosedStays, CutoffsRise, StopsKeepPlaces, LinesNameSessions, ClosedTimesStay};
+ghost use Rattle.xc_record.specs.RangeLaws.{RangesHoldOnce, BoundsShareOut, RootsShareOut, OneRootHolds};
+ghost use Rattle.xc_record.specs.RangeLaws.{ChildrenShareOut};
+ghost use Rattle.xc_model.specs.Laws.{ReadsShowRows, ReadsShowLists, KeysSuffice, FirstCaseIsFound, StragglersAreFound};
+ghost use Rattle.xc_model.specs.Laws.{NewStands, CutoffsKeepStanding, RestoresKeepReads, RestoredShowRows};
+ghost use Rattle.xc_model.specs.Laws.{SafeTimeRises, KeptValuesSuffice, DeliveriesKeepStanding, BatchesKeepStanding};
+ghost use Rattle.xc_model.specs.Laws.{BatchesMovePlaces, BatchesGrow, PartitionsShowRows, RestoredPartitionsShowRows};
+ghost use Rattle.xc_model.specs.Laws.{SessionsStart, StepsKeepSessions, StepsKeepTimes, NamedTimesRise, FailoverCloses};
+ghost use Rattle.xc_model.specs.Laws.{ClosedStays, CutoffsRise, StopsKeepPlaces, LinesNameSessions, ClosedTimesStay};
 
 /// For logs that agree, a read at a time from the cutoff to what the tablet covers is the row of the logs at that time.
 pub fn reads_show_rows()
     ensures { ReadsShowRows }
 {}
 
-/// The whole list of rows that a tablet shows is the list of the logs' rows at that time, in byte order, of the keys of its range.
+/// The whole list of rows that a tablet shows is the list of the logs' rows at that time, in byte order, of the keys of
+/// its range.
 pub fn reads_show_lists()
     ensures { ReadsShowLists }
 {}
@@ -22,8 +29,8 @@ pub fn keys_suffice()
     ensures { KeysSuffice }
 {}
 
-/// In well-formed logs the disagreement that is found is the first case that stands, and none is found exactly where none
-/// stands.
+/// In well-formed logs the disagreement that is found is the first case that stands, and none is found exactly where
+/// none stands.
 pub fn first_case_is_found()
     ensures { FirstCaseIsFound }
 {}
@@ -43,8 +50,8 @@ pub fn batches_keep_standing()
     ensures { BatchesKeepStanding }
 {}
 
-/// Whatever logs there are, a batch leaves the place at the greater of the old one and its last number, and all else of other
-/// source tablets as it was.
+/// Whatever logs there are, a batch leaves the place at the greater of the old one and its last number, and all else of
+/// other source tablets as it was.
 pub fn batches_move_places()
     ensures { BatchesMovePlaces }
 {}
@@ -54,7 +61,8 @@ pub fn batches_grow()
     ensures { BatchesGrow }
 {}
 
-/// The rows that tablets show whose ranges share out the hashes, merged in byte order of keys, are the rows of the logs.
+/// The rows that tablets show whose ranges share out the hashes, merged in byte order of keys, are the rows of the
+/// logs.
 pub fn partitions_show_rows()
     ensures { PartitionsShowRows }
 {}
@@ -99,7 +107,8 @@ pub fn sessions_start()
     ensures { SessionsStart }
 {}
 
-/// Each command keeps the session: legal places, the cursor between the acknowledged place and the place, the cutoff at most the safe time.
+/// Each command keeps the session: legal places, the cursor between the acknowledged place and the place, the cutoff at
+/// most the safe time.
 pub fn steps_keep_sessions()
     ensures { StepsKeepSessions }
 {}

@@ -1,5 +1,6 @@
 -- Laws of accepted_tablets.
-use Rattle.std.proofs.Common.{◌≡◌, ℕ, zero, suc, Bool, true, false, List, [], ◌∷◌, ◌++◌, map, refl, sym, ap, ◌∙◌, subst, append-nil, append_assoc}
+use Rattle.std.proofs.Common.{◌≡◌, ℕ, zero, suc, Bool, true, false, List, [], ◌∷◌, ◌++◌, map, refl, sym, ap, ◌∙◌, subst, append-nil}
+use Rattle.std.proofs.Common.{append_assoc}
 use Rattle.std.specs.Prelude.{fold, if◌then◌else◌, slice_get, Some}
 use Rattle.std.specs.Option.{option_map_or}
 use Rattle.std.proofs.lemmas.List.{map-append}
@@ -9,11 +10,13 @@ use Rattle.xc_record.specs.declared.record.Record.{Record}
 use Rattle.xc_record.specs.declared.record.Tablet.{Tablet}
 use Rattle.xc_record.specs.declared.record.Logs.{Logs}
 use Rattle.xc_record.specs.Order.{Progress, after, accepted_from}
-use Rattle.xc_record.specs.Accepted.{AcceptedTablet, accepted_tablets, accepted_tablet, accepted_tablets_after, accepted_tablet_after, start_after, reached_after, records}
+use Rattle.xc_record.specs.Accepted.{AcceptedTablet, accepted_tablets, accepted_tablet, accepted_tablets_after, accepted_tablet_after}
+use Rattle.xc_record.specs.Accepted.{start_after, reached_after, records}
 use Rattle.xc_record.proofs.OrderLaws.{accepted-accepted}
 use Rattle.xc_record.proofs.ListLaws.{Each-append}
 
-pub accepted-reached : (reached : Bool) (p : Progress) (rs : List Record) → accepted_from p (if reached then accepted_from p rs else []) ≡ if reached then accepted_from p rs else []
+pub accepted-reached : (reached : Bool) (p : Progress) (rs : List Record)
+    → accepted_from p (if reached then accepted_from p rs else []) ≡ if reached then accepted_from p rs else []
 accepted-reached true p rs = accepted-accepted p rs
 accepted-reached false p rs = refl
 
@@ -28,17 +31,20 @@ accepted_tablet_after-grown before t = record {
   end = refl;
 }
 
-pub accepted_tablets_after-grown : (before : List AcceptedTablet) (ts : List Tablet) → Each IsGrown before → Each IsGrown (accepted_tablets_after before ts)
+pub accepted_tablets_after-grown : (before : List AcceptedTablet) (ts : List Tablet) → Each IsGrown before
+    → Each IsGrown (accepted_tablets_after before ts)
 accepted_tablets_after-grown before [] h = h
 accepted_tablets_after-grown before (t ∷ ts) h =
-    accepted_tablets_after-grown (before ++ accepted_tablet_after before t ∷ []) ts (Each-append IsGrown before (accepted_tablet_after before t ∷ []) h (accepted_tablet_after-grown before t, tt))
+    accepted_tablets_after-grown (before ++ accepted_tablet_after before t ∷ []) ts
+    (Each-append IsGrown before (accepted_tablet_after before t ∷ []) h (accepted_tablet_after-grown before t, tt))
 
 pub accepted_tablets-grown : (logs : Logs) → Each IsGrown (accepted_tablets logs)
 unfolding accepted_tablets
 accepted_tablets-grown logs = accepted_tablets_after-grown [] logs.tablets tt
 
 -- the accepted tablets have the tablets' headers
-pub headers-after : (before : List AcceptedTablet) (ts : List Tablet) → map (λ b. b.header) (accepted_tablets_after before ts) ≡ map (λ b. b.header) before ++ headers_of ts
+pub headers-after : (before : List AcceptedTablet) (ts : List Tablet)
+    → map (λ b. b.header) (accepted_tablets_after before ts) ≡ map (λ b. b.header) before ++ headers_of ts
 headers-after before [] = sym (append-nil (map (λ b. b.header) before))
 headers-after before (t ∷ ts) =
     headers-after (before ++ accepted_tablet_after before t ∷ []) ts
@@ -59,22 +65,27 @@ AreOf-snoc (x ∷ bs) (u ∷ ts) b t h e = (h.0, AreOf-snoc bs ts b t h.1 e)
 AreOf-snoc [] (u ∷ ts) b t h e = absurd h
 AreOf-snoc (x ∷ bs) [] b t h e = absurd h
 
-AreOf-after : (before : List AcceptedTablet) (done ts : List Tablet) → AreOf before done → AreOf (accepted_tablets_after before ts) (done ++ ts)
+AreOf-after : (before : List AcceptedTablet) (done ts : List Tablet) → AreOf before done
+    → AreOf (accepted_tablets_after before ts) (done ++ ts)
 AreOf-after before done [] h = subst (AreOf before) (sym (append-nil done)) h
 AreOf-after before done (t ∷ ts) h =
     subst (AreOf (accepted_tablets_after (before ++ accepted_tablet_after before t ∷ []) ts)) (append_assoc done (t ∷ []) ts)
-    (AreOf-after (before ++ accepted_tablet_after before t ∷ []) (done ++ t ∷ []) ts (AreOf-snoc before done (accepted_tablet_after before t) t h refl))
+    (AreOf-after (before ++ accepted_tablet_after before t ∷ []) (done ++ t ∷ []) ts
+    (AreOf-snoc before done (accepted_tablet_after before t) t h refl))
 
 AreOf-at : (bs : List AcceptedTablet) (ts : List Tablet) (s : ℕ) (b : AcceptedTablet) → AreOf bs ts → slice_get bs s ≡ Some b
     → b.records ≡ (if b.reached then accepted_from b.start (option_map_or (λ (t : Tablet). t.records) (slice_get ts s) []) else [])
 AreOf-at [] [] s b h e = cc
-AreOf-at (x ∷ bs) (t ∷ ts) zero b h e = let same : x ≡ b = cc in subst (λ (y : AcceptedTablet). y.records ≡ (if y.reached then accepted_from y.start t.records else [])) same h.0
+AreOf-at (x ∷ bs) (t ∷ ts) zero b h e =
+    let same : x ≡ b =
+    cc in subst (λ (y : AcceptedTablet). y.records ≡ (if y.reached then accepted_from y.start t.records else [])) same h.0
 AreOf-at (x ∷ bs) (t ∷ ts) (suc s) b h e = AreOf-at bs ts s b h.1 e
 AreOf-at [] (u ∷ ts) s b h e = absurd h
 AreOf-at (x ∷ bs) [] s b h e = absurd h
 
 -- of a tablet that is reached they are those before the first break
-pub accepted-records : (logs : Logs) (s : ℕ) (b : AcceptedTablet) → accepted_tablet logs s ≡ Some b → b.reached ≡ true → b.records ≡ accepted_from b.start (records logs s)
+pub accepted-records : (logs : Logs) (s : ℕ) (b : AcceptedTablet) → accepted_tablet logs s ≡ Some b → b.reached ≡ true
+    → b.records ≡ accepted_from b.start (records logs s)
 unfolding accepted_tablets
 accepted-records logs s b e reached =
     AreOf-at (accepted_tablets_after [] logs.tablets) logs.tablets s b (AreOf-after [] [] logs.tablets tt) e

@@ -1,5 +1,7 @@
--- The disagreement of logs is the first of the cases that stand: that of the least transaction, then of the least tablet, then of the first kind.
-use Rattle.std.proofs.Common.{◌≡◌, ℕ, zero, suc, ◌+◌, ◌<◌, ◌≤◌, Bool, true, false, ◌||◌, List, [], ◌∷◌, map, length, refl, ap, sym, ◌∙◌, subst, arith, zero-add, inl, inr}
+-- The disagreement of logs is the first of the cases that stand: that of the least transaction, then of the least tablet, then of the first
+-- kind.
+use Rattle.std.proofs.Common.{◌≡◌, ℕ, zero, suc, ◌+◌, ◌<◌, ◌≤◌, Bool, true, false, ◌||◌, List, [], ◌∷◌, map, length, refl, ap, sym, ◌∙◌}
+use Rattle.std.proofs.Common.{subst, arith, zero-add, inl, inr}
 use Rattle.std.proofs.lemmas.Bool.{eqb-true, and_parts, cases_eq, cases_lt, true≢false}
 use Rattle.std.proofs.lemmas.Option.{same_Some, none-some}
 use Rattle.std.specs.Prelude.{Option, Some, None, ◌==◌, ◌↔◌, option_map, slice_get, if◌then◌else◌, flat_map}
@@ -12,7 +14,8 @@ use Rattle.xc_record.specs.Accepted.{AcceptedTablet, accepted_tablets, accepted_
 use Rattle.xc_record.specs.Headers.{are_headers, headers_fit}
 use Rattle.xc_record.specs.Valid.{headers_of, is_valid}
 use Rattle.xc_record.specs.Commits.{commit_of, undone, applied_txn, applied}
-use Rattle.xc_record.specs.Agreement.{Disagreement, commit_differs, rollback_differs, late_intent, aborted, straggler, first_kind, kind_at, disagreement_on, disagreement, rank, Stands, IsCase, IsFirstCase}
+use Rattle.xc_record.specs.Agreement.{Disagreement, commit_differs, rollback_differs, late_intent, aborted, straggler, first_kind, kind_at}
+use Rattle.xc_record.specs.Agreement.{disagreement_on, disagreement, rank, Stands, IsCase, IsFirstCase}
 use Rattle.xc_record.specs.Lists.{first_some, or_else, has}
 use Rattle.xc_record.proofs.HeaderLaws.{Numbered, Numbered-at, headers_fit-all}
 use Rattle.xc_record.proofs.NumberLaws.{Rising, distinct-rising}
@@ -63,7 +66,8 @@ first-passes : (test : AgreeKind → Bool) (ks : List AgreeKind) (k : AgreeKind)
 first-passes test [] k e = cc
 first-passes test (l ∷ ks) k e = go (test l) refl (first-passes test ks k) e
   where
-    go : (b : Bool) → test l ≡ b → (first_kind (rows test ks) ≡ Some k → test k ≡ true) → (if b then Some l else first_kind (rows test ks)) ≡ Some k → test k ≡ true
+    go : (b : Bool) → test l ≡ b → (first_kind (rows test ks) ≡ Some k → test k ≡ true)
+        → (if b then Some l else first_kind (rows test ks)) ≡ Some k → test k ≡ true
     go true f ih e = ap test (sym (same_Some l k e)) ∙ f
     go false f ih e = ih e
 
@@ -73,11 +77,13 @@ record Told (o : Option AgreeKind) (kind : AgreeKind) : Type 0 where
   is : o ≡ Some first
   before : rank first ≤ rank kind
 
-first-told : (test : AgreeKind → Bool) (n : ℕ) (ks : List AgreeKind) → Ranked n ks → (kind : AgreeKind) → n ≤ rank kind → rank kind < n + length ks → test kind ≡ true → Told (first_kind (rows test ks)) kind
+first-told : (test : AgreeKind → Bool) (n : ℕ) (ks : List AgreeKind) → Ranked n ks → (kind : AgreeKind) → n ≤ rank kind
+    → rank kind < n + length ks → test kind ≡ true → Told (first_kind (rows test ks)) kind
 first-told test n [] r kind low high t = absurd (omega arith)
 first-told test n (k ∷ ks) r kind low high t = go (test k) refl (λ l h. first-told test (n + 1) ks r.1 kind l h t)
   where
-    go : (b : Bool) → test k ≡ b → (n + 1 ≤ rank kind → rank kind < n + 1 + length ks → Told (first_kind (rows test ks)) kind) → Told (if b then Some k else first_kind (rows test ks)) kind
+    go : (b : Bool) → test k ≡ b → (n + 1 ≤ rank kind → rank kind < n + 1 + length ks → Told (first_kind (rows test ks)) kind)
+        → Told (if b then Some k else first_kind (rows test ks)) kind
     go true e ih = record { first = k; is = refl; before = omega (arith, r.0) }
     go false e ih = elim (cases_eq n (rank kind)) [
       | inl same ↦ absurd (true≢false (sym t ∙ ap test (sym (same-rank k kind (r.0 ∙ same))) ∙ e))
@@ -97,7 +103,8 @@ kind-rows : (logs : Logs) (n c : ℕ) (b : AcceptedTablet) → kind_at logs n c 
 unfolding kind_at test_at
 kind-rows logs n c b = refl
 
-passes-stands : (logs : Logs) (n c i : ℕ) (b : AcceptedTablet) (kind : AgreeKind) → accepted_tablet logs i ≡ Some b → (test_at logs n c b kind ≡ true) ↔ Stands logs n c b kind
+passes-stands : (logs : Logs) (n c i : ℕ) (b : AcceptedTablet) (kind : AgreeKind) → accepted_tablet logs i ≡ Some b
+    → (test_at logs n c b kind ≡ true) ↔ Stands logs n c b kind
 unfolding test_at
 passes-stands logs n c i b CommitDiffers at = (λ e. e, λ e. e)
 passes-stands logs n c i b RollbackDiffers at = (λ e. e, λ e. e)
@@ -105,16 +112,22 @@ passes-stands logs n c i b LateIntent at = (λ e. e, λ e. e)
 passes-stands logs n c i b Aborted at = (λ e. e, λ e. e)
 passes-stands logs n c i b Straggler at = straggler-found logs n c i b at
 
-kind-stands : (logs : Logs) (n c i : ℕ) (b : AcceptedTablet) (kind : AgreeKind) → accepted_tablet logs i ≡ Some b → kind_at logs n c b ≡ Some kind → Stands logs n c b kind
-kind-stands logs n c i b kind at e = (passes-stands logs n c i b kind at).0 (first-passes (test_at logs n c b) kinds kind (sym (kind-rows logs n c b) ∙ e))
+kind-stands : (logs : Logs) (n c i : ℕ) (b : AcceptedTablet) (kind : AgreeKind) → accepted_tablet logs i ≡ Some b
+    → kind_at logs n c b ≡ Some kind → Stands logs n c b kind
+kind-stands logs n c i b kind at e =
+    (passes-stands logs n c i b kind at).0 (first-passes (test_at logs n c b) kinds kind (sym (kind-rows logs n c b) ∙ e))
 
-stands-told : (logs : Logs) (n c i : ℕ) (b : AcceptedTablet) (kind : AgreeKind) → accepted_tablet logs i ≡ Some b → Stands logs n c b kind → Told (kind_at logs n c b) kind
+stands-told : (logs : Logs) (n c i : ℕ) (b : AcceptedTablet) (kind : AgreeKind) → accepted_tablet logs i ≡ Some b → Stands logs n c b kind
+    → Told (kind_at logs n c b) kind
 stands-told logs n c i b kind at s =
     subst (λ o. Told o kind) (sym (kind-rows logs n c b))
-    (first-told (test_at logs n c b) 0 kinds (refl, (refl, (refl, (refl, (refl, tt))))) kind (omega arith) (rank-below kind) ((passes-stands logs n c i b kind at).1 s))
+    (first-told (test_at logs n c b) 0 kinds (refl, (refl, (refl, (refl, (refl, tt))))) kind (omega arith) (rank-below kind)
+    ((passes-stands logs n c i b kind at).1 s))
 
-none-stands : (logs : Logs) (n c i : ℕ) (b : AcceptedTablet) (kind : AgreeKind) → accepted_tablet logs i ≡ Some b → kind_at logs n c b ≡ None → Stands logs n c b kind → ⊥
-none-stands logs n c i b kind at none s = let told : Told (kind_at logs n c b) kind = stands-told logs n c i b kind at s in none-some told.first (sym none ∙ told.is)
+none-stands : (logs : Logs) (n c i : ℕ) (b : AcceptedTablet) (kind : AgreeKind) → accepted_tablet logs i ≡ Some b
+    → kind_at logs n c b ≡ None → Stands logs n c b kind → ⊥
+none-stands logs n c i b kind at none s =
+    let told : Told (kind_at logs n c b) kind = stands-told logs n c i b kind at s in none-some told.first (sym none ∙ told.is)
 
 -- ---- the first tablet
 
@@ -134,26 +147,49 @@ record AtTablet (f : AcceptedTablet → Option AgreeKind) (n : ℕ) (bs : List A
   is : d ≡ case_of n tablet.header.id kind
   before : (j : ℕ) (x : AcceptedTablet) → j < place → slice_get bs j ≡ Some x → f x ≡ None
 
-at-tablet : (f : AcceptedTablet → Option AgreeKind) (n : ℕ) (bs : List AcceptedTablet) (d : Disagreement) → first_some (case_there f n) bs ≡ Some d → AtTablet f n bs d
+at-tablet : (f : AcceptedTablet → Option AgreeKind) (n : ℕ) (bs : List AcceptedTablet) (d : Disagreement)
+    → first_some (case_there f n) bs ≡ Some d → AtTablet f n bs d
 at-tablet f n [] d e = cc
 at-tablet f n (b ∷ bs) d e = go (f b) refl (at-tablet f n bs d) e
   where
-    go : (o : Option AgreeKind) → f b ≡ o → (first_some (case_there f n) bs ≡ Some d → AtTablet f n bs d) → or_else (option_map (case_of n b.header.id) o) (first_some (case_there f n) bs) ≡ Some d → AtTablet f n (b ∷ bs) d
-    go (Some k) h ih e = record { place = 0; tablet = b; kind = k; there = refl; found = h; is = sym (same_Some _ _ e); before = λ j x low get. absurd (omega arith) }
+    go : (o : Option AgreeKind) → f b ≡ o → (first_some (case_there f n) bs ≡ Some d → AtTablet f n bs d)
+        → or_else (option_map (case_of n b.header.id) o) (first_some (case_there f n) bs) ≡ Some d → AtTablet f n (b ∷ bs) d
+    go (Some k) h ih e =
+        record {
+          place = 0;
+          tablet = b;
+          kind = k;
+          there = refl;
+          found = h;
+          is = sym (same_Some _ _ e);
+          before = λ j x low get. absurd
+              (omega arith);
+        }
     go None h ih e =
         let later : AtTablet f n bs d = ih e in
-        record { place = suc later.place; tablet = later.tablet; kind = later.kind; there = later.there; found = later.found; is = later.is; before = before later }
+        record {
+          place = suc later.place;
+          tablet = later.tablet;
+          kind = later.kind;
+          there = later.there;
+          found = later.found;
+          is = later.is;
+          before = before later;
+        }
       where
         before : (later : AtTablet f n bs d) (j : ℕ) (x : AcceptedTablet) → j < suc later.place → slice_get (b ∷ bs) j ≡ Some x → f x ≡ None
         before later zero x low get = ap f (sym (same_Some _ _ get)) ∙ h
         before later (suc j) x low get = later.before j x (omega arith) get
 
-no-tablet : (f : AcceptedTablet → Option AgreeKind) (n : ℕ) (bs : List AcceptedTablet) → first_some (case_there f n) bs ≡ None → (j : ℕ) (x : AcceptedTablet) → slice_get bs j ≡ Some x → f x ≡ None
+no-tablet : (f : AcceptedTablet → Option AgreeKind) (n : ℕ) (bs : List AcceptedTablet) → first_some (case_there f n) bs ≡ None
+    → (j : ℕ) (x : AcceptedTablet) → slice_get bs j ≡ Some x → f x ≡ None
 no-tablet f n [] e j x get = cc
 no-tablet f n (b ∷ bs) e j x get = go (f b) refl (no-tablet f n bs) e j get
   where
-    go : (o : Option AgreeKind) → f b ≡ o → (first_some (case_there f n) bs ≡ None → (j : ℕ) (x : AcceptedTablet) → slice_get bs j ≡ Some x → f x ≡ None)
-        → or_else (option_map (case_of n b.header.id) o) (first_some (case_there f n) bs) ≡ None → (j : ℕ) → slice_get (b ∷ bs) j ≡ Some x → f x ≡ None
+    go : (o : Option AgreeKind) → f b ≡ o
+        → (first_some (case_there f n) bs ≡ None → (j : ℕ) (x : AcceptedTablet) → slice_get bs j ≡ Some x → f x ≡ None)
+        → or_else (option_map (case_of n b.header.id) o) (first_some (case_there f n) bs) ≡ None → (j : ℕ) → slice_get (b ∷ bs) j ≡ Some x
+        → f x ≡ None
     go (Some k) h ih e j get = cc
     go None h ih e zero get = ap f (sym (same_Some _ _ get)) ∙ h
     go None h ih e (suc j) get = ih e j x get
@@ -169,7 +205,8 @@ at-number : {Y : Type 0} (f : ℕ → Option Y) (ns : List ℕ) (y : Y) → Risi
 at-number f [] y r e = cc
 at-number {Y = Y} f (n ∷ ns) y r e = go (f n) refl (at-number f ns y r.1) e
   where
-    go : (o : Option Y) → f n ≡ o → (first_some f ns ≡ Some y → AtNumber f ns y) → or_else o (first_some f ns) ≡ Some y → AtNumber f (n ∷ ns) y
+    go : (o : Option Y) → f n ≡ o → (first_some f ns ≡ Some y → AtNumber f ns y) → or_else o (first_some f ns) ≡ Some y
+        → AtNumber f (n ∷ ns) y
     go (Some z) h ih e = record { number = n; found = h ∙ e; before = λ m low there. absurd (none-below m low (n == m) refl there) }
       where
         none-below : (m : ℕ) → m < n → (b : Bool) → n == m ≡ b → (b || has m ns) ≡ true → ⊥
@@ -187,14 +224,16 @@ no-number : {Y : Type 0} (f : ℕ → Option Y) (ns : List ℕ) → first_some f
 no-number f [] e m there = cc
 no-number {Y = Y} f (n ∷ ns) e m there = go (f n) refl (no-number f ns) e (n == m) refl there
   where
-    go : (o : Option Y) → f n ≡ o → (first_some f ns ≡ None → (m : ℕ) → has m ns ≡ true → f m ≡ None) → or_else o (first_some f ns) ≡ None → (b : Bool) → n == m ≡ b → (b || has m ns) ≡ true → f m ≡ None
+    go : (o : Option Y) → f n ≡ o → (first_some f ns ≡ None → (m : ℕ) → has m ns ≡ true → f m ≡ None) → or_else o (first_some f ns) ≡ None
+        → (b : Bool) → n == m ≡ b → (b || has m ns) ≡ true → f m ≡ None
     go (Some z) h ih e b same there = cc
     go None h ih e true same there = ap f (sym (eqb-true n m same)) ∙ h
     go None h ih e false apart there = ih e m there
 
 -- ---- the numbers of the tablets
 
-get-header : (bs : List AcceptedTablet) (i : ℕ) (b : AcceptedTablet) → slice_get bs i ≡ Some b → slice_get (map (λ b. b.header) bs) i ≡ Some b.header
+get-header : (bs : List AcceptedTablet) (i : ℕ) (b : AcceptedTablet) → slice_get bs i ≡ Some b
+    → slice_get (map (λ b. b.header) bs) i ≡ Some b.header
 get-header [] i b e = cc
 get-header (x ∷ bs) zero b e = ap (λ (y : AcceptedTablet). Some y.header) (same_Some x b e)
 get-header (x ∷ bs) (suc i) b e = get-header bs i b e
@@ -205,7 +244,8 @@ unfolding accepted_tablets is_valid are_headers
 number-is logs i b v at =
     let fit : headers_fit (headers_of logs.tablets) ≡ true = (and_parts _ _ (and_parts _ _ v).0).1 in
     let numbered : Numbered 0 (headers_of logs.tablets) = (headers_fit-all (headers_of logs.tablets) fit).1.numbered in
-    let there : slice_get (headers_of logs.tablets) i ≡ Some b.header = ap (λ hs. slice_get hs i) (sym (headers-after [] logs.tablets)) ∙ get-header (accepted_tablets_after [] logs.tablets) i b at in
+    let there : slice_get (headers_of logs.tablets) i ≡ Some b.header =
+    ap (λ hs. slice_get hs i) (sym (headers-after [] logs.tablets)) ∙ get-header (accepted_tablets_after [] logs.tablets) i b at in
     Numbered-at 0 (headers_of logs.tablets) i b.header numbered there ∙ zero-add i
 
 -- ---- the first case
@@ -218,7 +258,8 @@ none-of : (logs : Logs) (e : Disagreement) → cases_of logs e.txn ≡ None → 
 unfolding disagreement_on
 none-of logs e none x =
     let here : disagreement_on logs e.txn x.commit ≡ None = rw x.commits at none in
-    none-stands logs e.txn x.commit e.tablet x.at e.kind x.there (no-tablet (kind_at logs e.txn x.commit) e.txn (accepted_tablets logs) here e.tablet x.at x.there) x.stands
+    none-stands logs e.txn x.commit e.tablet x.at e.kind x.there
+    (no-tablet (kind_at logs e.txn x.commit) e.txn (accepted_tablets logs) here e.tablet x.at x.there) x.stands
 
 -- the case that is found, with what it is found by
 record Found (logs : Logs) (d : Disagreement) : Type 0 where
@@ -230,13 +271,17 @@ record Found (logs : Logs) (d : Disagreement) : Type 0 where
 found : (logs : Logs) (d : Disagreement) → disagreement logs ≡ Some d → Found logs d
 unfolding disagreement disagreement_on applied
 found logs d e =
-    let x : AtNumber (cases_of logs) (applied logs) d = at-number (cases_of logs) (applied logs) d (distinct-rising (flat_map (λ b. filter_map (λ r. applied_txn r.kind) b.records) (accepted_tablets logs))) e in
+    let x : AtNumber (cases_of logs) (applied logs) d =
+    at-number (cases_of logs) (applied logs) d
+    (distinct-rising (flat_map (λ b. filter_map (λ r. applied_txn r.kind) b.records) (accepted_tablets logs))) e in
     go x (commit_of logs x.number) refl x.found
   where
-    go : (x : AtNumber (cases_of logs) (applied logs) d) (o : Option ℕ) → commit_of logs x.number ≡ o → option_map_or (disagreement_on logs x.number) o None ≡ Some d → Found logs d
+    go : (x : AtNumber (cases_of logs) (applied logs) d) (o : Option ℕ) → commit_of logs x.number ≡ o
+        → option_map_or (disagreement_on logs x.number) o None ≡ Some d → Found logs d
     go x None h e = cc
     go x (Some c) h e =
-        let t : AtTablet (kind_at logs x.number c) x.number (accepted_tablets logs) d = at-tablet (kind_at logs x.number c) x.number (accepted_tablets logs) d e in
+        let t : AtTablet (kind_at logs x.number c) x.number (accepted_tablets logs) d =
+        at-tablet (kind_at logs x.number c) x.number (accepted_tablets logs) d e in
         let same : x.number ≡ d.txn = sym (ap (λ (d : Disagreement). d.txn) t.is) in
         record {
           commit = c;
@@ -261,21 +306,31 @@ is-first logs d v x =
         there = ap (accepted_tablet logs) place ∙ x.at.there;
         stands = kind-stands logs d.txn x.commit x.at.place x.at.tablet d.kind x.at.there (x.at.found ∙ ap (λ k. Some k) (sym kind));
       };
-      least_transaction = λ e y. elim (cases_lt e.txn d.txn) [ inl below ↦ absurd (none-of logs e (x.before e.txn below (commit-applied logs e.txn y.commit y.commits)) y) | inr above ↦ above ];
-      least_tablet = λ e y same. elim (cases_lt e.tablet d.tablet) [ inl below ↦ absurd (none-before e y same (subst (λ p. e.tablet < p) place below)) | inr above ↦ above ];
+      least_transaction =
+          λ e y. elim (cases_lt e.txn d.txn) [
+            | inl below ↦ absurd (none-of logs e (x.before e.txn below (commit-applied logs e.txn y.commit y.commits)) y)
+            | inr above ↦
+                above
+          ];
+      least_tablet =
+          λ e y same. elim (cases_lt e.tablet d.tablet)
+          [ inl below ↦ absurd (none-before e y same (subst (λ p. e.tablet < p) place below)) | inr above ↦ above ];
       first_kind = λ e y same here. first e y same (here ∙ place) kind;
     }
   where
     none-before : (e : Disagreement) (y : IsCase logs e) → e.txn ≡ d.txn → e.tablet < x.at.place → ⊥
     none-before e y same below =
         let none : kind_at logs d.txn x.commit y.at ≡ None = x.at.before e.tablet y.at below y.there in
-        none-stands logs e.txn y.commit e.tablet y.at e.kind y.there (ap (λ n. kind_at logs n y.commit y.at) same ∙ ap (λ c. kind_at logs d.txn c y.at) (at-once logs d e x y same) ∙ none) y.stands
+        none-stands logs e.txn y.commit e.tablet y.at e.kind y.there (ap (λ n. kind_at logs n y.commit y.at) same
+        ∙ ap (λ c. kind_at logs d.txn c y.at) (at-once logs d e x y same) ∙ none) y.stands
 
     first : (e : Disagreement) (y : IsCase logs e) → e.txn ≡ d.txn → e.tablet ≡ x.at.place → d.kind ≡ x.at.kind → rank d.kind ≤ rank e.kind
     first e y same here kind =
         let told : Told (kind_at logs e.txn y.commit y.at) e.kind = stands-told logs e.txn y.commit e.tablet y.at e.kind y.there y.stands in
         let one : y.at ≡ x.at.tablet = same_Some y.at x.at.tablet (sym y.there ∙ ap (accepted_tablet logs) here ∙ x.at.there) in
-        let both : kind_at logs e.txn y.commit y.at ≡ Some x.at.kind = ap (kind_at logs e.txn y.commit) one ∙ ap (λ c. kind_at logs e.txn c x.at.tablet) (at-once logs d e x y same) ∙ ap (λ n. kind_at logs n x.commit x.at.tablet) same ∙ x.at.found in
+        let both : kind_at logs e.txn y.commit y.at ≡ Some x.at.kind =
+        ap (kind_at logs e.txn y.commit) one ∙ ap (λ c. kind_at logs e.txn c x.at.tablet) (at-once logs d e x y same)
+        ∙ ap (λ n. kind_at logs n x.commit x.at.tablet) same ∙ x.at.found in
         let k : told.first ≡ x.at.kind = same_Some told.first x.at.kind (sym told.is ∙ both) in
         let r : rank d.kind ≡ rank told.first = ap rank (kind ∙ sym k) in
         omega (arith, told.before)
@@ -285,12 +340,14 @@ same-first : (logs : Logs) (d e : Disagreement) → IsFirstCase logs d → IsFir
 same-first logs d e x y =
     let txn : d.txn ≡ e.txn = omega (arith, x.least_transaction e y.stands, y.least_transaction d x.stands) in
     let tablet : d.tablet ≡ e.tablet = omega (arith, x.least_tablet e y.stands (sym txn), y.least_tablet d x.stands txn) in
-    let kind : d.kind ≡ e.kind = same-rank d.kind e.kind (omega (arith, x.first_kind e y.stands (sym txn) (sym tablet), y.first_kind d x.stands txn tablet)) in
+    let kind : d.kind ≡ e.kind =
+    same-rank d.kind e.kind (omega (arith, x.first_kind e y.stands (sym txn) (sym tablet), y.first_kind d x.stands txn tablet)) in
     rw (txn, tablet, kind) refl
 
 none-stands-anywhere : (logs : Logs) → disagreement logs ≡ None → (e : Disagreement) → IsCase logs e → ⊥
 unfolding disagreement
-none-stands-anywhere logs none e x = none-of logs e (no-number (cases_of logs) (applied logs) none e.txn (commit-applied logs e.txn x.commit x.commits)) x
+none-stands-anywhere logs none e x =
+    none-of logs e (no-number (cases_of logs) (applied logs) none e.txn (commit-applied logs e.txn x.commit x.commits)) x
 
 -- the disagreement of well-formed logs is the first case that stands
 pub first-case : (logs : Logs) (d : Disagreement) → is_valid logs ≡ true → (disagreement logs ≡ Some d) ↔ IsFirstCase logs d

@@ -17,14 +17,16 @@ use Rattle.xc_record.specs.Accepted.{AcceptedTablet, accepted_tablets}
 use Rattle.xc_record.specs.Commits.{Provisional, provisional_cmp, intent_ops, sub_of, intents_in, intents, provisional_ops}
 use Rattle.xc_record.specs.Lists.{insert_by, sort_by}
 
-any-insert : {X : Type 0} (q : X → Bool) (cmp : X → X → Ordering) (x : X) (ys : List X) → list_any q (insert_by cmp x ys) ≡ (q x || list_any q ys)
+any-insert : {X : Type 0} (q : X → Bool) (cmp : X → X → Ordering) (x : X) (ys : List X)
+    → list_any q (insert_by cmp x ys) ≡ (q x || list_any q ys)
 any-insert q cmp x [] = refl
 any-insert {X = X} q cmp x (y ∷ ys) = go (any-insert q cmp x ys) (is_gt (cmp x y))
   where
     swap : (a b c : Bool) → (b || (a || c)) ≡ (a || (b || c))
     swap a b c = grind arith
 
-    go : list_any q (insert_by cmp x ys) ≡ (q x || list_any q ys) → (b : Bool) → list_any q (if b then (y ∷ insert_by cmp x ys) else (x ∷ y ∷ ys)) ≡ (q x || (q y || list_any q ys))
+    go : list_any q (insert_by cmp x ys) ≡ (q x || list_any q ys) → (b : Bool)
+        → list_any q (if b then (y ∷ insert_by cmp x ys) else (x ∷ y ∷ ys)) ≡ (q x || (q y || list_any q ys))
     go ih true = ap (λ b. q y || b) ih ∙ swap (q x) (q y) (list_any q ys)
     go ih false = refl
 
@@ -32,7 +34,8 @@ any-sort : {X : Type 0} (q : X → Bool) (cmp : X → X → Ordering) (xs : List
 any-sort q cmp [] = refl
 any-sort q cmp (x ∷ xs) = any-insert q cmp x (sort_by cmp xs) ∙ ap (λ b. q x || b) (any-sort q cmp xs)
 
-pub any-flat : {X Y : Type 0} (q : Y → Bool) (f : X → List Y) (xs : List X) → list_any q (flat_map f xs) ≡ list_any (λ x. list_any q (f x)) xs
+pub any-flat : {X Y : Type 0} (q : Y → Bool) (f : X → List Y) (xs : List X)
+    → list_any q (flat_map f xs) ≡ list_any (λ x. list_any q (f x)) xs
 any-flat q f [] = refl
 any-flat q f (x ∷ xs) = list_any-append q (f x) (flat_map f xs) ∙ ap (λ b. list_any q (f x) || b) (any-flat q f xs)
 
@@ -40,10 +43,12 @@ pub any-filter : {X : Type 0} (q p : X → Bool) (xs : List X) → list_any q (f
 any-filter q p [] e = e
 any-filter {X = X} q p (x ∷ xs) e = go (p x) (any-filter q p xs) e
   where
-    go : (b : Bool) → (list_any q (filter p xs) ≡ true → list_any q xs ≡ true) → list_any q (if b then (x ∷ filter p xs) else filter p xs) ≡ true → (q x || list_any q xs) ≡ true
+    go : (b : Bool) → (list_any q (filter p xs) ≡ true → list_any q xs ≡ true)
+        → list_any q (if b then (x ∷ filter p xs) else filter p xs) ≡ true → (q x || list_any q xs) ≡ true
     go true ih e = first (q x) ih e
       where
-        first : (c : Bool) → (list_any q (filter p xs) ≡ true → list_any q xs ≡ true) → (c || list_any q (filter p xs)) ≡ true → (c || list_any q xs) ≡ true
+        first : (c : Bool) → (list_any q (filter p xs) ≡ true → list_any q xs ≡ true) → (c || list_any q (filter p xs)) ≡ true
+            → (c || list_any q xs) ≡ true
         first true ih e = refl
         first false ih e = ih e
     go false ih e = or_right (q x) _ (ih e)
@@ -60,29 +65,38 @@ any-elim f (x ∷ xs) e = go (f x) refl (any-elim f xs) e
 abbrev pub any_intent : ℕ → (Op → Bool) → Record → Bool
 any_intent n q r = option_map_or (λ ops. list_any q ops) (intent_ops n r.kind) false
 
-any-intents : (n tablet : ℕ) (q : Op → Bool) (rs : List Record) → list_any (λ i. list_any q i.ops) (intents_in n tablet rs) ≡ list_any (any_intent n q) rs
+any-intents : (n tablet : ℕ) (q : Op → Bool) (rs : List Record)
+    → list_any (λ i. list_any q i.ops) (intents_in n tablet rs) ≡ list_any (any_intent n q) rs
 any-intents n tablet q [] = refl
 any-intents n tablet q (r ∷ rs) = go (any-intents n tablet q rs) (intent_ops n r.kind)
   where
     go : list_any (λ i. list_any q i.ops) (intents_in n tablet rs) ≡ list_any (any_intent n q) rs → (o : Option (List Op))
-        → list_any (λ i. list_any q i.ops) (option_map_or (λ ops. record { time = r.time; tablet = tablet; sub = sub_of r.kind; ops = ops } ∷ []) o [] ++ intents_in n tablet rs)
+        → list_any (λ i. list_any q i.ops)
+        (option_map_or (λ ops. record { time = r.time; tablet = tablet; sub = sub_of r.kind; ops = ops } ∷ []) o [] ++ intents_in n tablet
+        rs)
         ≡ (option_map_or (λ ops. list_any q ops) o false || list_any (any_intent n q) rs)
     go ih None = ih
     go ih (Some ops) = ap (λ b. list_any q ops || b) ih
 
-any-tablets : (n : ℕ) (q : Op → Bool) (bs : List AcceptedTablet) → list_any (λ b. list_any (λ i. list_any q i.ops) (intents_in n b.header.id b.records)) bs ≡ list_any (λ b. list_any (any_intent n q) b.records) bs
+any-tablets : (n : ℕ) (q : Op → Bool) (bs : List AcceptedTablet)
+    → list_any (λ b. list_any (λ i. list_any q i.ops) (intents_in n b.header.id b.records)) bs ≡ list_any
+    (λ b. list_any (any_intent n q) b.records) bs
 any-tablets n q [] = refl
 any-tablets n q (b ∷ bs) =
-    ap (λ x. x || list_any (λ b. list_any (λ i. list_any q i.ops) (intents_in n b.header.id b.records)) bs) (any-intents n b.header.id q b.records)
+    ap (λ x. x || list_any (λ b. list_any (λ i. list_any q i.ops) (intents_in n b.header.id b.records)) bs)
+    (any-intents n b.header.id q b.records)
     ∙ ap (λ x. list_any (any_intent n q) b.records || x) (any-tablets n q bs)
 
 -- an operation of a transaction is one of an accepted intent
-pub any-provisional : (logs : Logs) (n : ℕ) (q : Op → Bool) → list_any q (provisional_ops logs n) ≡ list_any (λ b. list_any (any_intent n q) b.records) (accepted_tablets logs)
+pub any-provisional : (logs : Logs) (n : ℕ) (q : Op → Bool)
+    → list_any q (provisional_ops logs n) ≡ list_any (λ b. list_any (any_intent n q) b.records) (accepted_tablets logs)
 unfolding provisional_ops intents
 any-provisional logs n q =
     let all : List Provisional = flat_map (λ (b : AcceptedTablet). intents_in n b.header.id b.records) (accepted_tablets logs) in
-    any-flat q (λ (i : Provisional). i.ops) (sort_by provisional_cmp all) ∙ any-sort (λ (i : Provisional). list_any q i.ops) provisional_cmp all
-    ∙ any-flat (λ (i : Provisional). list_any q i.ops) (λ (b : AcceptedTablet). intents_in n b.header.id b.records) (accepted_tablets logs) ∙ any-tablets n q (accepted_tablets logs)
+    any-flat q (λ (i : Provisional). i.ops) (sort_by provisional_cmp all)
+    ∙ any-sort (λ (i : Provisional). list_any q i.ops) provisional_cmp all
+    ∙ any-flat (λ (i : Provisional). list_any q i.ops) (λ (b : AcceptedTablet). intents_in n b.header.id b.records) (accepted_tablets logs)
+    ∙ any-tablets n q (accepted_tablets logs)
 
 abbrev pub at_key : List ℕ → List Op → Bool
 at_key k ops = list_any (λ op. bytes_eq k op.key) ops
@@ -92,6 +106,7 @@ pub key-passes : (k : List ℕ) (q : List ℕ → Bool) (ops : List Op) → at_k
 key-passes k q [] e f = cc
 key-passes k q (op ∷ ops) e f = go (bytes_eq k op.key) refl (λ e. key-passes k q ops e f) e
   where
-    go : (b : Bool) → bytes_eq k op.key ≡ b → (at_key k ops ≡ true → list_any (λ op. q op.key) ops ≡ true) → (b || at_key k ops) ≡ true → (q op.key || list_any (λ op. q op.key) ops) ≡ true
+    go : (b : Bool) → bytes_eq k op.key ≡ b → (at_key k ops ≡ true → list_any (λ op. q op.key) ops ≡ true) → (b || at_key k ops) ≡ true
+        → (q op.key || list_any (λ op. q op.key) ops) ≡ true
     go true same ih e = rw (ap q (sym ((bytes_eq-Decides k op.key).0 same)) ∙ f) refl
     go false same ih e = or_right (q op.key) _ (ih e)

@@ -11,7 +11,9 @@ Each-append P (x ∷ xs) ys h k = (h.0, Each-append P xs ys h.1 k)
 
 pub Each-filter : {X : Type 0} (P : X → Type 0) (p : X → Bool) (xs : List X) → Each P xs → Each P (filter p xs)
 Each-filter P p [] e = tt
-Each-filter P p (x ∷ xs) e = elim (p x) as (λ c. Each P (cond c (x ∷ filter p xs) (filter p xs))) [ true ↦ (e.0, Each-filter P p xs e.1) | false ↦ Each-filter P p xs e.1 ]
+Each-filter P p (x ∷ xs) e =
+    elim (p x) as (λ c. Each P (cond c (x ∷ filter p xs) (filter p xs)))
+    [ true ↦ (e.0, Each-filter P p xs e.1) | false ↦ Each-filter P p xs e.1 ]
 
 pub Each-weaker : {X : Type 0} (P Q : X → Type 0) → ((x : X) → P x → Q x) → (xs : List X) → Each P xs → Each Q xs
 Each-weaker P Q f [] h = tt

@@ -23,13 +23,14 @@ Rising (n ∷ ns) = ((m : ℕ) → has m ns ≡ true → n < m) × Rising ns
 
 insert-rising : (n : ℕ) (ms : List ℕ) → Rising ms → Rising (insert_number n ms)
 insert-rising n [] h = (λ m e. cc, tt)
-insert-rising n (m ∷ ms) h = elim (nat_lt n m) as (λ b. nat_lt n m ≡ b → Rising (cond b (n ∷ m ∷ ms) (cond (n == m) (m ∷ ms) (m ∷ insert_number n ms)))) [
-  | true ↦ λ e. (λ k is. grind (arith, nat_tests, h.0 k), h)
-  | false ↦ λ e. elim (n == m) as (λ b. n == m ≡ b → Rising (cond b (m ∷ ms) (m ∷ insert_number n ms))) [
-    | true ↦ λ _. h
-    | false ↦ λ apart. (λ k is. grind (arith, nat_tests, h.0 k, has-insert k n ms), insert-rising n ms h.1)
-  ] refl
-] refl
+insert-rising n (m ∷ ms) h =
+    elim (nat_lt n m) as (λ b. nat_lt n m ≡ b → Rising (cond b (n ∷ m ∷ ms) (cond (n == m) (m ∷ ms) (m ∷ insert_number n ms)))) [
+      | true ↦ λ e. (λ k is. grind (arith, nat_tests, h.0 k), h)
+      | false ↦ λ e. elim (n == m) as (λ b. n == m ≡ b → Rising (cond b (m ∷ ms) (m ∷ insert_number n ms))) [
+        | true ↦ λ _. h
+        | false ↦ λ apart. (λ k is. grind (arith, nat_tests, h.0 k, has-insert k n ms), insert-rising n ms h.1)
+      ] refl
+    ] refl
 
 pub distinct-rising : (ns : List ℕ) → Rising (distinct ns)
 distinct-rising [] = tt

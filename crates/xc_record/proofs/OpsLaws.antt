@@ -10,7 +10,8 @@ use Rattle.xc_record.specs.Hash.{hash_of, holds}
 use Rattle.xc_record.specs.Valid.{op_fits}
 
 -- their keys are in the tablet's range
-pub ops-hold : (header : Header) (ops : List Op) → list_all (op_fits header) ops ≡ true → list_all (λ op. holds header (hash_of op.key)) ops ≡ true
+pub ops-hold : (header : Header) (ops : List Op) → list_all (op_fits header) ops ≡ true
+    → list_all (λ op. holds header (hash_of op.key)) ops ≡ true
 ops-hold header [] e = refl
 ops-hold header (op ∷ ops) e =
     let parts = and_parts (op_fits header op) (list_all (op_fits header) ops) e in

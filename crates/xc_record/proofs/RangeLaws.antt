@@ -1,5 +1,6 @@
 -- Laws of ranges: bounds, roots and children share out what they should.
-use Rattle.std.proofs.Common.{◌≡◌, ℕ, zero, suc, ◌+◌, ◌-◌, ◌<◌, ◌≤◌, Bool, true, false, cond, ◌&&◌, List, [], ◌∷◌, ◌++◌, length, map, Option, Some, None, refl, ap, sym, ◌∙◌, subst, arith, ⊎_elim, append_assoc}
+use Rattle.std.proofs.Common.{◌≡◌, ℕ, zero, suc, ◌+◌, ◌-◌, ◌<◌, ◌≤◌, Bool, true, false, cond, ◌&&◌, List, [], ◌∷◌, ◌++◌, length, map}
+use Rattle.std.proofs.Common.{Option, Some, None, refl, ap, sym, ◌∙◌, subst, arith, ⊎_elim, append_assoc}
 use Rattle.std.specs.Prelude.{nat_le, nat_lt, slice_get, is_none, ◌==◌}
 use Rattle.std.specs.Option.{option_map_or}
 use Rattle.std.proofs.lemmas.Bool.{and_parts, eqb-true, leb-true, ltb-true, true≢false, cases_lt}
@@ -9,7 +10,8 @@ use Rattle.xc_record.specs.declared.record.Header.{Header}
 use Rattle.xc_record.specs.declared.rules.Next.{Next}
 use Rattle.xc_record.specs.declared.rules.Next.TheVariants.{RootAt, LeftChild, RightChild}
 use Rattle.xc_record.specs.Hash.{holds}
-use Rattle.xc_record.specs.Headers.{is_child_of, hi_of, fits, parent_fits, child_fits, root_fits, next_after, after_child, fit_from, headers_fit, with_next, children}
+use Rattle.xc_record.specs.Headers.{is_child_of, hi_of, fits, parent_fits, child_fits, root_fits, next_after, after_child, fit_from}
+use Rattle.xc_record.specs.Headers.{headers_fit, with_next, children}
 use Rattle.xc_record.specs.Bounds.{are_bounds, rises_from, starts_at_0, ranges, ranges_from, Follows, SharesOut}
 use Rattle.xc_record.specs.RangeLaws.{range, roots, holders, RangesHoldOnce, BoundsShareOut, RootsShareOut, OneRootHolds, ChildrenShareOut}
 use Rattle.xc_record.proofs.HeaderLaws.{Line, line, FitsAll, headers_fit-all, SplitsOff, splits_off-parts, slice_get-append}
@@ -52,8 +54,14 @@ bounds-follow lo (b ∷ bs) l e =
     let parts = and_parts (nat_lt lo b) (nat_lt b 65536 && rises_from b bs) e in
     let rest = and_parts (nat_lt b 65536) (rises_from b bs) parts.1 in
     let up : lo < b = ltb-true lo b parts.0 in
-    let same : b ≡ b - 1 + 1 = omega arith in
-    (refl, ((let w : lo ≤ b - 1 = omega arith in w), subst (λ n. Follows n 65536 (ranges_from b bs)) same (bounds-follow b bs (ltb-true _ _ rest.0) rest.1)))
+    let same : b ≡ b - 1 + 1 = omega arith in (
+      refl,
+      (
+        (let w : lo ≤ b - 1 = omega arith in w),
+        subst (λ n. Follows n 65536 (ranges_from b bs)) same
+            (bounds-follow b bs (ltb-true _ _ rest.0) rest.1),
+      ),
+    )
 
 bounds-start : (bounds : List ℕ) → starts_at_0 bounds ≡ true → Follows 0 65536 (ranges bounds)
 bounds-start [] e = cc
@@ -98,13 +106,18 @@ no-roots before next (h ∷ hs) p e = go h.parent refl (λ n q f. no-roots (befo
     parts : (fits before next h ≡ true) × (fit_from (before ++ h ∷ []) (next_after before next h h.parent) hs ≡ true)
     parts = and_parts _ _ e
 
-    go : (q : Option ℕ) → h.parent ≡ q → ((n : Next) → IsPastRoots n → fit_from (before ++ h ∷ []) n hs ≡ true → roots hs ≡ []) → cond (is_none h.parent) (h ∷ roots hs) (roots hs) ≡ []
-    go None f more = absurd (true≢false (sym (subst (λ q. parent_fits before next h q ≡ true) f (fits-parent before next h parts.0)) ∙ no-root-fits next h p))
+    go : (q : Option ℕ) → h.parent ≡ q → ((n : Next) → IsPastRoots n → fit_from (before ++ h ∷ []) n hs ≡ true → roots hs ≡ [])
+        → cond (is_none h.parent) (h ∷ roots hs) (roots hs) ≡ []
+    go None f more =
+        absurd (true≢false (sym (subst (λ q. parent_fits before next h q ≡ true) f (fits-parent before next h parts.0))
+        ∙ no-root-fits next h p))
     go (Some id) f more =
         ap (λ (q : Option ℕ). cond (is_none q) (h ∷ roots hs) (roots hs)) f
-        ∙ more (after_child before id next h) (past-child before id next h) (subst (λ q. fit_from (before ++ h ∷ []) (next_after before next h q) hs ≡ true) f parts.1)
+        ∙ more (after_child before id next h) (past-child before id next h)
+        (subst (λ q. fit_from (before ++ h ∷ []) (next_after before next h q) hs ≡ true) f parts.1)
 
-roots-follow : (before : List Header) (lo : ℕ) (hs : List Header) → fit_from before (RootAt lo) hs ≡ true → Follows lo 65536 (map range (roots hs))
+roots-follow : (before : List Header) (lo : ℕ) (hs : List Header) → fit_from before (RootAt lo) hs ≡ true
+    → Follows lo 65536 (map range (roots hs))
 roots-follow before lo [] e = eqb-true _ _ e
 roots-follow before lo (h ∷ hs) e = go h.parent refl (λ n f. roots-follow (before ++ h ∷ []) n hs f)
   where
@@ -117,7 +130,8 @@ roots-follow before lo (h ∷ hs) e = go h.parent refl (λ n f. roots-follow (be
     rest : (q : Option ℕ) → h.parent ≡ q → fit_from (before ++ h ∷ []) (next_after before (RootAt lo) h q) hs ≡ true
     rest q f = subst (λ q. fit_from (before ++ h ∷ []) (next_after before (RootAt lo) h q) hs ≡ true) f parts.1
 
-    go : (q : Option ℕ) → h.parent ≡ q → ((n : ℕ) → fit_from (before ++ h ∷ []) (RootAt n) hs ≡ true → Follows n 65536 (map range (roots hs)))
+    go : (q : Option ℕ) → h.parent ≡ q
+        → ((n : ℕ) → fit_from (before ++ h ∷ []) (RootAt n) hs ≡ true → Follows n 65536 (map range (roots hs)))
         → Follows lo 65536 (map range (cond (is_none h.parent) (h ∷ roots hs) (roots hs)))
     go None f more =
         subst (λ (q : Option ℕ). Follows lo 65536 (map range (cond (is_none q) (h ∷ roots hs) (roots hs)))) (sym f)
@@ -125,7 +139,8 @@ roots-follow before lo (h ∷ hs) e = go h.parent refl (λ n f. roots-follow (be
     go (Some id) f more =
         let ends : lo ≡ 65536 = eqb-true _ _ (and_parts _ _ (fit (Some id) f)).0 in
         let none : roots hs ≡ [] = no-roots (before ++ h ∷ []) (after_child before id (RootAt lo) h) hs tt (rest (Some id) f) in
-        subst (λ (q : Option ℕ). Follows lo 65536 (map range (cond (is_none q) (h ∷ roots hs) (roots hs)))) (sym f) (subst (λ w. Follows lo 65536 (map range w)) (sym none) ends)
+        subst (λ (q : Option ℕ). Follows lo 65536 (map range (cond (is_none q) (h ∷ roots hs) (roots hs)))) (sym f)
+        (subst (λ w. Follows lo 65536 (map range w)) (sym none) ends)
 
 pub roots-share-out : RootsShareOut
 unfolding headers_fit
@@ -134,29 +149,37 @@ roots-share-out hs e = roots-follow [] 0 hs e
 -- ---- one root
 
 -- in a line that begins below a tablet there is no root
-no-root-below : (id hash : ℕ) (hs : List Header) (j : ℕ) (b : Header) → Line (Some id) (line hash hs) → slice_get hs j ≡ Some b → holds b hash ≡ true → b.parent ≡ None → ⊥
+no-root-below : (id hash : ℕ) (hs : List Header) (j : ℕ) (b : Header) → Line (Some id) (line hash hs) → slice_get hs j ≡ Some b
+    → holds b hash ≡ true → b.parent ≡ None → ⊥
 no-root-below id hash [] j b l e s p = cc
 no-root-below id hash (h ∷ hs) zero b l e s p =
     let same : h ≡ b = cc in
     let holds-it : holds h hash ≡ true = ap (λ x. holds x hash) same ∙ s in
-    let at : Line (Some id) (cond true (h ∷ line hash hs) (line hash hs)) = subst (λ c. Line (Some id) (cond c (h ∷ line hash hs) (line hash hs))) holds-it l in
+    let at : Line (Some id) (cond true (h ∷ line hash hs) (line hash hs)) =
+    subst (λ c. Line (Some id) (cond c (h ∷ line hash hs) (line hash hs))) holds-it l in
     none-some id (sym p ∙ ap (λ (x : Header). x.parent) (sym same) ∙ at.0)
-no-root-below id hash (h ∷ hs) (suc j) b l e s p = elim (holds h hash) as (λ c. Line (Some id) (cond c (h ∷ line hash hs) (line hash hs)) → ⊥) [
-  | true ↦ λ l. no-root-below h.id hash hs j b l.1 e s p
-  | false ↦ λ l. no-root-below id hash hs j b l e s p
-] l
+no-root-below id hash (h ∷ hs) (suc j) b l e s p =
+    elim (holds h hash) as (λ c. Line (Some id) (cond c (h ∷ line hash hs) (line hash hs)) → ⊥) [
+      | true ↦ λ l. no-root-below h.id hash hs j b l.1 e s p
+      | false ↦ λ l. no-root-below id hash hs j b l e s p
+    ] l
 
 -- the first of a line is its one root
-first-root : (hash : ℕ) (h : Header) (hs : List Header) (j : ℕ) (b : Header) → Line None (line hash (h ∷ hs)) → holds h hash ≡ true → slice_get hs j ≡ Some b → holds b hash ≡ true → b.parent ≡ None → ⊥
+first-root : (hash : ℕ) (h : Header) (hs : List Header) (j : ℕ) (b : Header) → Line None (line hash (h ∷ hs)) → holds h hash ≡ true
+    → slice_get hs j ≡ Some b → holds b hash ≡ true → b.parent ≡ None → ⊥
 first-root hash h hs j b l s e t p =
-    let at : Line None (cond true (h ∷ line hash hs) (line hash hs)) = subst (λ c. Line None (cond c (h ∷ line hash hs) (line hash hs))) s l in
+    let at : Line None (cond true (h ∷ line hash hs) (line hash hs)) =
+    subst (λ c. Line None (cond c (h ∷ line hash hs) (line hash hs))) s l in
     no-root-below h.id hash hs j b at.1 e t p
 
-one-root : (hash : ℕ) (hs : List Header) (i j : ℕ) (a b : Header) → Line None (line hash hs) → slice_get hs i ≡ Some a → slice_get hs j ≡ Some b → a.parent ≡ None → b.parent ≡ None → holds a hash ≡ true → holds b hash ≡ true → i ≡ j
+one-root : (hash : ℕ) (hs : List Header) (i j : ℕ) (a b : Header) → Line None (line hash hs) → slice_get hs i ≡ Some a
+    → slice_get hs j ≡ Some b → a.parent ≡ None → b.parent ≡ None → holds a hash ≡ true → holds b hash ≡ true → i ≡ j
 one-root hash [] i j a b l e f p q s t = cc
 one-root hash (h ∷ hs) zero zero a b l e f p q s t = refl
-one-root hash (h ∷ hs) zero (suc j) a b l e f p q s t = let same : h ≡ a = cc in absurd (first-root hash h hs j b l (ap (λ x. holds x hash) same ∙ s) f t q)
-one-root hash (h ∷ hs) (suc i) zero a b l e f p q s t = let same : h ≡ b = cc in absurd (first-root hash h hs i a l (ap (λ x. holds x hash) same ∙ t) e s p)
+one-root hash (h ∷ hs) zero (suc j) a b l e f p q s t =
+    let same : h ≡ a = cc in absurd (first-root hash h hs j b l (ap (λ x. holds x hash) same ∙ s) f t q)
+one-root hash (h ∷ hs) (suc i) zero a b l e f p q s t =
+    let same : h ≡ b = cc in absurd (first-root hash h hs i a l (ap (λ x. holds x hash) same ∙ t) e s p)
 one-root hash (h ∷ hs) (suc i) (suc j) a b l e f p q s t = ap suc (one-root hash hs i j a b (below (holds h hash) refl l) e f p q s t)
   where
     below : (c : Bool) → holds h hash ≡ c → Line None (cond c (h ∷ line hash hs) (line hash hs)) → Line None (line hash hs)
@@ -176,7 +199,8 @@ IsApart id (RootAt lo) = Unit {0}
 IsApart id LeftChild = Unit {0}
 IsApart id (RightChild parent lo hi) = id ≡ parent → ⊥
 
-apart-after : (before : List Header) (next : Next) (id : ℕ) (h : Header) (q : Option ℕ) → h.parent ≡ q → is_child_of id h ≡ false → IsApart id (next_after before next h q)
+apart-after : (before : List Header) (next : Next) (id : ℕ) (h : Header) (q : Option ℕ) → h.parent ≡ q → is_child_of id h ≡ false
+    → IsApart id (next_after before next h q)
 apart-after before next id h None e n = tt
 apart-after before (RootAt lo) id h (Some p) e n = λ same. absurd (true≢false (sym (named same) ∙ n))
   where
@@ -200,18 +224,21 @@ record LeftAt (before : List Header) (next : Next) (id : ℕ) (h : Header) : Typ
   off : SplitsOff before id h
   after : after_child before id next h ≡ RightChild id (h.hi + 1) (hi_of before id)
 
-left-at : (before : List Header) (next : Next) (id : ℕ) (h : Header) → IsApart id next → child_fits before id next h ≡ true → LeftAt before next id h
+left-at : (before : List Header) (next : Next) (id : ℕ) (h : Header) → IsApart id next → child_fits before id next h ≡ true
+    → LeftAt before next id h
 left-at before (RootAt lo) id h a e = record { off = splits_off-parts before id h (and_parts _ _ e).1; after = refl }
 left-at before LeftChild id h a e = record { off = splits_off-parts before id h e; after = refl }
 left-at before (RightChild parent lo hi) id h a e = absurd (a (eqb-true _ _ (and_parts _ _ e).0))
 
 -- the header after a left child
-right-after : (before : List Header) (id lo hi : ℕ) (left right : Header) (hs : List Header) → fit_from before (RightChild id lo hi) hs ≡ true → with_next left hs ≡ Some (left, right)
+right-after : (before : List Header) (id lo hi : ℕ) (left right : Header) (hs : List Header)
+    → fit_from before (RightChild id lo hi) hs ≡ true → with_next left hs ≡ Some (left, right)
     → (right.lo ≡ lo) × ((right.hi ≡ hi) × (right.lo ≤ right.hi))
 right-after before id lo hi left right [] e w = cc
 right-after before id lo hi left right (h ∷ hs) e w =
     let same : h ≡ right = ap (λ (pair : Header × Header). pair.1) (same_Some (left, h) (left, right) w) in
-    subst (λ (r : Header). (r.lo ≡ lo) × ((r.hi ≡ hi) × (r.lo ≤ r.hi))) same (go h.parent (fits-parent before (RightChild id lo hi) h (and_parts _ _ e).0))
+    subst (λ (r : Header). (r.lo ≡ lo) × ((r.hi ≡ hi) × (r.lo ≤ r.hi))) same
+    (go h.parent (fits-parent before (RightChild id lo hi) h (and_parts _ _ e).0))
   where
     go : (q : Option ℕ) → parent_fits before (RightChild id lo hi) h q ≡ true → (h.lo ≡ lo) × ((h.hi ≡ hi) × (h.lo ≤ h.hi))
     go None f = cc
@@ -223,19 +250,24 @@ first-of : (h left right : Header) (hs : List Header) → with_next h hs ≡ Som
 first-of h left right [] w = cc
 first-of h left right (r ∷ hs) w = ap (λ (pair : Header × Header). pair.0) (same_Some (h, r) (left, right) w)
 
-pair-shares : (before : List Header) (next : Next) (id : ℕ) (parent h left right : Header) (hs : List Header) → IsApart id next → slice_get (before ++ h ∷ hs) id ≡ Some parent → fit_from before next (h ∷ hs) ≡ true
+pair-shares : (before : List Header) (next : Next) (id : ℕ) (parent h left right : Header) (hs : List Header) → IsApart id next
+    → slice_get (before ++ h ∷ hs) id ≡ Some parent → fit_from before next (h ∷ hs) ≡ true
     → h.parent ≡ Some id → with_next h hs ≡ Some (left, right) → SharesOut (range parent) (range left ∷ range right ∷ [])
 pair-shares before next id parent h left right hs a there e p w =
     let parts = and_parts (fits before next h) (fit_from (before ++ h ∷ []) (next_after before next h h.parent) hs) e in
-    let at : LeftAt before next id h = left-at before next id h a (subst (λ q. parent_fits before next h q ≡ true) p (fits-parent before next h parts.0)) in
+    let at : LeftAt before next id h =
+    left-at before next id h a (subst (λ q. parent_fits before next h q ≡ true) p (fits-parent before next h parts.0)) in
     let o = at.off in
     let same : o.parent ≡ parent = same_Some o.parent parent (sym (slice_get-append before (h ∷ hs) id o.parent o.at) ∙ there) in
     let first : h ≡ left = first-of h left right hs w in
     let after : fit_from (before ++ h ∷ []) (RightChild id (h.hi + 1) (hi_of before id)) hs ≡ true =
-    subst (λ n. fit_from (before ++ h ∷ []) n hs ≡ true) at.after (subst (λ q. fit_from (before ++ h ∷ []) (next_after before next h q) hs ≡ true) p parts.1) in
-    let hi : hi_of before id ≡ parent.hi = ap (λ (o : Option Header). option_map_or (λ (x : Header). x.hi) o 0) o.at ∙ ap (λ (x : Header). x.hi) same in
+    subst (λ n. fit_from (before ++ h ∷ []) n hs ≡ true) at.after
+    (subst (λ q. fit_from (before ++ h ∷ []) (next_after before next h q) hs ≡ true) p parts.1) in
+    let hi : hi_of before id ≡ parent.hi =
+    ap (λ (o : Option Header). option_map_or (λ (x : Header). x.hi) o 0) o.at ∙ ap (λ (x : Header). x.hi) same in
     let lo : parent.lo ≡ o.parent.lo = ap (λ (x : Header). x.lo) (sym same) in
-    let r = right-after (before ++ h ∷ []) id (h.hi + 1) (hi_of before id) h right hs after (w ∙ ap (λ (x : Header). Some (x, right)) (sym first)) in
+    let r = right-after (before ++ h ∷ []) id (h.hi + 1) (hi_of before id) h right hs after (w
+    ∙ ap (λ (x : Header). Some (x, right)) (sym first)) in
     let left-lo : left.lo ≡ h.lo = ap (λ (x : Header). x.lo) (sym first) in
     let left-hi : left.hi ≡ h.hi = ap (λ (x : Header). x.hi) (sym first) in
     let start : h.lo ≡ o.parent.lo = o.lo in
@@ -245,13 +277,16 @@ pair-shares before next id parent h left right hs a there e p w =
     let right-wide : right.lo ≤ right.hi = r.1.1 in
     (omega arith, (omega arith, (omega arith, (right-wide, (let q : right.hi + 1 ≡ parent.hi + 1 = omega arith in q)))))
 
-children-share : (before : List Header) (next : Next) (hs : List Header) (id : ℕ) (parent left right : Header) → IsApart id next → slice_get (before ++ hs) id ≡ Some parent → fit_from before next hs ≡ true
+children-share : (before : List Header) (next : Next) (hs : List Header) (id : ℕ) (parent left right : Header) → IsApart id next
+    → slice_get (before ++ hs) id ≡ Some parent → fit_from before next hs ≡ true
     → children hs id ≡ Some (left, right) → SharesOut (range parent) (range left ∷ range right ∷ [])
 children-share before next [] id parent left right a there e c = cc
-children-share before next (h ∷ hs) id parent left right a there e c = go (is_child_of id h) refl c (λ n q t f w. children-share (before ++ h ∷ []) n hs id parent left right q t f w)
+children-share before next (h ∷ hs) id parent left right a there e c =
+    go (is_child_of id h) refl c (λ n q t f w. children-share (before ++ h ∷ []) n hs id parent left right q t f w)
   where
     go : (b : Bool) → is_child_of id h ≡ b → cond b (with_next h hs) (children hs id) ≡ Some (left, right)
-        → ((n : Next) → IsApart id n → slice_get ((before ++ h ∷ []) ++ hs) id ≡ Some parent → fit_from (before ++ h ∷ []) n hs ≡ true → children hs id ≡ Some (left, right) → SharesOut (range parent) (range left ∷ range right ∷ []))
+        → ((n : Next) → IsApart id n → slice_get ((before ++ h ∷ []) ++ hs) id ≡ Some parent → fit_from (before ++ h ∷ []) n hs ≡ true
+        → children hs id ≡ Some (left, right) → SharesOut (range parent) (range left ∷ range right ∷ []))
         → SharesOut (range parent) (range left ∷ range right ∷ [])
     go true f w more = pair-shares before next id parent h left right hs a there e (child-named id h f) w
     go false f w more =

@@ -20,7 +20,8 @@ pub floor-rises : (p : Progress) (rs : List Record) → accepted_from p rs ≡ r
 floor-rises p [] e = omega arith
 floor-rises p (r ∷ rs) e = grind (arith, floor-rises (after p r) rs, break_of-floor p r)
 
-pub floor-take : (p : Progress) (m n : ℕ) (rs : List Record) → accepted_from p rs ≡ rs → m ≤ n → (fold after p (take m rs)).floor ≤ (fold after p (take n rs)).floor
+pub floor-take : (p : Progress) (m n : ℕ) (rs : List Record) → accepted_from p rs ≡ rs → m ≤ n
+    → (fold after p (take m rs)).floor ≤ (fold after p (take n rs)).floor
 floor-take p zero n rs e h = floor-rises p (take n rs) (subst (λ xs. accepted_from p (take n xs) ≡ take n xs) e (accepted-take p n rs))
 floor-take p (suc m) zero rs e h = absurd (omega arith)
 floor-take p (suc m) (suc n) [] e h = omega arith
@@ -40,15 +41,19 @@ last_safe-rises a a' b g h = floor-take b.start (place a b) (place a' b) b.recor
 abbrev open_values : List ℕ → List AcceptedTablet → List ℕ
 open_values a bs = map (last_safe_in a) (filter (λ b. not (is_closed_in a b)) bs)
 
-least_rises : (a a' : List ℕ) (bs : List AcceptedTablet) → Each IsGrown bs → Each (Advances a a') bs → least (open_values a bs) ≤ least (open_values a' bs)
+least_rises : (a a' : List ℕ) (bs : List AcceptedTablet) → Each IsGrown bs → Each (Advances a a') bs
+    → least (open_values a bs) ≤ least (open_values a' bs)
 least_rises a a' [] g h = omega arith
 least_rises a a' (b ∷ bs) g h = grind (arith, least_rises a a' bs g.1 h.1, last_safe-rises a a' b g.0 h.0, stays_closed a a' b h.0)
 
-advances : (a a' : List ℕ) (bs : List AcceptedTablet) → ((s : ℕ) → slice_index a s ≤ slice_index a' s) → Each (λ b. place a' b ≤ length b.records) bs → Each (Advances a a') bs
+advances : (a a' : List ℕ) (bs : List AcceptedTablet) → ((s : ℕ) → slice_index a s ≤ slice_index a' s)
+    → Each (λ b. place a' b ≤ length b.records) bs → Each (Advances a a') bs
 advances a a' [] r w = tt
 advances a a' (b ∷ bs) r w = (record { rises = r b.header.id; within = w.0 }, advances a a' bs r w.1)
 
 -- the safe time does not fall as places rise, splits included
-pub safe_time-rises : (logs : Logs) (a a' : List ℕ) → IsPlaces logs a' → ((s : ℕ) → slice_index a s ≤ slice_index a' s) → safe_time logs a ≤ safe_time logs a'
+pub safe_time-rises : (logs : Logs) (a a' : List ℕ) → IsPlaces logs a' → ((s : ℕ) → slice_index a s ≤ slice_index a' s)
+    → safe_time logs a ≤ safe_time logs a'
 unfolding safe_time
-safe_time-rises logs a a' p r = least_rises a a' (accepted_tablets logs) (accepted_tablets-grown logs) (advances a a' (accepted_tablets logs) r p.within)
+safe_time-rises logs a a' p r =
+    least_rises a a' (accepted_tablets logs) (accepted_tablets-grown logs) (advances a a' (accepted_tablets logs) r p.within)

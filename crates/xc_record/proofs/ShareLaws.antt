@@ -21,16 +21,20 @@ record Among {T X : Type 0} (f : T → X → Bool) (ts : List T) (x : X) (xs : L
   more : parts f ts (x ∷ xs) ≡ before ++ x ∷ after
   rest : parts f ts xs ≡ before ++ after
 
-in-none : {T X : Type 0} (f : T → X → Bool) (ts : List T) (x : X) (xs : List X) → Each (λ t. f t x ≡ false) ts → parts f ts (x ∷ xs) ≡ parts f ts xs
+in-none : {T X : Type 0} (f : T → X → Bool) (ts : List T) (x : X) (xs : List X) → Each (λ t. f t x ≡ false) ts
+    → parts f ts (x ∷ xs) ≡ parts f ts xs
 in-none f [] x xs h = refl
-in-none f (t ∷ ts) x xs h = ap (λ b. cond b (x ∷ filter (f t) xs) (filter (f t) xs) ++ parts f ts (x ∷ xs)) h.0 ∙ ap (λ w. filter (f t) xs ++ w) (in-none f ts x xs h.1)
+in-none f (t ∷ ts) x xs h =
+    ap (λ b. cond b (x ∷ filter (f t) xs) (filter (f t) xs) ++ parts f ts (x ∷ xs)) h.0
+    ∙ ap (λ w. filter (f t) xs ++ w) (in-none f ts x xs h.1)
 
 among : {T X : Type 0} (f : T → X → Bool) (ts : List T) (x : X) (xs : List X) → PassesOne f ts x → Among f ts x xs
 among f [] x xs h = absurd h
 among f (t ∷ ts) x xs (inl h) = record {
   before = [];
   after = filter (f t) xs ++ parts f ts xs;
-  more = ap (λ b. cond b (x ∷ filter (f t) xs) (filter (f t) xs) ++ parts f ts (x ∷ xs)) h.0 ∙ ap (λ w. x ∷ (filter (f t) xs ++ w)) (in-none f ts x xs h.1);
+  more = ap (λ b. cond b (x ∷ filter (f t) xs) (filter (f t) xs) ++ parts f ts (x ∷ xs)) h.0
+      ∙ ap (λ w. x ∷ (filter (f t) xs ++ w)) (in-none f ts x xs h.1);
   rest = refl;
 }
 among f (t ∷ ts) x xs (inr h) =
@@ -38,7 +42,8 @@ among f (t ∷ ts) x xs (inr h) =
     record {
       before = filter (f t) xs ++ a.before;
       after = a.after;
-      more = ap (λ b. cond b (x ∷ filter (f t) xs) (filter (f t) xs) ++ parts f ts (x ∷ xs)) h.0 ∙ ap (λ w. filter (f t) xs ++ w) a.more ∙ sym (append_assoc (filter (f t) xs) a.before (x ∷ a.after));
+      more = ap (λ b. cond b (x ∷ filter (f t) xs) (filter (f t) xs) ++ parts f ts (x ∷ xs)) h.0 ∙ ap (λ w. filter (f t) xs ++ w) a.more
+          ∙ sym (append_assoc (filter (f t) xs) a.before (x ∷ a.after));
       rest = ap (λ w. filter (f t) xs ++ w) a.rest ∙ sym (append_assoc (filter (f t) xs) a.before a.after);
     }
 
@@ -54,7 +59,9 @@ none-part f (t ∷ ts) = none-part f ts
 
 each-insert : {X : Type 0} (P : X → Type 0) (cmp : X → X → Ordering) (x : X) (xs : List X) → P x → Each P xs → Each P (insert_by cmp x xs)
 each-insert P cmp x [] p h = (p, tt)
-each-insert P cmp x (y ∷ ys) p h = elim (is_gt (cmp x y)) as (λ b. Each P (cond b (y ∷ insert_by cmp x ys) (x ∷ y ∷ ys))) [ true ↦ (h.0, each-insert P cmp x ys p h.1) | false ↦ (p, h) ]
+each-insert P cmp x (y ∷ ys) p h =
+    elim (is_gt (cmp x y)) as (λ b. Each P (cond b (y ∷ insert_by cmp x ys) (x ∷ y ∷ ys)))
+    [ true ↦ (h.0, each-insert P cmp x ys p h.1) | false ↦ (p, h) ]
 
 each-sort : {X : Type 0} (P : X → Type 0) (cmp : X → X → Ordering) (xs : List X) → Each P xs → Each P (sort_by cmp xs)
 each-sort P cmp [] h = tt
@@ -82,11 +89,13 @@ module _ {X : Type 0} (cmp : X → X → Ordering) (o : IsTotalOrder cmp) where
   insert-later x y ys h = ap (λ b. cond b (y ∷ insert_by cmp x ys) (x ∷ y ∷ ys)) (ap is_gt (o.antisymm x y) ∙ less-back (cmp y x) h)
 
   -- the least element comes first, wherever it stands
-  sort-least : (before after : List X) (x : X) → Each (λ y. below x y ≡ true) (before ++ after) → sort_by cmp (before ++ x ∷ after) ≡ x ∷ sort_by cmp (before ++ after)
+  sort-least : (before after : List X) (x : X) → Each (λ y. below x y ≡ true) (before ++ after)
+      → sort_by cmp (before ++ x ∷ after) ≡ x ∷ sort_by cmp (before ++ after)
   sort-least [] after x h = insert-first x (sort_by cmp after) (each-sort (λ y. below x y ≡ true) cmp after h)
   sort-least (b ∷ bs) after x h = ap (insert_by cmp b) (sort-least bs after x h.1) ∙ insert-later b x (sort_by cmp (bs ++ after)) h.0
 
-  pub sort-parts : {T : Type 0} (f : T → X → Bool) (ts : List T) (xs : List X) → Ascends below xs → Each (PassesOne f ts) xs → sort_by cmp (parts f ts xs) ≡ xs
+  pub sort-parts : {T : Type 0} (f : T → X → Bool) (ts : List T) (xs : List X) → Ascends below xs → Each (PassesOne f ts) xs
+      → sort_by cmp (parts f ts xs) ≡ xs
   sort-parts f ts [] a h = ap (sort_by cmp) (none-part f ts)
   sort-parts f ts (x ∷ xs) a h =
       let m = among f ts x xs h.0 in
@@ -97,15 +106,18 @@ module _ {X : Type 0} (cmp : X → X → Ordering) (o : IsTotalOrder cmp) where
 -- ---- sorted in any other way
 
 -- the parts are the list in another order
-pub parts-permute : {T X : Type 0} (f : T → X → Bool) (ts : List T) (xs : List X) → Each (PassesOne f ts) xs → IsPermutation (parts f ts xs) xs
+pub parts-permute : {T X : Type 0} (f : T → X → Bool) (ts : List T) (xs : List X) → Each (PassesOne f ts) xs
+    → IsPermutation (parts f ts xs) xs
 parts-permute f ts [] h = subst (λ w. IsPermutation w []) (sym (none-part f ts)) (IsPermutation-refl [])
 parts-permute f ts (x ∷ xs) h =
     let m = among f ts x xs h.0 in
     let inner : IsPermutation (m.before ++ m.after) xs = subst (λ w. IsPermutation w xs) m.rest (parts-permute f ts xs h.1) in
     subst (λ w. IsPermutation w (x ∷ xs)) (sym m.more)
-    (IsPermutation-trans (m.before ++ x ∷ m.after) (x ∷ (m.before ++ m.after)) (x ∷ xs) (IsPermutation-middle m.before x m.after) (IsPermutation-cons x (m.before ++ m.after) xs inner))
+    (IsPermutation-trans (m.before ++ x ∷ m.after) (x ∷ (m.before ++ m.after)) (x ∷ xs) (IsPermutation-middle m.before x m.after)
+    (IsPermutation-cons x (m.before ++ m.after) xs inner))
 
 -- what a sort makes of the parts is the list
-pub sorted-parts : {T X : Type 0} (lt : X → X → Bool) (f : T → X → Bool) (ts : List T) (xs ys : List X) → IsStrictWeakOrder lt → Ascends lt xs → Each (PassesOne f ts) xs
+pub sorted-parts : {T X : Type 0} (lt : X → X → Bool) (f : T → X → Bool) (ts : List T) (xs ys : List X) → IsStrictWeakOrder lt
+    → Ascends lt xs → Each (PassesOne f ts) xs
     → IsPermutation (parts f ts xs) ys → IsSortedBy lt ys → ys ≡ xs
 sorted-parts lt f ts xs ys o a h p s = sorted-unique lt o (parts f ts xs) ys xs p s (parts-permute f ts xs h) a

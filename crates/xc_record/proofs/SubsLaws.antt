@@ -1,12 +1,14 @@
 -- Filters of runs of numbers, and numbers in bits.
-use Rattle.std.proofs.Common.{◌≡◌, ℕ, ◌+◌, ◌-◌, ◌*◌, ◌^◌, ◌<◌, ◌≤◌, zero, suc, Bool, true, false, cond, ◌==◌, ◌&&◌, [], ◌∷◌, length, map, refl, sym, ap, ◌∙◌, arith, inl, inr, w64, ◌%◌, IsTrue, nat_eq}
+use Rattle.std.proofs.Common.{◌≡◌, ℕ, ◌+◌, ◌-◌, ◌*◌, ◌^◌, ◌<◌, ◌≤◌, zero, suc, Bool, true, false, cond, ◌==◌, ◌&&◌, [], ◌∷◌, length, map}
+use Rattle.std.proofs.Common.{refl, sym, ap, ◌∙◌, arith, inl, inr, w64, ◌%◌, IsTrue, nat_eq}
 use Rattle.std.proofs.lemmas.Bool.{cases_eq, cases_lt, cases_Bool, and_from}
 use Rattle.std.proofs.lemmas.Bool.Decides.{nat_tests, Decides-eqb, same_from_decides}
 use Rattle.std.proofs.lemmas.Slice.Eq.{bytes_eq-Decides}
 use Rattle.std.specs.Prelude.{nat_le, bytes_eq}
 use Rattle.std.proofs.lemmas.List.FromFn.{get_or-map-range_with_len, length-map-range_with_len}
 use Rattle.std.proofs.lemmas.List.Sums.{length-filter}
-use Rattle.std.proofs.lemmas.Nat.Bits.{bit_at_set_same, bit_at_set_other, bit_at_clear_same, bit_at_clear_other, bit_at-trailing_zeros, bit_at-lt, same_from_bits_below}
+use Rattle.std.proofs.lemmas.Nat.Bits.{bit_at_set_same, bit_at_set_other, bit_at_clear_same, bit_at_clear_other, bit_at-trailing_zeros}
+use Rattle.std.proofs.lemmas.Nat.Bits.{bit_at-lt, same_from_bits_below}
 use Rattle.std.proofs.lemmas.Simd.{ones-mask_l, bit_mask_l, mask_l-lt}
 use Rattle.std.specs.Int.{bit_at, trailing_zeros, bit_not}
 use Rattle.std.specs.Prelude.{count_ones}
@@ -33,7 +35,8 @@ before_all p n a zero l = refl
 before_all p n a (suc k) l = grind (arith, nat_tests, before_all p n (a + 1) k (omega arith))
 
 -- the first that is there, and the others
-first_of : (p q : ℕ → Bool) (n a k : ℕ) → a ≤ n → n < a + k → p n ≡ true → q n ≡ false → ((i : ℕ) → a ≤ i → i < n → p i ≡ false) → ((i : ℕ) → a ≤ i → i < a + k → (i ≡ n → ⊥) → q i ≡ p i) → filter p (range_with_len a k) ≡ n ∷ filter q (range_with_len a k)
+first_of : (p q : ℕ → Bool) (n a k : ℕ) → a ≤ n → n < a + k → p n ≡ true → q n ≡ false → ((i : ℕ) → a ≤ i → i < n → p i ≡ false)
+    → ((i : ℕ) → a ≤ i → i < a + k → (i ≡ n → ⊥) → q i ≡ p i) → filter p (range_with_len a k) ≡ n ∷ filter q (range_with_len a k)
 first_of p q n a zero l m t f below same = absurd (omega arith)
 first_of p q n a (suc k) l m t f below same =
     elim (cases_eq a n) [
@@ -43,10 +46,13 @@ first_of p q n a (suc k) l m t f below same =
           rw (here, gone, rest, e) refl
       | inr ne ↦ let here : p a ≡ false = below a (omega arith) (omega arith) in
           let gone : q a ≡ false = same a (omega arith) (omega arith) ne ∙ here in
-          rw (here, gone) (first_of p q n (a + 1) k (omega arith) (omega arith) t f (λ i low high. below i (omega arith) high) (λ i low high d. same i (omega arith) (omega arith) d))
+          rw (here, gone)
+          (first_of p q n (a + 1) k (omega arith) (omega arith) t f (λ i low high. below i (omega arith) high)
+          (λ i low high d. same i (omega arith) (omega arith) d))
     ]
 
-added : (p q : ℕ → Bool) (n a k : ℕ) → a ≤ n → n < a + k → q n ≡ true → ((i : ℕ) → a ≤ i → i < a + k → (i ≡ n → ⊥) → q i ≡ p i) → filter q (range_with_len a k) ≡ insert_number n (filter p (range_with_len a k))
+added : (p q : ℕ → Bool) (n a k : ℕ) → a ≤ n → n < a + k → q n ≡ true → ((i : ℕ) → a ≤ i → i < a + k → (i ≡ n → ⊥) → q i ≡ p i)
+    → filter q (range_with_len a k) ≡ insert_number n (filter p (range_with_len a k))
 added p q n a zero l m t same = absurd (omega arith)
 added p q n a (suc k) l m t same =
     elim (cases_eq a n) [
@@ -95,7 +101,8 @@ insert-is bits n low high =
 add-sub : (k : ℕ) → k + 1 - 1 ≡ k
 add-sub k = omega arith
 
-pub first-is : (bits : ℕ) → 0 < bits → bits < 2 ^ 64 → numbers_in bits ≡ (trailing_zeros w64 bits + 1) ∷ numbers_in (bit_and bits (bit_not w64 (1 * 2 ^ trailing_zeros w64 bits % 2 ^ 64)))
+pub first-is : (bits : ℕ) → 0 < bits → bits < 2 ^ 64
+    → numbers_in bits ≡ (trailing_zeros w64 bits + 1) ∷ numbers_in (bit_and bits (bit_not w64 (1 * 2 ^ trailing_zeros w64 bits % 2 ^ 64)))
 unfolding numbers_in
 first-is bits some fits =
     let place = bit_at-trailing_zeros w64 bits some fits in
@@ -120,11 +127,15 @@ mask-is bits fits =
     let ms = map (has_number bits) (range_with_len 1 64) in
     let width : length ms ≡ 64 = length-map-range_with_len (has_number bits) 1 64 in
     same_from_bits_below 64 (mask_l ms) bits (let l = mask_l-lt ms in rw width at l) fits
-    (λ i l. bit_mask_l ms i ∙ (ap (λ b. cond b 1 0) (get_or-map-range_with_len (has_number bits) 1 64 i (i + 1) false l (omega arith)) ∙ (rw (add-sub i) (one_if (bit_at bits i) (bit_at-lt bits i)))))
+    (λ i l. bit_mask_l ms i
+    ∙ (ap (λ b. cond b 1 0) (get_or-map-range_with_len (has_number bits) 1 64 i (i + 1) false l (omega arith))
+    ∙ (rw (add-sub i) (one_if (bit_at bits i) (bit_at-lt bits i)))))
 
 pub count-is : (bits : ℕ) → bits < 2 ^ 64 → count_ones bits ≡ length (numbers_in bits)
 unfolding numbers_in
-count-is bits fits = ap count_ones (sym (mask-is bits fits)) ∙ (ones-mask_l (has_number bits) (range_with_len 1 64) ∙ sym (length-filter (has_number bits) (range_with_len 1 64)))
+count-is bits fits =
+    ap count_ones (sym (mask-is bits fits))
+    ∙ (ones-mask_l (has_number bits) (range_with_len 1 64) ∙ sym (length-filter (has_number bits) (range_with_len 1 64)))
 
 pub none_if : (bits : ℕ) → bits < 2 ^ 64 → (IsTrue (nat_eq bits 0) → numbers_in bits ≡ []) × (numbers_in bits ≡ [] → IsTrue (nat_eq bits 0))
 none_if bits fits = elim (cases_eq bits 0) [
@@ -143,10 +154,12 @@ pub none-outside : (bits n : ℕ) → (1 ≤ n → n ≤ 64 → ⊥) → has n (
 unfolding numbers_in
 none-outside bits n out = elim (cases_eq n 0) [
   | inl e ↦ none_below (has_number bits) n 1 64 (omega arith)
-  | inr ne ↦ none_above (has_number bits) n 1 64 (elim (cases_lt n 65) [ inl l ↦ absurd (out (omega arith) (omega arith)) | inr l ↦ omega arith ])
+  | inr ne ↦ none_above (has_number bits) n 1 64
+      (elim (cases_lt n 65) [ inl l ↦ absurd (out (omega arith) (omega arith)) | inr l ↦ omega arith ])
 ]
 
-within_range : (p : ℕ → Bool) (a k : ℕ) → 1 ≤ a → a + k ≤ 65 → list_all (λ sub. nat_le 1 sub && nat_le sub 64) (filter p (range_with_len a k)) ≡ true
+within_range : (p : ℕ → Bool) (a k : ℕ) → 1 ≤ a → a + k ≤ 65
+    → list_all (λ sub. nat_le 1 sub && nat_le sub 64) (filter p (range_with_len a k)) ≡ true
 within_range p a zero l h = refl
 within_range p a (suc k) l h = grind (arith, nat_tests, within_range p (a + 1) k (omega arith) (omega arith))
 
@@ -184,4 +197,5 @@ pub same-is : (a b : ℕ) → a < 2 ^ 64 → b < 2 ^ 64 → nat_eq a b ≡ bytes
 same-is a b l m =
     let texts = bytes_eq-Decides (numbers_in a) (numbers_in b) in
     let numbers = Decides-eqb a b in
-    same_from_decides (nat_eq a b) (bytes_eq (numbers_in a) (numbers_in b)) numbers (λ y. same-bits a b l m (texts.0 y), λ e. texts.1 (ap numbers_in e))
+    same_from_decides (nat_eq a b) (bytes_eq (numbers_in a) (numbers_in b)) numbers
+    (λ y. same-bits a b l m (texts.0 y), λ e. texts.1 (ap numbers_in e))

@@ -1,5 +1,6 @@
 -- Of the orders of a list's elements, one at most ascends.
-use Rattle.std.proofs.Common.{◌≡◌, ℕ, ◌+◌, ◌<◌, ◌≤◌, Bool, true, false, not, cond, List, [], ◌∷◌, suc, zero, length, get_or, refl, ap, sym, subst, arith, ◌⊎◌, inl, inr, sum_by}
+use Rattle.std.proofs.Common.{◌≡◌, ℕ, ◌+◌, ◌<◌, ◌≤◌, Bool, true, false, not, cond, List, [], ◌∷◌, suc, zero, length, get_or, refl, ap, sym}
+use Rattle.std.proofs.Common.{subst, arith, ◌⊎◌, inl, inr, sum_by}
 use Rattle.std.specs.List.{Contains}
 use Rattle.std.specs.List.Sorted.{IsPermutation, IsSortedBy}
 use Rattle.std.specs.Cmp.{IsStrictWeakOrder}
@@ -48,13 +49,15 @@ irreflexive : {X : Type 0} (lt : X → X → Bool) → IsStrictWeakOrder lt → 
 irreflexive lt o x = not-itself (lt x x) (o.one_way x x)
 
 -- of what is not above y only y itself is in an ascending list that begins with y
-first-alone : {X : Type 0} (lt : X → X → Bool) → IsStrictWeakOrder lt → (y : X) (ys : List X) → Ascends lt (y ∷ ys) → sum_by (passes (λ z. not (lt y z))) (y ∷ ys) ≡ 1
+first-alone : {X : Type 0} (lt : X → X → Bool) → IsStrictWeakOrder lt → (y : X) (ys : List X) → Ascends lt (y ∷ ys)
+    → sum_by (passes (λ z. not (lt y z))) (y ∷ ys) ≡ 1
 first-alone lt o y ys a =
     let i = irreflexive lt o y in
     let n = none-pass (λ z. not (lt y z)) ys (Each-weaker (λ z. lt y z ≡ true) (λ z. not (lt y z) ≡ false) (λ z e. rw e refl) ys a.0) in
     rw (sum_by-cons (passes (λ z. not (lt y z))) y ys, i, n) refl
 
-unique : {X : Type 0} (lt : X → X → Bool) → IsStrictWeakOrder lt → (a b : List X) → ((f : X → ℕ) → sum_by f b ≡ sum_by f a) → ((z : X) → In z a → In z b) → Rises lt a → Ascends lt b → a ≡ b
+unique : {X : Type 0} (lt : X → X → Bool) → IsStrictWeakOrder lt → (a b : List X) → ((f : X → ℕ) → sum_by f b ≡ sum_by f a)
+    → ((z : X) → In z a → In z b) → Rises lt a → Ascends lt b → a ≡ b
 unique lt o [] [] same mem r s = refl
 unique lt o [] (y ∷ ys) same mem r s = absurd (omega (arith, same (λ _. 1), sum_by-cons (λ _. 1) y ys))
 unique lt o (x ∷ xs) [] same mem r s = absurd (mem x (inl refl))
@@ -65,19 +68,24 @@ unique {X} lt o (x ∷ xs) (y ∷ ys) same mem r s =
       | inl e ↦ e
       | inr i ↦
           let above : lt y x ≡ true = at-in (λ z. lt y z ≡ true) x ys i s.0 in
-          let far : Each (λ z. not (lt y z) ≡ false) xs = Each-weaker (λ z. lt z x ≡ false) (λ z. not (lt y z) ≡ false) (λ z e. let t : lt y z ≡ true = true-unless (lt y z) (λ f. let g = o.chain y z x f e in cc) in rw t refl) xs r.0 in
+          let far : Each (λ z. not (lt y z) ≡ false) xs =
+          Each-weaker (λ z. lt z x ≡ false) (λ z. not (lt y z) ≡ false)
+          (λ z e. let t : lt y z ≡ true = true-unless (lt y z) (λ f. let g = o.chain y z x f e in cc) in rw t refl) xs r.0 in
           let n = none-pass (λ z. not (lt y z)) xs far in
           let nx : passes (λ z. not (lt y z)) x ≡ 0 = rw above refl in
           absurd (omega (arith, n, nx, one, all, sum_by-cons (passes (λ z. not (lt y z))) x xs))
     ] in
-    let tails : (f : X → ℕ) → sum_by f ys ≡ sum_by f xs = λ f. let e = same f in let g : f x ≡ f y = ap f head in omega (arith, e, g, sum_by-cons f x xs, sum_by-cons f y ys) in
+    let tails : (f : X → ℕ)
+    → sum_by f ys ≡ sum_by f xs = λ f. let e = same f in let g : f x ≡ f y = ap f head in omega
+    (arith, e, g, sum_by-cons f x xs, sum_by-cons f y ys) in
     let i = irreflexive lt o y in
     let members : (z : X) → In z xs → In z ys = λ z iz. elim (mem z (inr iz)) [
       | inl e ↦
           let p : not (lt y z) ≡ true = rw (e, i) refl in
           let many = one-passes (λ w. not (lt y w)) z xs iz p in
           let rest = tails (passes (λ w. not (lt y w))) in
-          let none = none-pass (λ w. not (lt y w)) ys (Each-weaker (λ w. lt y w ≡ true) (λ w. not (lt y w) ≡ false) (λ w e. rw e refl) ys s.0) in
+          let none = none-pass (λ w. not (lt y w)) ys
+          (Each-weaker (λ w. lt y w ≡ true) (λ w. not (lt y w) ≡ false) (λ w e. rw e refl) ys s.0) in
           absurd (omega (arith, many, rest, none))
       | inr j ↦ j
     ] in
@@ -103,8 +111,11 @@ contains-from-in (x ∷ xs) z (inl e) = (0, omega arith, sym e)
 contains-from-in (x ∷ xs) z (inr i) = let c = contains-from-in xs z i in (suc c.0, omega (arith, c.1), c.2)
 
 -- a sorted list is the one ascending list of its elements
-pub sorted-unique : {X : Type 0} (lt : X → X → Bool) → IsStrictWeakOrder lt → (xs ys whole : List X) → IsPermutation xs ys → IsSortedBy lt ys → IsPermutation xs whole → Ascends lt whole → ys ≡ whole
+pub sorted-unique : {X : Type 0} (lt : X → X → Bool) → IsStrictWeakOrder lt → (xs ys whole : List X) → IsPermutation xs ys
+    → IsSortedBy lt ys → IsPermutation xs whole → Ascends lt whole → ys ≡ whole
 sorted-unique lt o xs ys whole p s q a =
     let back = IsPermutation-sym xs ys p in
     let there = IsPermutation-trans ys xs whole back q in
-    unique lt o ys whole (λ f. sum_by-IsPermutation f ys whole there) (λ z i. let c = Contains-permutation ys whole z there (contains-from-in ys z i) in in-from-index whole c.0 z c.1 c.2) (rises-from-sorted lt o ys s) a
+    unique lt o ys whole (λ f. sum_by-IsPermutation f ys whole there)
+    (λ z i. let c = Contains-permutation ys whole z there (contains-from-in ys z i) in in-from-index whole c.0 z c.1 c.2)
+    (rises-from-sorted lt o ys s) a

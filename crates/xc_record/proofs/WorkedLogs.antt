@@ -51,7 +51,8 @@ abbrev pub two_tablets : ℕ → ℕ → Logs
 two_tablets safe commit = record {
   tablets =
       root 0 0 32767 (at 10 (Intent 7 0 (sets a (codes "1") ∷ [])) ∷ at 20 (Apply 7 15 []) ∷ at 22 (Safe 22) ∷ [])
-      ∷ root 1 32768 65535 (at 11 (Intent 7 0 (sets z (codes "2") ∷ [])) ∷ at 21 (Safe safe) ∷ at 25 (Apply 7 commit []) ∷ at 30 (Safe 28) ∷ [])
+      ∷ root 1 32768 65535
+      (at 11 (Intent 7 0 (sets z (codes "2") ∷ [])) ∷ at 21 (Safe safe) ∷ at 25 (Apply 7 commit []) ∷ at 30 (Safe 28) ∷ [])
       ∷ [];
 }
 
@@ -59,7 +60,9 @@ two_tablets safe commit = record {
 abbrev pub with_split : ℕ → Logs
 with_split split_time = record {
   tablets =
-      root 0 0 65535 (at 10 (Write (sets a (codes "1") ∷ [])) ∷ at 12 (Intent 5 0 (sets z (codes "9") ∷ [])) ∷ at 13 (Safe 12) ∷ at split_time (Split 32768 1 2) ∷ [])
+      root 0 0 65535
+      (at 10 (Write (sets a (codes "1") ∷ [])) ∷ at 12 (Intent 5 0 (sets z (codes "9") ∷ [])) ∷ at 13 (Safe 12) ∷ at split_time
+      (Split 32768 1 2) ∷ [])
       ∷ child 1 0 32767 0 (at 20 (Safe 20) ∷ [])
       ∷ child 2 32768 65535 0 (at 18 (Apply 5 16 []) ∷ at 19 (Safe 17) ∷ [])
       ∷ [];
@@ -69,7 +72,9 @@ with_split split_time = record {
 abbrev pub with_both_children : Logs
 with_both_children = record {
   tablets =
-      root 0 0 65535 (at 10 (Write (sets a (codes "1") ∷ sets z (codes "2") ∷ [])) ∷ at 11 (Intent 5 1 (sets a (codes "8") ∷ [])) ∷ at 12 (Intent 5 0 (sets a (codes "3") ∷ removes z ∷ []))
+      root 0 0 65535
+      (at 10 (Write (sets a (codes "1") ∷ sets z (codes "2") ∷ [])) ∷ at 11 (Intent 5 1 (sets a (codes "8") ∷ [])) ∷ at 12
+      (Intent 5 0 (sets a (codes "3") ∷ removes z ∷ []))
       ∷ at 13 (Safe 12) ∷ at 14 (Split 32768 1 2) ∷ [])
       ∷ child 1 0 32767 0 (at 18 (Apply 5 16 (1 ∷ [])) ∷ at 20 (Safe 19) ∷ [])
       ∷ child 2 32768 65535 0 (at 21 (Apply 5 16 (1 ∷ [])) ∷ at 23 (Safe 22) ∷ [])
@@ -80,7 +85,9 @@ with_both_children = record {
 abbrev pub with_late_apply : ℕ → Logs
 with_late_apply commit = record {
   tablets =
-      root 0 0 65535 (at 10 (Write (sets a (codes "1") ∷ [])) ∷ at 11 (Intent 5 0 (sets b (codes "2") ∷ [])) ∷ at 13 (Safe 12) ∷ at 20 (Apply 5 commit []) ∷ at 21 (Safe 21) ∷ [])
+      root 0 0 65535
+      (at 10 (Write (sets a (codes "1") ∷ [])) ∷ at 11 (Intent 5 0 (sets b (codes "2") ∷ [])) ∷ at 13 (Safe 12) ∷ at 20
+      (Apply 5 commit []) ∷ at 21 (Safe 21) ∷ [])
       ∷ [];
 }
 
@@ -96,5 +103,7 @@ with_equal_commits = record {
 
 -- 'unfolding computed' opens each of these
 unfoldable pub computed : ℕ
-unfolding halt poll_answer open_step step hash_of break_of accepted_tablets path path_to holders commit_of undone applied intents provisional_ops txn_ops write_commits txn_commits commits ops_to rows row safe_time last_safe is_closed straggler kind_at disagreement_on disagreement is_valid headers_fit are_headers are_bounds
+unfolding halt poll_answer open_step step hash_of break_of accepted_tablets path path_to holders commit_of undone applied intents
+    provisional_ops txn_ops write_commits txn_commits commits ops_to rows row safe_time last_safe is_closed straggler kind_at
+    disagreement_on disagreement is_valid headers_fit are_headers are_bounds
 computed = 0

@@ -66,12 +66,14 @@ split-waits : waiting (events z (path_to (with_split 14) (4 ∷ 0 ∷ 0 ∷ []) 
 unfolding computed
 split-waits = refl
 
-split-versions : versions (events z (path_to (with_split 14) (4 ∷ 0 ∷ 2 ∷ []) z)) ≡ record { commit = 16; txn = 5; value = Some (codes "9") } ∷ []
+split-versions : versions (events z (path_to (with_split 14) (4 ∷ 0 ∷ 2 ∷ []) z)) ≡ record
+    { commit = 16; txn = 5; value = Some (codes "9") } ∷ []
 unfolding computed
 split-versions = refl
 
 -- a split that is not accepted: its children are not reached
-split-unreached : map {B = Bool × ℕ × ℕ} (λ b. (b.reached, length b.records, b.end.floor)) (accepted_tablets (with_split 13)) ≡ (true, 3, 12) ∷ (false, 0, 12) ∷ (false, 0, 12) ∷ []
+split-unreached : map {B = Bool × ℕ × ℕ} (λ b. (b.reached, length b.records, b.end.floor)) (accepted_tablets (with_split 13)) ≡
+    (true, 3, 12) ∷ (false, 0, 12) ∷ (false, 0, 12) ∷ []
 unfolding computed
 split-unreached = refl
 

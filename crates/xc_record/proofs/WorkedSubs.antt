@@ -16,7 +16,9 @@ use Rattle.xc_record.proofs.WorkedLogs.{computed, at, sets, root, a, b, c, z}
 abbrev with_rollback : Logs
 with_rollback = record {
   tablets =
-      root 0 0 65535 (at 10 (Intent 5 0 (sets a (codes "0") ∷ [])) ∷ at 11 (Intent 5 1 (sets b (codes "1") ∷ [])) ∷ at 12 (Intent 5 2 (sets a (codes "2") ∷ sets c (codes "2") ∷ []))
+      root 0 0 65535
+      (at 10 (Intent 5 0 (sets a (codes "0") ∷ [])) ∷ at 11 (Intent 5 1 (sets b (codes "1") ∷ [])) ∷ at 12
+      (Intent 5 2 (sets a (codes "2") ∷ sets c (codes "2") ∷ []))
       ∷ at 13 (Intent 5 3 (sets z (codes "3") ∷ [])) ∷ at 20 (Apply 5 15 (2 ∷ [])) ∷ at 22 (Safe 21) ∷ [])
       ∷ [];
 }
@@ -52,11 +54,13 @@ unfolding computed
 rollback-waits = refl
 
 -- and event by event it is the same
-rollback-steps : steps (events a (accepted with_rollback 0)) (record { versions = []; held = [] }) ≡ record { versions = record { commit = 15; txn = 5; value = Some (codes "0") } ∷ []; held = [] }
+rollback-steps : steps (events a (accepted with_rollback 0)) (record { versions = []; held = [] }) ≡ record
+    { versions = record { commit = 15; txn = 5; value = Some (codes "0") } ∷ []; held = [] }
 unfolding computed
 rollback-steps = refl
 
-rollback-later_steps : steps (events z (accepted with_rollback 0)) (record { versions = []; held = [] }) ≡ record { versions = record { commit = 15; txn = 5; value = Some (codes "3") } ∷ []; held = [] }
+rollback-later_steps : steps (events z (accepted with_rollback 0)) (record { versions = []; held = [] }) ≡ record
+    { versions = record { commit = 15; txn = 5; value = Some (codes "3") } ∷ []; held = [] }
 unfolding computed
 rollback-later_steps = refl
 
@@ -65,7 +69,8 @@ abbrev two_rollbacks : ℕ → List ℕ → Logs
 two_rollbacks safe without = record {
   tablets =
       root 0 0 32767 (at 10 (Intent 7 0 (sets a (codes "1") ∷ [])) ∷ at 20 (Apply 7 15 (1 ∷ [])) ∷ at 22 (Safe 22) ∷ [])
-      ∷ root 1 32768 65535 (at 11 (Intent 7 1 (sets z (codes "2") ∷ [])) ∷ at 21 (Safe safe) ∷ at 25 (Apply 7 15 without) ∷ at 30 (Safe 28) ∷ [])
+      ∷ root 1 32768 65535
+      (at 11 (Intent 7 1 (sets z (codes "2") ∷ [])) ∷ at 21 (Safe safe) ∷ at 25 (Apply 7 15 without) ∷ at 30 (Safe 28) ∷ [])
       ∷ [];
 }
 

@@ -1,9 +1,11 @@
 -- The accepted records of all tablets, parents before their children.
---     AcceptedTablet      a tablet's header, whether it is reached, the progress before its records, its accepted records, and the progress after them
+--     AcceptedTablet      a tablet's header, whether it is reached, the progress before its records, its accepted records, and the progress
+--         after them
 --     accepted_tablets logs      one for each tablet, in the tablets' order
 --     halt logs s      the number and the break of the first record of s that is not accepted, where s is reached
 --     accepted logs s, accepted_tablet logs s      the accepted records of tablet s, and all that is kept of it
-use Rattle.std.specs.Prelude.{ℕ, Bool, true, false, List, [], ◌∷◌, ◌++◌, Option, Some, None, if◌then◌else◌, ◌&&◌, fold, slice_get, option_and_then, ◌+◌}
+use Rattle.std.specs.Prelude.{ℕ, Bool, true, false, List, [], ◌∷◌, ◌++◌, Option, Some, None, if◌then◌else◌, ◌&&◌, fold, slice_get}
+use Rattle.std.specs.Prelude.{option_and_then, ◌+◌}
 use Rattle.std.specs.Option.{option_map_or}
 use Rattle.xc_record.specs.declared.record.Record.{Record}
 use Rattle.xc_record.specs.declared.record.Header.{Header}
@@ -34,7 +36,8 @@ start_after before (Some parent) = option_map_or child_start (slice_get before p
 -- a root is reached, and a child is where its parent's accepted records end in a split
 abbrev pub reached_after : List AcceptedTablet → Option ℕ → Bool
 reached_after before None = true
-reached_after before (Some parent) = option_map_or (λ accepted_tablet. accepted_tablet.reached && accepted_tablet.end.split) (slice_get before parent) false
+reached_after before (Some parent) =
+    option_map_or (λ accepted_tablet. accepted_tablet.reached && accepted_tablet.end.split) (slice_get before parent) false
 
 abbrev pub accepted_tablet_from : Header → Bool → Progress → List Record → AcceptedTablet
 accepted_tablet_from header reached start kept =

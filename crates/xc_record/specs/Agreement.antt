@@ -1,12 +1,14 @@
 -- The agreement of tablets on the transactions with an accepted apply.
---     kind_at logs n commit b      how the logs disagree on the transaction n, which commits at `commit`, at the tablet b: the first of the five cases
+--     kind_at logs n commit b      how the logs disagree on the transaction n, which commits at `commit`, at the tablet b: the first of the
+--         five cases
 --     disagreement logs      the case of the least transaction, then of the least tablet
 --     Agrees logs      no case stands anywhere: the same five cases as a relation, the stragglers over every key
 --     Stands logs n commit b kind      the case of this kind stands, at whatever key: said without looking for the first one
 --     rank kind      the kinds in the order in which the first of them is told
 --     IsCase logs d      d is a case that stands
 --     IsFirstCase logs d      d is the one of the least transaction, then of the least tablet, then of the first kind
-use Rattle.std.specs.Prelude.{◌≡◌, ℕ, ◌≤◌, Bool, true, false, List, [], ◌∷◌, ◌++◌, Option, Some, None, if◌then◌else◌, ◌&&◌, ◌==◌, not, bytes_eq, filter, flat_map, nat_le, nat_lt, is_some}
+use Rattle.std.specs.Prelude.{◌≡◌, ℕ, ◌≤◌, Bool, true, false, List, [], ◌∷◌, ◌++◌, Option, Some, None, if◌then◌else◌, ◌&&◌, ◌==◌, not}
+use Rattle.std.specs.Prelude.{bytes_eq, filter, flat_map, nat_le, nat_lt, is_some}
 use Rattle.std.specs.List.{AllByRecursion, list_any}
 use Rattle.std.specs.Option.{option_map_or, option_map}
 use Rattle.xc_record.specs.declared.record.AgreeKind.{AgreeKind}
@@ -61,7 +63,8 @@ straggles_at n commit k before (r ∷ rs) =
 -- The keys of the transaction's own operations, rolled back or not, are enough: at no other key does one of them wait.
 unfoldable pub straggler : Logs → ℕ → ℕ → AcceptedTablet → Bool
 straggler logs n commit b =
-    list_any (λ op. holds b.header (hash_of op.key) && straggles_at n commit op.key (path_above (accepted_tablets logs) b op.key) b.records) (provisional_ops logs n)
+    list_any (λ op. holds b.header (hash_of op.key) && straggles_at n commit op.key (path_above (accepted_tablets logs) b op.key) b.records)
+    (provisional_ops logs n)
 
 -- the kind of the first row whose test is true
 abbrev pub first_kind : List (Bool × AgreeKind) → Option AgreeKind
@@ -76,7 +79,8 @@ kind_at logs n commit b =
 
 unfoldable pub disagreement_on : Logs → ℕ → ℕ → Option Disagreement
 disagreement_on logs n commit =
-    first_some (λ b. option_map (λ kind. record { txn = n; tablet = b.header.id; kind = kind }) (kind_at logs n commit b)) (accepted_tablets logs)
+    first_some (λ b. option_map (λ kind. record { txn = n; tablet = b.header.id; kind = kind }) (kind_at logs n commit b))
+    (accepted_tablets logs)
 
 unfoldable pub disagreement : Logs → Option Disagreement
 disagreement logs = first_some (λ n. option_map_or (disagreement_on logs n) (commit_of logs n) None) (applied logs)
@@ -87,7 +91,8 @@ pub record HasNoCase (logs : Logs) (n commit : ℕ) (b : AcceptedTablet) : Type 
   pub same_rollback : rollback_differs n (undone logs n) b ≡ false
   pub early_intents : late_intent n commit b ≡ false
   pub no_abort : aborted n b ≡ false
-  pub no_straggler : (k : List ℕ) → holds b.header (hash_of k) ≡ true → straggles_at n commit k (path_above (accepted_tablets logs) b k) b.records ≡ false
+  pub no_straggler : (k : List ℕ) → holds b.header (hash_of k) ≡ true
+      → straggles_at n commit k (path_above (accepted_tablets logs) b k) b.records ≡ false
 
 pub record Agrees (logs : Logs) : Type 0 where
   pub no_case : (n commit : ℕ) → commit_of logs n ≡ Some commit → AllByRecursion (HasNoCase logs n commit) (accepted_tablets logs)

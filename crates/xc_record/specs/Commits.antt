@@ -42,7 +42,8 @@ unfoldable pub commit_of : Logs → ℕ → Option ℕ
 commit_of logs n = first_some (λ b. first_some (λ r. applies n r.kind) b.records) (accepted_tablets logs)
 
 unfoldable pub undone : Logs → ℕ → List ℕ
-undone logs n = option_map_or (λ without. without) (first_some (λ b. first_some (λ r. rolls_back n r.kind) b.records) (accepted_tablets logs)) []
+undone logs n =
+    option_map_or (λ without. without) (first_some (λ b. first_some (λ r. rolls_back n r.kind) b.records) (accepted_tablets logs)) []
 
 abbrev pub applied_txn : Kind → Option ℕ
 applied_txn (Apply txn commit without) = Some txn
@@ -100,7 +101,8 @@ write_commits logs = flat_map (λ b. writes_in b.header.id b.records) (accepted_
 
 unfoldable pub txn_commits : Logs → List Commit
 txn_commits logs =
-    flat_map (λ n. option_map_or (λ c. record { time = c; txn = n; tablet = 0; ops = txn_ops logs n } ∷ []) (commit_of logs n) []) (applied logs)
+    flat_map (λ n. option_map_or (λ c. record { time = c; txn = n; tablet = 0; ops = txn_ops logs n } ∷ []) (commit_of logs n) [])
+    (applied logs)
 
 unfoldable pub commits : Logs → List Commit
 commits logs = sort_by commit_cmp (write_commits logs ++ txn_commits logs)

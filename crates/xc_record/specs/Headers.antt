@@ -1,11 +1,13 @@
 -- The rules on headers.
---     Next      what may stand next: a root from this hash on, or at 65536 a left child; a left child; the right child of this parent with this range
+--     Next      what may stand next: a root from this hash on, or at 65536 a left child; a left child; the right child of this parent with
+--         this range
 --     next_after next h      what may stand after h
 --     fits before next h      h may stand next after the headers before
 --     headers_fit hs      the rules hold of all the headers
 --     are_headers hs      the same, and there are at most 64 of them
 --     children hs id      the two headers that name id as their parent
-use Rattle.std.specs.Prelude.{ℕ, ◌+◌, Bool, true, false, List, [], ◌∷◌, ◌++◌, Option, Some, None, if◌then◌else◌, ◌&&◌, ◌==◌, nat_le, nat_lt, not, length, slice_get}
+use Rattle.std.specs.Prelude.{ℕ, ◌+◌, Bool, true, false, List, [], ◌∷◌, ◌++◌, Option, Some, None, if◌then◌else◌, ◌&&◌, ◌==◌, nat_le, nat_lt}
+use Rattle.std.specs.Prelude.{not, length, slice_get}
 use Rattle.std.specs.List.{list_any}
 use Rattle.std.specs.Option.{option_map_or}
 use Rattle.xc_record.specs.declared.record.Header.{Header}

@@ -3,7 +3,8 @@
 --     step e x      what is kept after the event e: it sees what is kept, and no path
 --     kept_from u xs      of the versions with commit at most u only the newest, and all later ones
 --     newest t xs      the newest version with commit at most t, as a list of one, or none
-use Rattle.std.specs.Prelude.{ℕ, Bool, ◌==◌, not, bytes_eq, map, true, false, nat_lt, nat_le, List, [], ◌∷◌, ◌++◌, Option, None, if◌then◌else◌, filter}
+use Rattle.std.specs.Prelude.{ℕ, Bool, ◌==◌, not, bytes_eq, map, true, false, nat_lt, nat_le, List, [], ◌∷◌, ◌++◌, Option, None}
+use Rattle.std.specs.Prelude.{if◌then◌else◌, filter}
 use Rattle.xc_record.specs.Path.{Event, Put, Hold, Apply, Abort, Safe, Written, Version, Waiting, version_cmp}
 use Rattle.xc_record.specs.Lists.{put_after, has}
 use Rattle.xc_record.specs.Rows.{rows_after}

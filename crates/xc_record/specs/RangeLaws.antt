@@ -38,5 +38,6 @@ OneRootHolds = (hs : List Header) (hash i j : ℕ) (a b : Header) → headers_fi
 
 -- The two children of a tablet share out its range: the left one has the lower part.
 abbrev pub ChildrenShareOut : Type 0
-ChildrenShareOut = (hs : List Header) (id : ℕ) (parent left right : Header) → headers_fit hs ≡ true → slice_get hs id ≡ Some parent → children hs id ≡ Some (left, right)
+ChildrenShareOut = (hs : List Header) (id : ℕ) (parent left right : Header) → headers_fit hs ≡ true → slice_get hs id ≡ Some parent
+    → children hs id ≡ Some (left, right)
     → SharesOut (range parent) (range left ∷ range right ∷ [])

@@ -5,7 +5,8 @@
 --     is_closed logs places s      tablet s is closed at its place
 --     safe_time logs places      the least last safe value over the tablets that are not closed
 --     IsPlaces logs places      one place for each tablet, at most its accepted count, and 0 for each child of a tablet that is not closed
-use Rattle.std.specs.Prelude.{◌≡◌, ℕ, ◌≤◌, Bool, true, false, List, Option, Some, None, ◌&&◌, ◌==◌, not, filter, map, take, fold, length, slice_index}
+use Rattle.std.specs.Prelude.{◌≡◌, ℕ, ◌≤◌, Bool, true, false, List, Option, Some, None, ◌&&◌, ◌==◌, not, filter, map, take, fold, length}
+use Rattle.std.specs.Prelude.{slice_index}
 use Rattle.std.specs.Option.{option_map_or}
 use Rattle.std.specs.List.{AllByRecursion}
 use Rattle.xc_record.specs.declared.record.Logs.{Logs}

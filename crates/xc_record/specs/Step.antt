@@ -3,7 +3,8 @@
 --     poll_answer logs m s n      the answer of a poll of n records of tablet s
 --     step logs m command      the session after the command, and its lines
 --     lines_from logs m commands      the lines of all commands, from the session m on
-use Rattle.std.specs.Prelude.{ℕ, ◌+◌, ◌-◌, min, max, Bool, true, false, List, [], ◌∷◌, ◌++◌, Option, Some, None, length, map, slice_set, if◌then◌else◌, ◌==◌, option_and_then, is_some, nat_lt}
+use Rattle.std.specs.Prelude.{ℕ, ◌+◌, ◌-◌, min, max, Bool, true, false, List, [], ◌∷◌, ◌++◌, Option, Some, None, length, map, slice_set}
+use Rattle.std.specs.Prelude.{if◌then◌else◌, ◌==◌, option_and_then, is_some, nat_lt}
 use Rattle.std.specs.List.{filter_map}
 use Rattle.std.specs.Option.{option_map_or, option_map}
 use Rattle.xc_record.specs.declared.record.Logs.{Logs}
@@ -75,7 +76,8 @@ drained logs m = record m { positions = map (λ b. drained_to b (position m b.he
 
 -- a line for each tablet that has a break and is reached, by number
 abbrev pub halt_lines : Logs → List Line
-halt_lines logs = filter_map (λ b. option_map (λ found. line.Halt b.header.id found.0 found.1) (halt logs b.header.id)) (accepted_tablets logs)
+halt_lines logs =
+    filter_map (λ b. option_map (λ found. line.Halt b.header.id found.0 found.1) (halt logs b.header.id)) (accepted_tablets logs)
 
 abbrev pub drain_step : Logs → Session → Session × List Line
 drain_step logs m = (drained logs m, line.Drain (safe_now logs (drained logs m)) ∷ halt_lines logs)
@@ -98,7 +100,8 @@ failover_step logs m t = (record m { closed = Some t }, line.Failover t (length 
 
 abbrev pub report_line : Logs → Session → Line
 report_line logs m =
-    line.Report (map (λ p. p.acknowledged) m.positions) (is_some m.closed) (map (λ p. p.cursor) m.positions) m.cutoff (places_of m) (safe_now logs m)
+    line.Report (map (λ p. p.acknowledged) m.positions) (is_some m.closed) (map (λ p. p.cursor) m.positions) m.cutoff (places_of m)
+    (safe_now logs m)
 
 -- the step of a command that isn't refused
 unfoldable pub open_step : Logs → Session → Command → Session × List Line

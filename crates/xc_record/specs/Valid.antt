@@ -1,7 +1,9 @@
 -- Logs within the rules on tablets and records and within the limits.
 --     is_valid logs      the headers fit, each record fits its tablet, and the limits hold
---     keeps_header header pair kind      a record's keys are in the range, it has at most 64 operations, and a split names the children `pair`
-use Rattle.std.specs.Prelude.{ℕ, ◌^◌, Bool, true, false, List, [], ◌∷◌, Option, Some, None, if◌then◌else◌, ◌&&◌, ◌==◌, nat_le, nat_lt, not, length, map, sum_by, is_some}
+--     keeps_header header pair kind      a record's keys are in the range, it has at most 64 operations, and a split names the children
+--         `pair`
+use Rattle.std.specs.Prelude.{ℕ, ◌^◌, Bool, true, false, List, [], ◌∷◌, Option, Some, None, if◌then◌else◌, ◌&&◌, ◌==◌, nat_le, nat_lt, not}
+use Rattle.std.specs.Prelude.{length, map, sum_by, is_some}
 use Rattle.std.specs.List.{list_all}
 use Rattle.std.specs.Option.{option_map_or}
 use Rattle.xc_record.specs.declared.record.Kind.{Kind}

@@ -3,8 +3,8 @@ ghost use Rattle.xc_record.specs.Hash.{hash_of};
 
 use xc_base::Key;
 
-/// The hash of a key, which says what tablet holds its row: from 0, for each byte 31 times the hash so far plus the byte,
-/// modulo 65536.
+/// The hash of a key, which says what tablet holds its row: from 0, for each byte 31 times the hash so far plus the
+/// byte, modulo 65536.
 pub fn hash(key: &Key) -> u16
     ensures { result ≡ hash_of key.now }
 {

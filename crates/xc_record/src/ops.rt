@@ -1,5 +1,6 @@
 // Operations of a record, packed into bytes, which contracts see as a list.
-ghost use Rattle.std.specs.Prelude.{◌≡◌, true, bytes_eq, ◌++◌, ◌∷◌, ◌↔◌, ◌<◌, ◌^◌, [], length, is_ok, IsTrue, IfOk, if◌then◌else◌, slice_get};
+ghost use Rattle.std.specs.Prelude.{◌≡◌, true, bytes_eq, ◌++◌, ◌∷◌, ◌↔◌, ◌<◌, ◌^◌, [], length, is_ok, IsTrue, IfOk};
+ghost use Rattle.std.specs.Prelude.{if◌then◌else◌, slice_get};
 ghost use Rattle.std.specs.Cmp.{partial_equiv_from_equiv};
 ghost use Rattle.std.specs.Ordering.{on};
 ghost use Rattle.std.specs.Cmp.Lexicographic.{on_texts_equal};
@@ -49,13 +50,15 @@ impl Ops {
         put_op(&mut self.bytes, &op)
     }
 
-    /// Puts the operation of a key and a value last, or of a key and None, which removes it, given by their bytes. After an
-    /// error they are as before.
+    /// Puts the operation of a key and a value last, or of a key and None, which removes it, given by their bytes.
+    /// After an error they are as before.
     #[inline]
     pub fn push_bytes(&mut self, key: &[u8], value: Option<&[u8]>) -> Result<(), AllocError>
         requires key { is_key key.now ≡ true }
         requires value { option_map_or is_value (option_copied value) true ≡ true }
-        ensures { self.new ≡ (if is_ok result then self.old ++ record { key = key.now; value = option_copied value.entry } ∷ [] else self.old) }
+        ensures { self.new
+            ≡ (if is_ok result then self.old ++ record { key = key.now; value = option_copied value.entry } ∷ [] else
+            self.old) }
     {
         put_parts(&mut self.bytes, key, value)
     }

@@ -1,6 +1,8 @@
 // The bytes that operations are packed into: texts, values and operations at the front of bytes and behind them.
-ghost use Rattle.std.specs.Prelude.{◌≡◌, ◌<◌, ◌≤◌, ◌+◌, ◌++◌, ◌∷◌, length, is_ok, OnOk, true, if◌then◌else◌, vec_len, vec_capacity};
-ghost use Rattle.xc_record.specs.Packed.{HasText, HasValue, IsAt, IsPacked, text_of, after_text, value_of, after_value, op_of, after_op, encode_op, is_op};
+ghost use Rattle.std.specs.Prelude.{◌≡◌, ◌<◌, ◌≤◌, ◌+◌, ◌++◌, ◌∷◌, length, is_ok, OnOk, true, if◌then◌else◌, vec_len};
+ghost use Rattle.std.specs.Prelude.{vec_capacity};
+ghost use Rattle.xc_record.specs.Packed.{HasText, HasValue, IsAt, IsPacked, text_of, after_text, value_of, after_value};
+ghost use Rattle.xc_record.specs.Packed.{op_of, after_op, encode_op, is_op};
 ghost use Rattle.std.specs.Option.{option_map_or, option_copied};
 ghost use Rattle.xc_base.specs.Names.{is_key, is_value};
 
@@ -78,7 +80,9 @@ pub const OP_BYTES: usize = 99;
 pub fn put_parts(bytes: &mut Vec<u8>, key: &[u8], value: Option<&[u8]>) -> Result<(), AllocError>
     requires key { is_key key.now ≡ true }
     requires value { option_map_or is_value (option_copied value) true ≡ true }
-    ensures items { bytes.new.items ≡ (if is_ok result then bytes.old.items ++ encode_op (record { key = key.now; value = option_copied value.entry }) else bytes.old.items) }
+    ensures items { bytes.new.items
+        ≡ (if is_ok result then bytes.old.items ++ encode_op
+        (record { key = key.now; value = option_copied value.entry }) else bytes.old.items) }
     ensures well { OnOk result (is_op (record { key = key.now; value = option_copied value.entry }) ≡ true) }
 {
     bytes.reserve(OP_BYTES)?;

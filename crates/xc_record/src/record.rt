@@ -26,15 +26,15 @@ pub enum Kind {
     Write {
         ops: Ops,
     },
-    /// Provisional records of a distributed transaction: its operations wait here until its apply or abort. They belong to
-    /// the transaction's subtransaction `sub`, 1 to 64, or to none where it is 0.
+    /// Provisional records of a distributed transaction: its operations wait here until its apply or abort. They belong
+    /// to the transaction's subtransaction `sub`, 1 to 64, or to none where it is 0.
     Intent {
         txn: u32,
         sub: u8,
         ops: Ops,
     },
-    /// The transaction committed at this time. What waits of it becomes versions of the rows, but for the subtransactions
-    /// `without`, which were rolled back: what waits of these is dropped.
+    /// The transaction committed at this time. What waits of it becomes versions of the rows, but for the
+    /// subtransactions `without`, which were rolled back: what waits of these is dropped.
     Apply {
         txn: u32,
         commit: HybridTime,

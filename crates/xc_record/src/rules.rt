@@ -1,9 +1,12 @@
 // The rules on tablets and records, and the limits.
-ghost use Rattle.std.specs.Prelude.{◌≡◌, ◌≤◌, ◌<◌, ◌^◌, take, drop, length, slice_get, option_map, true, sum_by, nat_le, ◌+◌, ◌&&◌, MatchOption};
+ghost use Rattle.std.specs.Prelude.{◌≡◌, ◌≤◌, ◌<◌, ◌^◌, take, drop, length, slice_get, option_map, true, sum_by};
+ghost use Rattle.std.specs.Prelude.{nat_le, ◌+◌, ◌&&◌, MatchOption};
 ghost use Rattle.std.specs.List.{list_any, list_all};
-ghost use Rattle.xc_record.specs.Headers.{is_child_of, splits_off, child_fits, fits, next_after, may_end, headers_fit, are_headers, children};
+ghost use Rattle.xc_record.specs.Headers.{is_child_of, splits_off, child_fits, fits, next_after, may_end, headers_fit};
+ghost use Rattle.xc_record.specs.Headers.{are_headers, children};
 ghost use Rattle.xc_record.specs.Order.{is_split};
-ghost use Rattle.xc_record.specs.Valid.{headers_of, is_txn, op_fits, ops_fit, kind_fits, record_fits, ends_fit, tablet_fits, is_valid, ops_in, is_time};
+ghost use Rattle.xc_record.specs.Valid.{headers_of, is_txn, op_fits, ops_fit, kind_fits, record_fits, ends_fit};
+ghost use Rattle.xc_record.specs.Valid.{tablet_fits, is_valid, ops_in, is_time};
 ghost use Rattle.xc_record.specs.Subs.{are_subs};
 
 use crate::key_hash::hash_bytes;
@@ -279,7 +282,8 @@ fn ops_in(kind: &Kind) -> usize
 
 // What is left of the room after the operations of the records, or nothing where they take more.
 fn room_after(records: &[Record], room: usize) -> Option<usize>
-    ensures { MatchOption result (room < sum_by (λ r. ops_in r.kind) records.now) (λ left. left + sum_by (λ r. ops_in r.kind) records.now ≡ room) }
+    ensures { MatchOption result (room < sum_by (λ r. ops_in r.kind) records.now)
+        (λ left. left + sum_by (λ r. ops_in r.kind) records.now ≡ room) }
 {
     let mut left = room;
     for r in records {
@@ -306,7 +310,8 @@ fn operations_fit(tablets: &[Tablet]) -> bool
     true
 }
 
-// Whether they are at most 64, and the rules on headers hold. These look at each pair of tablets, so the number comes first.
+// Whether they are at most 64, and the rules on headers hold. These look at each pair of tablets, so the number comes
+// first.
 #[tactic(auto, unfolding(crate::specs::Headers::are_headers))]
 fn are_headers(tablets: &[Tablet]) -> bool
     ensures { result ≡ are_headers (headers_of tablets.now) }

@@ -1,5 +1,6 @@
 -- A list of bytes that is cut at the first separator.
-use Rattle.std.proofs.Common.{◌≡◌, ℕ, ◌+◌, ◌-◌, ◌<◌, ◌≤◌, ◌==◌, Bool, true, false, List, [], ◌∷◌, length, take, drop, refl, sym, cond, Some, None, arith}
+use Rattle.std.proofs.Common.{◌≡◌, ℕ, ◌+◌, ◌-◌, ◌<◌, ◌≤◌, ◌==◌, Bool, true, false, List, [], ◌∷◌, length, take, drop, refl, sym, cond, Some}
+use Rattle.std.proofs.Common.{None, arith}
 use Rattle.std.proofs.lemmas.List.{take_rest}
 use Rattle.std.proofs.lemmas.List.Splits.{slice_split_first, slice_split_none}
 use Rattle.std.proofs.lemmas.List.Sums.{fails_before_first, position_or_len_is}
@@ -9,7 +10,8 @@ use Rattle.std.specs.List.{list_any, position_or_len, onto_first}
 use Rattle.xc_base.specs.Words.{split_on}
 use Rattle.xc_text.specs.Lines.{is_over}
 
-pub cut_pieces : (c : ℕ) (bytes : List ℕ) (n : ℕ) → n ≡ position_or_len (λ b. b == c) bytes → n < length bytes → split_on c bytes ≡ take n bytes ∷ split_on c (take (length bytes - (n + 1)) (drop (n + 1) bytes))
+pub cut_pieces : (c : ℕ) (bytes : List ℕ) (n : ℕ) → n ≡ position_or_len (λ b. b == c) bytes → n < length bytes
+    → split_on c bytes ≡ take n bytes ∷ split_on c (take (length bytes - (n + 1)) (drop (n + 1) bytes))
 cut_pieces c bytes n e h =
     rw (take_rest bytes (n + 1)) (rw e (slice_split_first (λ b. b == c) bytes 0 (omega arith)))
 
@@ -31,11 +33,13 @@ unequal a b h = grind (arith, nat_tests)
 
 pub found_first : (c : ℕ) (bytes : List ℕ) (n : ℕ) → IsFirstByte (is_byte c) bytes (Some n) → n ≡ position_or_len (λ b. b == c) bytes
 found_first c bytes n h =
-    sym (position_or_len_is (λ b. b == c) bytes n 0 (omega (arith, h.0.high)) (λ k l. unequal _ c (h.0.before k (omega arith) l)) (λ l. h.1))
+    sym (position_or_len_is (λ b. b == c) bytes n 0 (omega (arith, h.0.high)) (λ k l. unequal _ c (h.0.before k (omega arith) l))
+    (λ l. h.1))
 
 pub found_none : (c : ℕ) (bytes : List ℕ) → IsFirstByte (is_byte c) bytes None → length bytes ≡ position_or_len (λ b. b == c) bytes
 found_none c bytes h =
-    sym (position_or_len_is (λ b. b == c) bytes (length bytes) 0 (omega arith) (λ k l. unequal _ c (h k (omega arith) l)) (λ l. absurd (omega arith)))
+    sym (position_or_len_is (λ b. b == c) bytes (length bytes) 0 (omega arith) (λ k l. unequal _ c (h k (omega arith) l))
+    (λ l. absurd (omega arith)))
 
 -- ---- pieces
 

@@ -1,5 +1,7 @@
 -- What is printed of valid logs spells them: the entries of tablet 0, then those of tablet 1 and so on.
-use Rattle.std.proofs.Common.{◌≡◌, ℕ, zero, suc, ◌+◌, ◌<◌, ◌≤◌, ◌==◌, Bool, true, false, ◌&&◌, nat_le, nat_lt, List, [], ◌∷◌, ◌++◌, length, map, flat_map, Option, Some, None, Result, Ok, Err, if◌then◌else◌, slice_get, refl, sym, ap, ◌∙◌, codes, arith}
+use Rattle.std.proofs.Common.{◌≡◌, ℕ, zero, suc, ◌+◌, ◌<◌, ◌≤◌, ◌==◌, Bool, true, false, ◌&&◌, nat_le, nat_lt, List, [], ◌∷◌, ◌++◌, length}
+use Rattle.std.proofs.Common.{map, flat_map, Option, Some, None, Result, Ok, Err, if◌then◌else◌, slice_get, refl, sym, ap, ◌∙◌, codes}
+use Rattle.std.proofs.Common.{arith}
 use Rattle.std.proofs.lemmas.Bool.{and_parts, lt-ltb, ne_eqb, eq-eqb}
 use Rattle.std.proofs.lemmas.List.{append-nil}
 use Rattle.std.proofs.lemmas.List.Folds.{list_all-append}
@@ -16,7 +18,8 @@ use Rattle.xc_record.specs.declared.record.Record.{Record}
 use Rattle.xc_record.specs.declared.record.Tablet.{Tablet}
 use Rattle.xc_record.specs.declared.record.Logs.{Logs}
 use Rattle.xc_text.specs.LogText.{logs_of}
-use Rattle.xc_text.specs.Printed.{header_text, record_text, records_text, spelled, op_spelled, kind_spelled, tablet_spelled, logs_spelled, least_version, first_line, text_of}
+use Rattle.xc_text.specs.Printed.{header_text, record_text, records_text, spelled, op_spelled, kind_spelled, tablet_spelled, logs_spelled}
+use Rattle.xc_text.specs.Printed.{least_version, first_line, text_of}
 use Rattle.xc_text.specs.declared.line.Version.{Version}
 use Rattle.xc_text.specs.declared.line.Version.TheVariants.{One, Two}
 use Rattle.xc_text.specs.Spelled.{Entry, entry_text, given, PrintedIsSpelled}
@@ -48,7 +51,9 @@ given_append : (id : ℕ) (xs ys : List Entry) → given id (xs ++ ys) ≡ given
 given_append id [] ys = refl
 given_append id (x ∷ xs) ys = by (given_append id xs ys) (x.id == id)
   where
-    by : given id (xs ++ ys) ≡ given id xs ++ given id ys → (b : Bool) → (if b then x.item ∷ given id (xs ++ ys) else given id (xs ++ ys)) ≡ (if b then x.item ∷ given id xs else given id xs) ++ given id ys
+    by : given id (xs ++ ys) ≡ given id xs ++ given id ys → (b : Bool)
+        → (if b then x.item ∷ given id (xs ++ ys) else given id (xs ++ ys)) ≡ (if b then x.item ∷ given id xs else given id xs) ++ given id
+        ys
     by e true = ap (λ rs. x.item ∷ rs) e
     by e false = e
 
@@ -61,7 +66,8 @@ given_other id [] n h = refl
 given_other id (r ∷ rs) n h = rw h (given_other id rs n h)
 
 -- the records of a tablet, and what the others are given
-given_parts : (id : ℕ) (t : Tablet) (ts : List Tablet) (own rest : List Record) → given id (entries t.header.id t.records) ≡ own → given id (printed ts) ≡ rest → given id (printed (t ∷ ts)) ≡ own ++ rest
+given_parts : (id : ℕ) (t : Tablet) (ts : List Tablet) (own rest : List Record) → given id (entries t.header.id t.records) ≡ own
+    → given id (printed ts) ≡ rest → given id (printed (t ∷ ts)) ≡ own ++ rest
 given_parts id t ts own rest a b =
     given_append id (entries t.header.id t.records) (printed ts) ∙ ap (λ rs. rs ++ given id (printed ts)) a ∙ ap (λ rs. own ++ rs) b
 
@@ -69,19 +75,23 @@ given_before : (n id : ℕ) (ts : List Tablet) → Numbered n (headers_of ts) �
 given_before n id [] ids l = refl
 given_before n id (t ∷ ts) ids l =
     let is : t.header.id ≡ n = ids.0 in
-    given_parts id t ts [] [] (given_other id t.records t.header.id (ne_eqb t.header.id id (λ same. omega arith))) (given_before (n + 1) id ts ids.1 (omega arith))
+    given_parts id t ts [] [] (given_other id t.records t.header.id (ne_eqb t.header.id id (λ same. omega arith)))
+    (given_before (n + 1) id ts ids.1 (omega arith))
 
-given_printed : (n j : ℕ) (ts : List Tablet) (t : Tablet) → Numbered n (headers_of ts) → slice_get ts j ≡ Some t → given (n + j) (printed ts) ≡ t.records
+given_printed : (n j : ℕ) (ts : List Tablet) (t : Tablet) → Numbered n (headers_of ts) → slice_get ts j ≡ Some t
+    → given (n + j) (printed ts) ≡ t.records
 given_printed n j [] t ids e = cc
 given_printed n zero (x ∷ ts) t ids e =
     let is : x.header.id ≡ n = ids.0 in
     let here : x ≡ t = cc in
-    given_parts (n + 0) x ts x.records [] (given_own (n + 0) x.records x.header.id (eq-eqb x.header.id (n + 0) (omega arith))) (given_before (n + 1) (n + 0) ts ids.1 (omega arith))
+    given_parts (n + 0) x ts x.records [] (given_own (n + 0) x.records x.header.id (eq-eqb x.header.id (n + 0) (omega arith)))
+    (given_before (n + 1) (n + 0) ts ids.1 (omega arith))
     ∙ append-nil x.records ∙ ap (λ u. u.records) here
 given_printed n (suc j) (x ∷ ts) t ids e =
     let is : x.header.id ≡ n = ids.0 in
     let at : n + suc j ≡ n + 1 + j = omega arith in
-    given_parts (n + suc j) x ts [] t.records (given_other (n + suc j) x.records x.header.id (ne_eqb x.header.id (n + suc j) (λ same. omega arith)))
+    given_parts (n + suc j) x ts [] t.records
+    (given_other (n + suc j) x.records x.header.id (ne_eqb x.header.id (n + suc j) (λ same. omega arith)))
     (ap (λ id. given id (printed ts)) at ∙ given_printed (n + 1) j ts t ids.1 e)
 
 -- ---- their numbers
@@ -102,15 +112,19 @@ printed_known count n (t ∷ ts) ids l =
 
 -- ---- their words
 
-own_spelled : (v : Version) (id : ℕ) (rs : List Record) → list_all (λ r. kind_spelled v r.kind) rs ≡ true → list_all (λ e. kind_spelled v e.item.kind) (entries id rs) ≡ true
+own_spelled : (v : Version) (id : ℕ) (rs : List Record) → list_all (λ r. kind_spelled v r.kind) rs ≡ true
+    → list_all (λ e. kind_spelled v e.item.kind) (entries id rs) ≡ true
 own_spelled v id [] h = refl
-own_spelled v id (r ∷ rs) h = let p = and_parts (kind_spelled v r.kind) (list_all (λ r. kind_spelled v r.kind) rs) h in rw p.0 (own_spelled v id rs p.1)
+own_spelled v id (r ∷ rs) h =
+    let p = and_parts (kind_spelled v r.kind) (list_all (λ r. kind_spelled v r.kind) rs) h in rw p.0 (own_spelled v id rs p.1)
 
-printed_spelled : (v : Version) (ts : List Tablet) → list_all (tablet_spelled v) ts ≡ true → list_all (λ e. kind_spelled v e.item.kind) (printed ts) ≡ true
+printed_spelled : (v : Version) (ts : List Tablet) → list_all (tablet_spelled v) ts ≡ true
+    → list_all (λ e. kind_spelled v e.item.kind) (printed ts) ≡ true
 printed_spelled v [] h = refl
 printed_spelled v (t ∷ ts) h =
     let p = and_parts (tablet_spelled v t) (list_all (tablet_spelled v) ts) h in
-    list_all-append (λ e. kind_spelled v e.item.kind) (entries t.header.id t.records) (printed ts) ∙ rw (own_spelled v t.header.id t.records p.0) (printed_spelled v ts p.1)
+    list_all-append (λ e. kind_spelled v e.item.kind) (entries t.header.id t.records) (printed ts)
+    ∙ rw (own_spelled v t.header.id t.records p.0) (printed_spelled v ts p.1)
 
 -- version 2 can say all
 all_two : {X : Type 0} (p : X → Bool) → ((x : X) → p x ≡ true) → (xs : List X) → list_all p xs ≡ true
@@ -156,7 +170,8 @@ printed_is_spelled version logs v spell =
       valid = v;
       version = version;
       entries = printed ts;
-      lines = ap (λ more. first_line version ++ (flat_map (λ t. header_text t.header) ts ++ (more ++ codes "end\n"))) (sym (printed_text version ts));
+      lines = ap (λ more. first_line version ++ (flat_map (λ t. header_text t.header) ts ++ (more ++ codes "end\n")))
+          (sym (printed_text version ts));
       spelled = printed_spelled version ts spell;
       known = printed_known (length ts) 0 ts ids (omega arith);
       records = λ id t got. ap (λ m. given m (printed ts)) (from_zero id) ∙ given_printed 0 id ts t ids got;
@@ -165,10 +180,13 @@ printed_is_spelled version logs v spell =
     from_zero : (i : ℕ) → i ≡ 0 + i
     from_zero i = omega arith
 
-printed_is_read : (version : Version) (logs : Logs) (text : List ℕ) → is_valid logs ≡ true → logs_spelled version logs ≡ true → text ≡ text_of version logs → logs_of text ≡ Ok logs
-printed_is_read version logs text v spell e = ap logs_of e ∙ spelled_is_read (text_of version logs) logs (printed_is_spelled version logs v spell)
+printed_is_read : (version : Version) (logs : Logs) (text : List ℕ) → is_valid logs ≡ true → logs_spelled version logs ≡ true
+    → text ≡ text_of version logs → logs_of text ≡ Ok logs
+printed_is_read version logs text v spell e =
+    ap logs_of e ∙ spelled_is_read (text_of version logs) logs (printed_is_spelled version logs v spell)
 
 -- what a call printed, if it did
-pub text_back : {E : Type 0} (version : Version) (logs : Logs) (r : Result (List ℕ) E) → is_valid logs ≡ true → logs_spelled version logs ≡ true → IfOk r (λ text. text ≡ text_of version logs) → IfOk r (λ text. logs_of text ≡ Ok logs)
+pub text_back : {E : Type 0} (version : Version) (logs : Logs) (r : Result (List ℕ) E) → is_valid logs ≡ true
+    → logs_spelled version logs ≡ true → IfOk r (λ text. text ≡ text_of version logs) → IfOk r (λ text. logs_of text ≡ Ok logs)
 text_back version logs (Ok text) v spell e = printed_is_read version logs text v spell e
 text_back version logs (Err x) v spell e = tt

@@ -1,5 +1,7 @@
 -- What is printed is cut into the same words.
-use Rattle.std.proofs.Common.{◌≡◌, ℕ, ◌+◌, ◌^◌, ◌<◌, ◌≤◌, ◌==◌, ◌/◌, ◌%◌, Bool, true, false, ◌&&◌, ◌||◌, not, if◌then◌else◌, option_map, nat_le, nat_lt, nat_eq, List, [], ◌∷◌, ◌++◌, length, take, drop, map, Option, Some, None, refl, sym, ap, subst, ◌∙◌, append_assoc, decimal, arith}
+use Rattle.std.proofs.Common.{◌≡◌, ℕ, ◌+◌, ◌^◌, ◌<◌, ◌≤◌, ◌==◌, ◌/◌, ◌%◌, Bool, true, false, ◌&&◌, ◌||◌, not, if◌then◌else◌, option_map}
+use Rattle.std.proofs.Common.{nat_le, nat_lt, nat_eq, List, [], ◌∷◌, ◌++◌, length, take, drop, map, Option, Some, None, refl, sym, ap}
+use Rattle.std.proofs.Common.{subst, ◌∙◌, append_assoc, decimal, arith}
 use Rattle.std.proofs.lemmas.Bool.{and_parts, eq-eqb, ltb-true}
 use Rattle.std.proofs.lemmas.Bool.Decides.{nat_tests}
 use Rattle.std.proofs.lemmas.List.{take_at, drop_at, length_push, append-nil}
@@ -47,7 +49,8 @@ split_none : (c : ℕ) (w : List ℕ) → lacks c w ≡ true → split_on c w �
 split_none c [] h = refl
 split_none c (b ∷ w) h = let p = and_parts (not (b == c)) (lacks c w) h in rw (differs b c p.0, split_none c w p.1) refl
 
-pub split_words : (first : List ℕ) (words : List (List ℕ)) → plain first ≡ true → list_all plain words ≡ true → split_on 32 (first ++ spaced words) ≡ first ∷ words
+pub split_words : (first : List ℕ) (words : List (List ℕ)) → plain first ≡ true → list_all plain words ≡ true
+    → split_on 32 (first ++ spaced words) ≡ first ∷ words
 split_words first [] h k = rw (append-nil first) (split_none 32 first (plain_lacks 32 first (omega arith) h))
 split_words first (w ∷ ws) h k =
     let p = and_parts (plain w) (list_all plain ws) k in
@@ -59,12 +62,16 @@ spaced_lacks (w ∷ ws) h =
     let p = and_parts (plain w) (list_all plain ws) h in
     list_all-append (λ b. not (b == 10)) w (spaced ws) ∙ rw (plain_lacks 10 w (omega arith) p.0) (spaced_lacks ws p.1)
 
-pub line_body : (first : List ℕ) (words : List (List ℕ)) (rest : List ℕ) → line_text first words ++ rest ≡ (first ++ spaced words) ++ 10 ∷ rest
-line_body first words rest = ap (λ l. l ++ rest) (sym (append_assoc first (spaced words) (10 ∷ []))) ∙ append_assoc (first ++ spaced words) (10 ∷ []) rest
+pub line_body : (first : List ℕ) (words : List (List ℕ)) (rest : List ℕ)
+    → line_text first words ++ rest ≡ (first ++ spaced words) ++ 10 ∷ rest
+line_body first words rest =
+    ap (λ l. l ++ rest) (sym (append_assoc first (spaced words) (10 ∷ []))) ∙ append_assoc (first ++ spaced words) (10 ∷ []) rest
 
-pub split_line : (first : List ℕ) (words : List (List ℕ)) (rest : List ℕ) → plain first ≡ true → list_all plain words ≡ true → split_on 10 (line_text first words ++ rest) ≡ (first ++ spaced words) ∷ split_on 10 rest
+pub split_line : (first : List ℕ) (words : List (List ℕ)) (rest : List ℕ) → plain first ≡ true → list_all plain words ≡ true
+    → split_on 10 (line_text first words ++ rest) ≡ (first ++ spaced words) ∷ split_on 10 rest
 split_line first words rest h k =
-    let body : lacks 10 (first ++ spaced words) ≡ true = list_all-append (λ b. not (b == 10)) first (spaced words) ∙ rw (plain_lacks 10 first (omega arith) h) (spaced_lacks words k) in
+    let body : lacks 10 (first ++ spaced words) ≡ true =
+    list_all-append (λ b. not (b == 10)) first (spaced words) ∙ rw (plain_lacks 10 first (omega arith) h) (spaced_lacks words k) in
     ap (split_on 10) (line_body first words rest) ∙ split_at 10 (first ++ spaced words) rest body
 
 -- ---- numbers
@@ -156,27 +163,33 @@ key_bytes k h = (and_parts (within 1 32 (length k)) (are_bytes k) h).1
 value_bytes : (v : List ℕ) → is_value v ≡ true → are_bytes v ≡ true
 value_bytes v h = (and_parts (within 0 64 (length v)) (are_bytes v) h).1
 
-op_plain_by : (key : List ℕ) (value : Option (List ℕ)) → list_all is_letter key ≡ true → option_map_or (λ w. list_all is_letter w) value true ≡ true → plain (op_by key value) ≡ true
+op_plain_by : (key : List ℕ) (value : Option (List ℕ)) → list_all is_letter key ≡ true
+    → option_map_or (λ w. list_all is_letter w) value true ≡ true → plain (op_by key value) ≡ true
 op_plain_by key None k v = letters_plain key k
 op_plain_by key (Some value) k v = list_all-append (λ b. nat_lt 32 b) key (61 ∷ value) ∙ rw (letters_plain key k) (letters_plain value v)
 
 any_at : (w rest : List ℕ) → list_any (λ b. b == 61) (w ++ 61 ∷ rest) ≡ true
 any_at [] rest = refl
-any_at (b ∷ w) rest = let more = any_at w rest in elim (b == 61) as (λ t. (t || list_any (λ c. c == 61) (w ++ 61 ∷ rest)) ≡ true) [ true ↦ refl | false ↦ more ]
+any_at (b ∷ w) rest =
+    let more = any_at w rest in elim (b == 61) as (λ t. (t || list_any (λ c. c == 61) (w ++ 61 ∷ rest)) ≡ true)
+    [ true ↦ refl | false ↦ more ]
 
 place_at : (w rest : List ℕ) → lacks 61 w ≡ true → position_or_len (λ b. b == 61) (w ++ 61 ∷ rest) ≡ length w
 place_at [] rest h = refl
 place_at (b ∷ w) rest h =
-    let p = and_parts (not (b == 61)) (lacks 61 w) h in let d = differs b 61 p.0 in let more = place_at w rest p.1 in rw d (grind (arith, more))
+    let p = and_parts (not (b == 61)) (lacks 61 w) h in let d = differs b 61 p.0 in let more = place_at w rest p.1 in rw d
+    (grind (arith, more))
 
 before_at : (w rest : List ℕ) → lacks 61 w ≡ true → before_first (λ b. b == 61) (w ++ 61 ∷ rest) ≡ w
 before_at w rest h = ap (λ n. take n (w ++ 61 ∷ rest)) (place_at w rest h) ∙ take_at w (61 ∷ rest) (length w) refl
 
 after_at : (w rest : List ℕ) → lacks 61 w ≡ true → after_first (λ b. b == 61) (w ++ 61 ∷ rest) ≡ rest
 after_at w rest h =
-    ap (λ n. drop (n + 1) (w ++ 61 ∷ rest)) (place_at w rest h) ∙ ap (drop (length w + 1)) (sym (append_assoc w (61 ∷ []) rest)) ∙ drop_at (w ++ 61 ∷ []) rest (length w + 1) (length_push w 61)
+    ap (λ n. drop (n + 1) (w ++ 61 ∷ rest)) (place_at w rest h) ∙ ap (drop (length w + 1)) (sym (append_assoc w (61 ∷ []) rest))
+    ∙ drop_at (w ++ 61 ∷ []) rest (length w + 1) (length_push w 61)
 
-op_is_by : (key : List ℕ) (value : Option (List ℕ)) → list_all is_letter key ≡ true → op_written (op_by key value) ≡ Some (record { key = key; value = value })
+op_is_by : (key : List ℕ) (value : Option (List ℕ)) → list_all is_letter key ≡ true
+    → op_written (op_by key value) ≡ Some (record { key = key; value = value })
 op_is_by key None k = refl
 op_is_by key (Some value) k = let l = letters_lack key k in rw (any_at key value, before_at key value l, after_at key value l) refl
 
@@ -186,8 +199,10 @@ record IsSaid (v : Version) (op : Op) : Type 0 where
   value : option_map_or (λ w. list_all is_letter w) (option_map (name_word v) op.value) true ≡ true
   back : op_meant v (record { key = name_word v op.key; value = option_map (name_word v) op.value }) ≡ op
 
-value_said : (v : Version) (value : Option (List ℕ)) → option_map_or is_value value true ≡ true → option_map_or (spelled v) value true ≡ true
-    → (option_map_or (λ w. list_all is_letter w) (option_map (name_word v) value) true ≡ true) × (option_map (name_of v) (option_map (name_word v) value) ≡ value)
+value_said : (v : Version) (value : Option (List ℕ)) → option_map_or is_value value true ≡ true
+    → option_map_or (spelled v) value true ≡ true
+    → (option_map_or (λ w. list_all is_letter w) (option_map (name_word v) value) true ≡ true) ×
+    (option_map (name_of v) (option_map (name_word v) value) ≡ value)
 value_said v None h s = (refl, refl)
 value_said v (Some n) h s = (word_letters v n (value_bytes n h) s, ap Some (word_read v n (value_bytes n h) s))
 
@@ -227,27 +242,31 @@ plain_meant v o h =
     op_same (name_of v o.key) o.key (option_map (name_of v) o.value) o.value (name_own v o.key p.0) (value_own v o.value p.1)
 
 pub op_plain : (v : Version) (op : Op) → op_is_named op ≡ true → op_spelled v op ≡ true → plain (op_word v op) ≡ true
-op_plain v op h s = let is : IsSaid v op = said v op h s in op_plain_by (name_word v op.key) (option_map (name_word v) op.value) is.key is.value
+op_plain v op h s =
+    let is : IsSaid v op = said v op h s in op_plain_by (name_word v op.key) (option_map (name_word v) op.value) is.key is.value
 
 op_is : (v : Version) (op : Op) → op_is_named op ≡ true → op_spelled v op ≡ true → op_of v (op_word v op) ≡ Some op
 op_is v op h s =
     let is : IsSaid v op = said v op h s in
     ap (option_map (op_meant v)) (op_is_by (name_word v op.key) (option_map (name_word v) op.value) is.key) ∙ ap Some is.back
 
-pub ops_plain : (v : Version) (ops : List Op) → list_all op_is_named ops ≡ true → list_all (op_spelled v) ops ≡ true → list_all plain (map (op_word v) ops) ≡ true
+pub ops_plain : (v : Version) (ops : List Op) → list_all op_is_named ops ≡ true → list_all (op_spelled v) ops ≡ true
+    → list_all plain (map (op_word v) ops) ≡ true
 ops_plain v [] h s = refl
 ops_plain v (op ∷ ops) h s =
     let p = and_parts (op_is_named op) (list_all op_is_named ops) h in
     let q = and_parts (op_spelled v op) (list_all (op_spelled v) ops) s in
     rw (op_plain v op p.0 q.0) (ops_plain v ops p.1 q.1)
 
-all_ops_are : (v : Version) (ops : List Op) → list_all op_is_named ops ≡ true → list_all (op_spelled v) ops ≡ true → all_ops v (map (op_word v) ops) ≡ Some ops
+all_ops_are : (v : Version) (ops : List Op) → list_all op_is_named ops ≡ true → list_all (op_spelled v) ops ≡ true
+    → all_ops v (map (op_word v) ops) ≡ Some ops
 all_ops_are v [] h s = refl
 all_ops_are v (op ∷ ops) h s =
     let p = and_parts (op_is_named op) (list_all op_is_named ops) h in
     let q = and_parts (op_spelled v op) (list_all (op_spelled v) ops) s in
     rw (op_is v op p.0 q.0, all_ops_are v ops p.1 q.1) refl
 
-pub ops_are : (v : Version) (ops : List Op) → list_all op_is_named ops ≡ true → list_all (op_spelled v) ops ≡ true → nat_le 1 (length ops) ≡ true → ops_of v (map (op_word v) ops) ≡ Some ops
+pub ops_are : (v : Version) (ops : List Op) → list_all op_is_named ops ≡ true → list_all (op_spelled v) ops ≡ true
+    → nat_le 1 (length ops) ≡ true → ops_of v (map (op_word v) ops) ≡ Some ops
 ops_are v [] h s some = cc
 ops_are v (op ∷ ops) h s some = all_ops_are v (op ∷ ops) h s

@@ -1,5 +1,6 @@
 -- A text that is read as logs spells them: its lines, from the last to the first.
-use Rattle.std.proofs.Common.{◌≡◌, ℕ, zero, suc, ◌+◌, ◌<◌, true, false, not, nat_lt, List, [], ◌∷◌, ◌++◌, length, map, flat_map, Option, Some, None, Result, Ok, Err, slice_get, refl, sym, ap, subst, ◌∙◌, append_assoc, codes, arith}
+use Rattle.std.proofs.Common.{◌≡◌, ℕ, zero, suc, ◌+◌, ◌<◌, true, false, not, nat_lt, List, [], ◌∷◌, ◌++◌, length, map, flat_map, Option}
+use Rattle.std.proofs.Common.{Some, None, Result, Ok, Err, slice_get, refl, sym, ap, subst, ◌∙◌, append_assoc, codes, arith}
 use Rattle.std.specs.List.{list_all, join_with_byte}
 use Rattle.std.proofs.lemmas.Bool.{lt-ltb, leb-false, or_parts, not-false}
 use Rattle.std.proofs.lemmas.List.{append-nil}
@@ -21,7 +22,8 @@ use Rattle.xc_text.specs.declared.reading.Stage.{Stage}
 use Rattle.xc_text.specs.declared.reading.Stage.TheVariants.{Start, Headers, Records, Ended}
 use Rattle.xc_text.specs.Kinds.{first_kind}
 use Rattle.xc_text.specs.Lines.{line_of, numbers_fit, names_fit}
-use Rattle.xc_text.specs.LogText.{begun, misplaced, records_began, kinds, moved, step, step_by, ending, rest_of_text, go_on, lines_from, logs_of}
+use Rattle.xc_text.specs.LogText.{begun, misplaced, records_began, kinds, moved, step, step_by, ending, rest_of_text, go_on, lines_from}
+use Rattle.xc_text.specs.LogText.{logs_of}
 use Rattle.xc_text.specs.Printed.{header_text, kind_spelled, first_line}
 use Rattle.xc_text.specs.Spelled.{Entry, entry_text, given, Spells, ReadIsSpelled}
 use Rattle.xc_text.proofs.ValidLaws.{bare, AllFalse, all_false, unless_cases, read_is_valid}
@@ -60,13 +62,16 @@ Left v Headers ts bytes logs = Body v ts bytes logs
 Left v Records ts bytes logs = Entries v ts bytes logs
 Left v Ended ts bytes logs = (bytes ≡ []) × (ts ≡ logs.tablets)
 
-first_left : (v version : Version) (stage : Stage) (ts : List Tablet) (bytes rest : List ℕ) (logs : Logs) → misplaced stage (line.First version) ≡ false → bytes ≡ first_line version ++ rest → Body version ts rest logs → Left v stage ts bytes logs
+first_left : (v version : Version) (stage : Stage) (ts : List Tablet) (bytes rest : List ℕ) (logs : Logs)
+    → misplaced stage (line.First version) ≡ false → bytes ≡ first_line version ++ rest → Body version ts rest logs
+    → Left v stage ts bytes logs
 first_left v version Start ts bytes rest logs m e body = record { version = version; rest = rest; text = e; body = body }
 first_left v version Headers ts bytes rest logs m e body = cc
 first_left v version Records ts bytes rest logs m e body = cc
 first_left v version Ended ts bytes rest logs m e body = cc
 
-header_more : (v : Version) (ts : List Tablet) (h : Header) (bytes rest : List ℕ) (logs : Logs) → bytes ≡ header_text h ++ rest → Body v (ts ++ bare h ∷ []) rest logs → Body v ts bytes logs
+header_more : (v : Version) (ts : List Tablet) (h : Header) (bytes rest : List ℕ) (logs : Logs) → bytes ≡ header_text h ++ rest
+    → Body v (ts ++ bare h ∷ []) rest logs → Body v ts bytes logs
 header_more v ts h bytes rest logs e b =
     let P : List Tablet → Type 0 = λ us. Entries v us b.rest logs in
     record {
@@ -76,7 +81,9 @@ header_more v ts h bytes rest logs e b =
       entries = subst P (append_assoc ts (bare h ∷ []) (map bare b.headers)) b.entries;
     }
 
-header_left : (v : Version) (stage : Stage) (ts : List Tablet) (h : Header) (bytes rest : List ℕ) (logs : Logs) → misplaced stage (line.Tablet h) ≡ false → records_began stage ≡ false → bytes ≡ header_text h ++ rest → Left v stage (ts ++ bare h ∷ []) rest logs → Left v stage ts bytes logs
+header_left : (v : Version) (stage : Stage) (ts : List Tablet) (h : Header) (bytes rest : List ℕ) (logs : Logs)
+    → misplaced stage (line.Tablet h) ≡ false → records_began stage ≡ false → bytes ≡ header_text h ++ rest
+    → Left v stage (ts ++ bare h ∷ []) rest logs → Left v stage ts bytes logs
 header_left v Start ts h bytes rest logs m b e left = cc
 header_left v Headers ts h bytes rest logs m b e left = header_more v ts h bytes rest logs e left
 header_left v Records ts h bytes rest logs m b e left = cc
@@ -88,18 +95,23 @@ no_headers v ts bytes logs es =
     let P : List Tablet → Type 0 = λ us. Entries v us bytes logs in
     record { headers = []; rest = bytes; text = refl; entries = subst P (sym (append-nil ts)) es }
 
-inner_left : (v : Version) (stage : Stage) (ts : List Tablet) (bytes : List ℕ) (logs : Logs) → misplaced stage line.End ≡ false → Entries v ts bytes logs → Left v stage ts bytes logs
+inner_left : (v : Version) (stage : Stage) (ts : List Tablet) (bytes : List ℕ) (logs : Logs) → misplaced stage line.End ≡ false
+    → Entries v ts bytes logs → Left v stage ts bytes logs
 inner_left v Start ts bytes logs m es = cc
 inner_left v Headers ts bytes logs m es = no_headers v ts bytes logs es
 inner_left v Records ts bytes logs m es = es
 inner_left v Ended ts bytes logs m es = cc
 
-entry_more : (v : Version) (ts : List Tablet) (e : Entry) (bytes rest : List ℕ) (logs : Logs) → e.id < length ts → bytes ≡ entry_text v e ++ rest → kind_spelled v e.item.kind ≡ true → Entries v (with_record e.id e.item ts) rest logs → Entries v ts bytes logs
+entry_more : (v : Version) (ts : List Tablet) (e : Entry) (bytes rest : List ℕ) (logs : Logs) → e.id < length ts
+    → bytes ≡ entry_text v e ++ rest → kind_spelled v e.item.kind ≡ true → Entries v (with_record e.id e.item ts) rest logs
+    → Entries v ts bytes logs
 entry_more v ts e bytes rest logs l is spell es =
-    let known : all_known (length ts) es.entries = ap (λ n. list_all (λ x. nat_lt x.id n) es.entries) (sym (length_with e.id e.item ts)) ∙ es.known in
+    let known : all_known (length ts) es.entries =
+    ap (λ n. list_all (λ x. nat_lt x.id n) es.entries) (sym (length_with e.id e.item ts)) ∙ es.known in
     record {
       entries = e ∷ es.entries;
-      text = is ∙ ap (λ more. entry_text v e ++ more) es.text ∙ sym (append_assoc (entry_text v e) (flat_map (entry_text v) es.entries) (codes "end\n"));
+      text = is ∙ ap (λ more. entry_text v e ++ more) es.text
+          ∙ sym (append_assoc (entry_text v e) (flat_map (entry_text v) es.entries) (codes "end\n"));
       known = rw (lt-ltb e.id (length ts) l) known;
       spelled = rw spell es.spelled;
       whole = sym (filled_entry e es.entries ts l) ∙ es.whole;
@@ -111,31 +123,47 @@ in_place Headers id r m = refl
 in_place Records id r m = refl
 in_place Ended id r m = cc
 
-end_entries : (v : Version) (ts : List Tablet) (bytes rest : List ℕ) (logs : Logs) → bytes ≡ codes "end\n" ++ rest → rest ≡ [] → ts ≡ logs.tablets → Entries v ts bytes logs
+end_entries : (v : Version) (ts : List Tablet) (bytes rest : List ℕ) (logs : Logs) → bytes ≡ codes "end\n" ++ rest → rest ≡ []
+    → ts ≡ logs.tablets → Entries v ts bytes logs
 end_entries v ts bytes rest logs e none all =
-    record { entries = []; text = e ∙ ap (λ more. codes "end\n" ++ more) none; known = refl; spelled = refl; whole = filled_none 0 ts ∙ all }
+    record {
+      entries = [];
+      text = e ∙ ap (λ more. codes "end\n" ++ more) none;
+      known = refl;
+      spelled = refl;
+      whole = filled_none 0 ts
+          ∙ all;
+    }
 
 -- ---- one line
 
-line_left : (s : Reading) (l : LogLine) (bytes rest : List ℕ) (logs : Logs) → AllFalse (kinds s l) → (bytes ≡ line_bytes s.version l ++ rest) × (line_spelled s.version l ≡ true) → Left (moved s l).version (moved s l).stage (moved s l).tablets rest logs → Left s.version s.stage s.tablets bytes logs
+line_left : (s : Reading) (l : LogLine) (bytes rest : List ℕ) (logs : Logs) → AllFalse (kinds s l)
+    → (bytes ≡ line_bytes s.version l ++ rest) × (line_spelled s.version l ≡ true)
+    → Left (moved s l).version (moved s l).stage (moved s l).tablets rest logs → Left s.version s.stage s.tablets bytes logs
 line_left s (line.First version) bytes rest logs f e left = first_left s.version version s.stage s.tablets bytes rest logs f.0 e.0 left
 line_left s (line.Tablet h) bytes rest logs f e left =
     let b = or_parts (records_began s.stage) (not (fits (headers_of s.tablets) s.next h)) f.1.1.1.0 in
     header_left s.version s.stage s.tablets h bytes rest logs f.0 b.0 e.0 left
 line_left s (line.Entry id r) bytes rest logs f e left =
     let l = leb-false (length s.tablets) id f.1.1.1.1.0 in
-    inner_left s.version s.stage s.tablets bytes logs (in_place s.stage id r f.0) (entry_more s.version s.tablets (record { id = id; item = r }) bytes rest logs l e.0 e.1 left)
-line_left s line.End bytes rest logs f e left = inner_left s.version s.stage s.tablets bytes logs f.0 (end_entries s.version s.tablets bytes rest logs e.0 left.0 left.1)
+    inner_left s.version s.stage s.tablets bytes logs (in_place s.stage id r f.0)
+    (entry_more s.version s.tablets (record { id = id; item = r }) bytes rest logs l e.0 e.1 left)
+line_left s line.End bytes rest logs f e left =
+    inner_left s.version s.stage s.tablets bytes logs f.0 (end_entries s.version s.tablets bytes rest logs e.0 left.0 left.1)
 
-step_cases : (s after : Reading) (piece rest : List ℕ) (logs : Logs) (o : Option LogLine) → line_of s.version (split_on 32 piece) ≡ o → step_by s o ≡ Ok after → Left after.version after.stage after.tablets rest logs → Left s.version s.stage s.tablets (piece ++ 10 ∷ rest) logs
+step_cases : (s after : Reading) (piece rest : List ℕ) (logs : Logs) (o : Option LogLine) → line_of s.version (split_on 32 piece) ≡ o
+    → step_by s o ≡ Ok after → Left after.version after.stage after.tablets rest logs
+    → Left s.version s.stage s.tablets (piece ++ 10 ∷ rest) logs
 step_cases s after piece rest logs None is h left = cc
 step_cases s after piece rest logs (Some l) is h left =
     let p = unless_cases (first_kind (kinds s l)) (moved s l) after h in
     let f = all_false (kinds s l) p.0 in
     let P : Reading → Type 0 = λ t. Left t.version t.stage t.tablets rest logs in
-    line_left s l (piece ++ 10 ∷ rest) rest logs f (line_back s.version piece rest l is (not-false (numbers_fit l) f.1.0) (not-false (names_fit l) f.1.1.0)) (subst P (sym p.1) left)
+    line_left s l (piece ++ 10 ∷ rest) rest logs f
+    (line_back s.version piece rest l is (not-false (numbers_fit l) f.1.0) (not-false (names_fit l) f.1.1.0)) (subst P (sym p.1) left)
 
-step_left : (s after : Reading) (piece rest : List ℕ) (logs : Logs) → step s piece ≡ Ok after → Left after.version after.stage after.tablets rest logs → Left s.version s.stage s.tablets (piece ++ 10 ∷ rest) logs
+step_left : (s after : Reading) (piece rest : List ℕ) (logs : Logs) → step s piece ≡ Ok after
+    → Left after.version after.stage after.tablets rest logs → Left s.version s.stage s.tablets (piece ++ 10 ∷ rest) logs
 unfolding step
 step_left s after piece rest logs h left = step_cases s after piece rest logs (line_of s.version (split_on 32 piece)) refl h left
 
@@ -150,16 +178,21 @@ ending_left s number logs h = by s.stage h
     by Records e = cc
     by Ended e = let same : record { tablets = s.tablets } ≡ logs = cc in (refl, ap (λ l. l.tablets) same)
 
-rest_left : (s : Reading) (number : ℕ) (rest : List ℕ) (logs : Logs) → rest_of_text s number rest ≡ Ok logs → Left s.version s.stage s.tablets rest logs
+rest_left : (s : Reading) (number : ℕ) (rest : List ℕ) (logs : Logs) → rest_of_text s number rest ≡ Ok logs
+    → Left s.version s.stage s.tablets rest logs
 rest_left s number [] logs h = ending_left s number logs h
 rest_left s number (byte ∷ bytes) logs h = cc
 
-left_from : (s : Reading) (number : ℕ) (pieces : List (List ℕ)) (logs : Logs) → lines_from s number pieces ≡ Ok logs → Left s.version s.stage s.tablets (join_with_byte 10 pieces) logs
+left_from : (s : Reading) (number : ℕ) (pieces : List (List ℕ)) (logs : Logs) → lines_from s number pieces ≡ Ok logs
+    → Left s.version s.stage s.tablets (join_with_byte 10 pieces) logs
 left_from s number [] logs h = ending_left s number logs h
 left_from s number (piece ∷ []) logs h = rest_left s number piece logs h
-left_from s number (piece ∷ (next ∷ pieces)) logs h = by (λ after e. left_from after (number + 1) (next ∷ pieces) logs e) (step s piece) refl h
+left_from s number (piece ∷ (next ∷ pieces)) logs h =
+    by (λ after e. left_from after (number + 1) (next ∷ pieces) logs e) (step s piece) refl h
   where
-    by : ((after : Reading) → lines_from after (number + 1) (next ∷ pieces) ≡ Ok logs → Left after.version after.stage after.tablets (join_with_byte 10 (next ∷ pieces)) logs) → (r : Result Reading LogKind) → step s piece ≡ r → go_on r number (λ after. lines_from after (number + 1) (next ∷ pieces)) ≡ Ok logs
+    by : ((after : Reading) → lines_from after (number + 1) (next ∷ pieces) ≡ Ok logs
+        → Left after.version after.stage after.tablets (join_with_byte 10 (next ∷ pieces)) logs) → (r : Result Reading
+        LogKind) → step s piece ≡ r → go_on r number (λ after. lines_from after (number + 1) (next ∷ pieces)) ≡ Ok logs
         → Left s.version s.stage s.tablets (join_with_byte 10 (piece ∷ next ∷ pieces)) logs
     by more (Ok after) is e = step_left s after piece (join_with_byte 10 (next ∷ pieces)) logs is (more after e)
     by more (Err k) is e = cc
@@ -167,7 +200,8 @@ left_from s number (piece ∷ (next ∷ pieces)) logs h = by (λ after e. left_f
 -- ---- the whole
 
 -- what fills tablets without records is what each is given
-given_there : (n k : ℕ) (es : List Entry) (hs : List Header) (t : Tablet) → slice_get (filled n es (map bare hs)) k ≡ Some t → given (n + k) es ≡ t.records
+given_there : (n k : ℕ) (es : List Entry) (hs : List Header) (t : Tablet) → slice_get (filled n es (map bare hs)) k ≡ Some t
+    → given (n + k) es ≡ t.records
 given_there n k es [] t e = cc
 given_there n zero es (h ∷ hs) t e =
     let at : n + 0 ≡ n = omega arith in
@@ -181,15 +215,20 @@ from_all : (text : List ℕ) (logs : Logs) → logs_of text ≡ Ok logs → All 
 from_all text logs h a =
     let b = a.body in
     let es = b.entries in
-    let same : headers_of logs.tablets ≡ b.headers = sym (ap headers_of es.whole) ∙ headers_filled 0 es.entries (map bare b.headers) ∙ headers_bare b.headers in
-    let count : length logs.tablets ≡ length (map bare b.headers) = sym (ap length es.whole) ∙ length_filled 0 es.entries (map bare b.headers) in
-    let headers : flat_map header_text b.headers ≡ flat_map (λ t. header_text t.header) logs.tablets = ap (flat_map header_text) (sym same) ∙ sym (headers_text logs.tablets) in
+    let same : headers_of logs.tablets ≡ b.headers =
+    sym (ap headers_of es.whole) ∙ headers_filled 0 es.entries (map bare b.headers) ∙ headers_bare b.headers in
+    let count : length logs.tablets ≡ length (map bare b.headers) =
+    sym (ap length es.whole) ∙ length_filled 0 es.entries (map bare b.headers) in
+    let headers : flat_map header_text b.headers ≡ flat_map (λ t. header_text t.header) logs.tablets =
+    ap (flat_map header_text) (sym same) ∙ sym (headers_text logs.tablets) in
     let tail = flat_map (entry_text a.version) es.entries ++ codes "end\n" in
     record {
       valid = read_is_valid text logs h;
       version = a.version;
       entries = es.entries;
-      lines = a.text ∙ ap (λ more. first_line a.version ++ more) (b.text ∙ ap (λ more. flat_map header_text b.headers ++ more) es.text ∙ ap (λ front. front ++ tail) headers);
+      lines = a.text
+          ∙ ap (λ more. first_line a.version ++ more) (b.text ∙ ap (λ more. flat_map header_text b.headers ++ more) es.text
+          ∙ ap (λ front. front ++ tail) headers);
       known = ap (λ n. list_all (λ e. nat_lt e.id n) es.entries) count ∙ es.known;
       spelled = es.spelled;
       records = λ id t got.

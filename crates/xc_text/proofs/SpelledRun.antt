@@ -1,5 +1,6 @@
 -- A text that spells logs is read as those logs: its lines, one after another.
-use Rattle.std.proofs.Common.{◌≡◌, ℕ, ◌+◌, ◌-◌, ◌^◌, ◌<◌, ◌≤◌, Bool, true, false, ◌&&◌, nat_le, nat_lt, List, [], ◌∷◌, ◌++◌, length, flat_map, Some, Result, Ok, is_some, slice_get, refl, sym, ap, subst, ◌∙◌, append_assoc, codes, arith, sum_by}
+use Rattle.std.proofs.Common.{◌≡◌, ℕ, ◌+◌, ◌-◌, ◌^◌, ◌<◌, ◌≤◌, Bool, true, false, ◌&&◌, nat_le, nat_lt, List, [], ◌∷◌, ◌++◌, length}
+use Rattle.std.proofs.Common.{flat_map, Some, Result, Ok, is_some, slice_get, refl, sym, ap, subst, ◌∙◌, append_assoc, codes, arith, sum_by}
 use Rattle.std.proofs.lemmas.Bool.{and_parts, lt-ltb, ltb-true, leb-true, lt-leb, le-ltb}
 use Rattle.std.proofs.lemmas.List.Sums.{sum_by-cons}
 use Rattle.std.specs.List.{list_all}
@@ -27,7 +28,8 @@ use Rattle.xc_text.proofs.PrintedHeaders.{all_small}
 use Rattle.xc_text.proofs.PrintedLines.{EntryFits, entry_bytes, entry_line, entry_is}
 use Rattle.xc_text.proofs.PrintedLaws.{Gives, back, step_is, at, at_headers, headers_run, kind_good, not_zero, no_split_yet, part}
 use Rattle.xc_text.proofs.PrintedEnds.{bares, entry_kinds, end_gives, none_orphaned, headers_text, starts, bares_are, rest_of}
-use Rattle.xc_text.proofs.Filled.{filled, filled_none, filled_entry, got_filled, headers_filled, length_filled, filled_is, all_known, known_with, ops_given, records_filled, operations_filled, given_same}
+use Rattle.xc_text.proofs.Filled.{filled, filled_none, filled_entry, got_filled, headers_filled, length_filled, filled_is, all_known}
+use Rattle.xc_text.proofs.Filled.{known_with, ops_given, records_filled, operations_filled, given_same}
 use Rattle.xc_record.proofs.ListLaws.{all-at}
 
 -- what holds of the tablets of valid logs
@@ -47,15 +49,18 @@ record Stands (v : Version) (us : List Tablet) (e : Entry) (t : Tablet) : Type 0
   last : is_split_off t ≡ false
   few : nat_lt 64 (ops_in e.item.kind) ≡ false
 
-stands : (v : Version) (ts us : List Tablet) (e : Entry) (left : List Entry) (t : Tablet) → Whole ts → kind_spelled v e.item.kind ≡ true → filled 0 (e ∷ left) us ≡ ts → e.id < length us → slice_get us e.id ≡ Some t → Stands v us e t
+stands : (v : Version) (ts us : List Tablet) (e : Entry) (left : List Entry) (t : Tablet) → Whole ts → kind_spelled v e.item.kind ≡ true
+    → filled 0 (e ∷ left) us ≡ ts → e.id < length us → slice_get us e.id ≡ Some t → Stands v us e t
 stands v ts us e left t w spell whole l got =
     let hs = headers_of ts in
     let all = t.records ++ given e.id (e ∷ left) in
     let zero_more : 0 + e.id ≡ e.id = omega arith in
     let there : slice_get ts e.id ≡ Some (part t.header all) =
-    sym (ap (λ vs. slice_get vs e.id) whole) ∙ got_filled 0 e.id (e ∷ left) us t got ∙ ap (λ m. Some (part t.header (t.records ++ given m (e ∷ left)))) zero_more in
+    sym (ap (λ vs. slice_get vs e.id) whole) ∙ got_filled 0 e.id (e ∷ left) us t got
+    ∙ ap (λ m. Some (part t.header (t.records ++ given m (e ∷ left)))) zero_more in
     let fit = all-at (tablet_fits hs) ts e.id (part t.header all) w.fit there in
-    let g = and_parts (list_all (record_fits t.header (children hs t.header.id)) all) (ends_fit (is_some (children hs t.header.id)) all) fit in
+    let g = and_parts (list_all (record_fits t.header (children hs t.header.id)) all) (ends_fit (is_some (children hs t.header.id)) all) fit
+    in
     let next : all ≡ t.records ++ e.item ∷ given e.id left = ap (λ rs. t.records ++ rs) (given_same e.id e left refl) in
     let A : List Record → Type 0 = λ rs. list_all (record_fits t.header (children hs t.header.id)) rs ≡ true in
     let E : List Record → Type 0 = λ rs. ends_fit (is_some (children hs t.header.id)) rs ≡ true in
@@ -72,14 +77,20 @@ stands v ts us e left t w spell whole l got =
       few = k.few;
     }
 
-entry_step : (v : Version) (stage : Stage) (us : List Tablet) (next : Next) (records operations : ℕ) (e : Entry) (t : Tablet) → is_inner stage ≡ true → may_end next ≡ true → e.id < length us → slice_get us e.id ≡ Some t → Stands v us e t → 1 ≤ records → ops_in e.item.kind ≤ operations
-    → step (at v stage us next records operations) (entry_bytes v e.id e.item) ≡ Ok (at v Records (with_record e.id e.item us) next (records - 1) (operations - ops_in e.item.kind))
+entry_step : (v : Version) (stage : Stage) (us : List Tablet) (next : Next) (records operations : ℕ) (e : Entry) (t : Tablet)
+    → is_inner stage ≡ true → may_end next ≡ true → e.id < length us → slice_get us e.id ≡ Some t → Stands v us e t → 1 ≤ records
+    → ops_in e.item.kind ≤ operations
+    → step (at v stage us next records operations) (entry_bytes v e.id e.item) ≡ Ok
+    (at v Records (with_record e.id e.item us) next (records - 1) (operations - ops_in e.item.kind))
 entry_step v stage us next records operations e t i m l got s room space =
     step_is (at v stage us next records operations) (entry_bytes v e.id e.item) (line.Entry e.id e.item) (entry_is v e.id e.item s.fits)
-    (entry_kinds v stage us next records operations e.id e.item t i s.fits m (lt-leb (length us) e.id l) got s.range s.last s.few (not_zero records room) (le-ltb operations (ops_in e.item.kind) space))
+    (entry_kinds v stage us next records operations e.id e.item t i s.fits m (lt-leb (length us) e.id l) got s.range s.last s.few
+    (not_zero records room) (le-ltb operations (ops_in e.item.kind) space))
 
-entries_run : (v : Version) (ts us : List Tablet) (left : List Entry) (stage : Stage) (next : Next) (records operations x y : ℕ) (rest : List ℕ) (logs : Logs)
-    → Whole ts → list_all (λ e. kind_spelled v e.item.kind) left ≡ true → filled 0 left us ≡ ts → all_known (length us) left → is_inner stage ≡ true → may_end next ≡ true
+entries_run : (v : Version) (ts us : List Tablet) (left : List Entry) (stage : Stage) (next : Next) (records operations x y : ℕ)
+    (rest : List ℕ) (logs : Logs)
+    → Whole ts → list_all (λ e. kind_spelled v e.item.kind) left ≡ true → filled 0 left us ≡ ts → all_known (length us) left
+    → is_inner stage ≡ true → may_end next ≡ true
     → records ≡ length left + x → operations ≡ ops_given left + y
     → ((later : Stage) → is_inner later ≡ true → Gives (at v later ts next x y) rest logs)
     → Gives (at v stage us next records operations) (flat_map (entry_text v) left ++ rest) logs
@@ -98,10 +109,14 @@ entries_run v ts us (e ∷ left) stage next records operations x y rest logs w s
     let all = sum_by-cons (λ x. ops_in x.item.kind) e left in
     let room : 1 ≤ records = omega arith in
     let space : ops_in e.item.kind ≤ operations = omega arith in
-    back (at v stage us next records operations) (at v Records (with_record e.id e.item us) next (records - 1) (operations - ops_in e.item.kind)) (entry_bytes v e.id e.item) (flat_map (entry_text v) left ++ rest) ((record_text v e.id e.item ++ flat_map (entry_text v) left) ++ rest) logs
-    (ap (split_on 10) (append_assoc (record_text v e.id e.item) (flat_map (entry_text v) left) rest) ∙ entry_line v e.id e.item (flat_map (entry_text v) left ++ rest) s.fits)
+    back (at v stage us next records operations)
+    (at v Records (with_record e.id e.item us) next (records - 1) (operations - ops_in e.item.kind)) (entry_bytes v e.id e.item)
+    (flat_map (entry_text v) left ++ rest) ((record_text v e.id e.item ++ flat_map (entry_text v) left) ++ rest) logs
+    (ap (split_on 10) (append_assoc (record_text v e.id e.item) (flat_map (entry_text v) left) rest)
+    ∙ entry_line v e.id e.item (flat_map (entry_text v) left ++ rest) s.fits)
     (entry_step v stage us next records operations e here.here i m l here.got s room space)
-    (entries_run v ts (with_record e.id e.item us) left Records next (records - 1) (operations - ops_in e.item.kind) x y rest logs w saying.1 (filled_entry e left us l ∙ whole) (known_with e left us p.1) refl m (omega arith) (omega arith) more)
+    (entries_run v ts (with_record e.id e.item us) left Records next (records - 1) (operations - ops_in e.item.kind) x y rest logs w
+    saying.1 (filled_entry e left us l ∙ whole) (known_with e left us p.1) refl m (omega arith) (omega arith) more)
 
 -- ---- the whole
 
@@ -111,15 +126,21 @@ no_records (t ∷ ts) = let e = sum_by-cons (λ u. length u.records) (part t.hea
 
 no_operations : (ts : List Tablet) → operations_of (bares ts) ≡ 0
 no_operations [] = refl
-no_operations (t ∷ ts) = let e = sum_by-cons (λ u. sum_by (λ q. ops_in q.kind) u.records) (part t.header []) (bares ts) in let more = no_operations ts in omega arith
+no_operations (t ∷ ts) =
+    let e = sum_by-cons (λ u. sum_by (λ q. ops_in q.kind) u.records) (part t.header []) (bares ts) in let more = no_operations ts in omega
+    arith
 
 length_bares : (ts : List Tablet) → length (bares ts) ≡ length ts
 length_bares ts = length-map ts (λ t. bare t.header)
 
 abbrev spelled_text : Version → Logs → List Entry → List ℕ
-spelled_text v logs es = first_line v ++ (flat_map (λ t. header_text t.header) logs.tablets ++ (flat_map (entry_text v) es ++ codes "end\n"))
+spelled_text v logs es =
+    first_line v ++ (flat_map (λ t. header_text t.header) logs.tablets ++ (flat_map (entry_text v) es ++ codes "end\n"))
 
-entries_are_read : (version : Version) (logs : Logs) (es : List Entry) → is_valid logs ≡ true → list_all (λ e. kind_spelled version e.item.kind) es ≡ true → all_known (length logs.tablets) es → ((id : ℕ) (t : Tablet) → slice_get logs.tablets id ≡ Some t → given id es ≡ t.records) → logs_of (spelled_text version logs es) ≡ Ok logs
+entries_are_read : (version : Version) (logs : Logs) (es : List Entry) → is_valid logs ≡ true
+    → list_all (λ e. kind_spelled version e.item.kind) es ≡ true → all_known (length logs.tablets) es
+    → ((id : ℕ) (t : Tablet) → slice_get logs.tablets id ≡ Some t → given id es ≡ t.records)
+    → logs_of (spelled_text version logs es) ≡ Ok logs
 unfolding logs_of is_valid headers_fit are_headers
 entries_are_read version logs es v spell k given_is =
     let ts = logs.tablets in
@@ -146,11 +167,13 @@ entries_are_read version logs es v spell k given_is =
     (λ after m.
     let P : List Tablet → Type 0 = λ us. Gives (at version Headers us after (2 ^ 20) (2 ^ 22)) tail logs in
     subst P (sym (bares_are ts))
-    (entries_run version ts (bares ts) es Headers after (2 ^ 20) (2 ^ 22) (2 ^ 20 - length es) (2 ^ 22 - ops_given es) (codes "end\n") logs w spell whole known refl m
+    (entries_run version ts (bares ts) es Headers after (2 ^ 20) (2 ^ 22) (2 ^ 20 - length es) (2 ^ 22 - ops_given es) (codes "end\n") logs
+    w spell whole known refl m
     (rest_of (length es) (2 ^ 20) room) (rest_of (ops_given es) (2 ^ 22) space)
     (λ later i. end_gives version later ts after (2 ^ 20 - length es) (2 ^ 22 - ops_given es) i m (none_orphaned hs ts q.0)))) in
     starts version (flat_map (λ t. header_text t.header) ts ++ tail) logs
-    (let Q : List ℕ → Type 0 = λ bytes. Gives (at_headers version [] (RootAt 0)) (bytes ++ tail) logs in subst Q (sym (headers_text ts)) gives) 1
+    (let Q : List ℕ → Type 0 = λ bytes. Gives (at_headers version [] (RootAt 0)) (bytes ++ tail) logs in subst Q (sym (headers_text ts))
+    gives) 1
   where
     from_zero : (i : ℕ) → 0 + i ≡ i
     from_zero i = omega arith

@@ -1,5 +1,6 @@
 -- Numbers that rise, read one by one.
-use Rattle.std.proofs.Common.{◌≡◌, ℕ, ◌<◌, ◌≤◌, Bool, true, false, ◌&&◌, ◌==◌, nat_le, nat_lt, List, [], ◌∷◌, ◌++◌, Option, Some, None, Ok, Err, is_some, if◌then◌else◌, refl, sym, ap, subst, ◌∙◌, append_assoc, option_and_then, arith, inl, inr}
+use Rattle.std.proofs.Common.{◌≡◌, ℕ, ◌<◌, ◌≤◌, Bool, true, false, ◌&&◌, ◌==◌, nat_le, nat_lt, List, [], ◌∷◌, ◌++◌, Option, Some, None, Ok}
+use Rattle.std.proofs.Common.{Err, is_some, if◌then◌else◌, refl, sym, ap, subst, ◌∙◌, append_assoc, option_and_then, arith, inl, inr}
 use Rattle.std.specs.List.{list_all}
 use Rattle.std.specs.Option.{option_map}
 use Rattle.std.specs.Str.{bytes_eq}
@@ -114,21 +115,26 @@ risen_none all = record { whole = with_none (all_numbers all); range = refl; ris
 pub at_left : (seen : List ℕ) (last : ℕ) (left now all : List (List ℕ)) → Risen seen last left all → left ≡ now → Risen seen last now all
 at_left seen last left now all h e = subst (λ words. Risen seen last words all) e h
 
-with_more : (seen : List ℕ) (n : ℕ) (o : Option (List ℕ)) → option_map (λ ns. seen ++ ns) (option_and_then (λ ns. Some (n ∷ ns)) o) ≡ option_map (λ ns. (seen ++ n ∷ []) ++ ns) o
+with_more : (seen : List ℕ) (n : ℕ) (o : Option (List ℕ))
+    → option_map (λ ns. seen ++ ns) (option_and_then (λ ns. Some (n ∷ ns)) o) ≡ option_map (λ ns. (seen ++ n ∷ []) ++ ns) o
 with_more seen n None = refl
 with_more seen n (Some ns) = ap Some (sym (append_assoc seen (n ∷ []) ns))
 
-pub risen_more : (seen : List ℕ) (last n : ℕ) (w : List ℕ) (ws all : List (List ℕ)) → Risen seen last (w ∷ ws) all → number w ≡ Some n → last < n → n ≤ 64 → Risen (seen ++ n ∷ []) n ws all
+pub risen_more : (seen : List ℕ) (last n : ℕ) (w : List ℕ) (ws all : List (List ℕ)) → Risen seen last (w ∷ ws) all → number w ≡ Some n
+    → last < n → n ≤ 64 → Risen (seen ++ n ∷ []) n ws all
 risen_more seen last n w ws all h is above low =
     let last_is : last_of 0 seen ≡ last = h.last_is in
     record {
       whole = h.whole ∙ rw is (with_more seen n (all_numbers ws));
-      range = list_all-append (λ n. nat_le 1 n && nat_le n 64) seen (n ∷ []) ∙ rw h.range (let one : nat_le 1 n ≡ true = le-leb 1 n (omega arith) in let most : nat_le n 64 ≡ true = le-leb n 64 low in rw (one, most) refl);
+      range = list_all-append (λ n. nat_le 1 n && nat_le n 64) seen (n ∷ [])
+          ∙ rw h.range (let one : nat_le 1 n ≡ true = le-leb 1 n (omega arith) in let most : nat_le n 64 ≡ true = le-leb n 64 low in rw
+          (one, most) refl);
       rise = rises-append 0 seen (n ∷ []) ∙ rw (h.rise, last_is, lt-ltb last n above) refl;
       last_is = last-of-push 0 seen n;
     }
 
-pub inserted : (seen : List ℕ) (last n : ℕ) (left all : List (List ℕ)) → Risen seen last left all → last < n → insert_number n seen ≡ seen ++ n ∷ []
+pub inserted : (seen : List ℕ) (last n : ℕ) (left all : List (List ℕ)) → Risen seen last left all → last < n
+    → insert_number n seen ≡ seen ++ n ∷ []
 inserted seen last n left all h above = let last_is : last_of 0 seen ≡ last = h.last_is in insert-last 0 n seen h.rise (omega arith)
 
 -- ---- the answers
@@ -145,7 +151,8 @@ is_form : (all : List (List ℕ)) → all_numbers all ≡ None → subs_in all �
 unfolding subs_in
 is_form all h = rw (numbers_none all h) refl
 
-pub risen_form : (seen : List ℕ) (last : ℕ) (w : List ℕ) (ws all : List (List ℕ)) → Risen seen last (w ∷ ws) all → number w ≡ None → subs_in all ≡ Err Form
+pub risen_form : (seen : List ℕ) (last : ℕ) (w : List ℕ) (ws all : List (List ℕ)) → Risen seen last (w ∷ ws) all → number w ≡ None
+    → subs_in all ≡ Err Form
 risen_form seen last w ws all h is = is_form all (h.whole ∙ rw is refl)
 
 nonempty : (seen : List ℕ) (n : ℕ) (ns : List ℕ) → (first : ℕ) × (rest : List ℕ) × (seen ++ n ∷ ns ≡ first ∷ rest)
@@ -153,10 +160,12 @@ nonempty [] n ns = (n, ns, refl)
 nonempty (x ∷ xs) n ns = (x, xs ++ n ∷ ns, refl)
 
 -- a number that isn't above those before, or is too large
-bad_number : (seen : List ℕ) (last n : ℕ) (ns : List ℕ) → last_of 0 seen ≡ last → (last < n → n ≤ 64 → ⊥) → are_subs (seen ++ n ∷ ns) ≡ true → ⊥
+bad_number : (seen : List ℕ) (last n : ℕ) (ns : List ℕ) → last_of 0 seen ≡ last → (last < n → n ≤ 64 → ⊥)
+    → are_subs (seen ++ n ∷ ns) ≡ true → ⊥
 bad_number seen last n ns last_is bad fit =
     let p = subs-parts (seen ++ n ∷ ns) fit in
-    let range = and_parts (in_range seen) (in_range (n ∷ ns)) (sym (list_all-append (λ n. nat_le 1 n && nat_le n 64) seen (n ∷ ns)) ∙ p.0) in
+    let range = and_parts (in_range seen) (in_range (n ∷ ns)) (sym (list_all-append (λ n. nat_le 1 n && nat_le n 64) seen (n ∷ ns))
+    ∙ p.0) in
     let here = and_parts (nat_le 1 n && nat_le n 64) (in_range ns) range.1 in
     let most = and_parts (nat_le 1 n) (nat_le n 64) here.0 in
     let rise = and_parts (rises 0 seen) (rises (last_of 0 seen) (n ∷ ns)) (sym (rises-append 0 seen (n ∷ ns)) ∙ p.1) in
@@ -164,7 +173,8 @@ bad_number seen last n ns last_is bad fit =
     let higher : last_of 0 seen < n = ltb-true _ n above.0 in
     bad (omega arith) (leb-true n 64 most.1)
 
-is_number : (all : List (List ℕ)) (seen : List ℕ) (n : ℕ) (ns : List ℕ) → all_numbers all ≡ Some (seen ++ n ∷ ns) → are_subs (seen ++ n ∷ ns) ≡ false → subs_in all ≡ Err Number
+is_number : (all : List (List ℕ)) (seen : List ℕ) (n : ℕ) (ns : List ℕ) → all_numbers all ≡ Some (seen ++ n ∷ ns)
+    → are_subs (seen ++ n ∷ ns) ≡ false → subs_in all ≡ Err Number
 unfolding subs_in
 is_number all seen n ns e bad =
     let parts = nonempty seen n ns in
@@ -175,18 +185,21 @@ not_so : (b : Bool) → (b ≡ true → ⊥) → b ≡ false
 not_so true h = absurd (h refl)
 not_so false h = refl
 
-pub risen_misplaced : (seen : List ℕ) (last n : ℕ) (w : List ℕ) (ws all : List (List ℕ)) → Risen seen last (w ∷ ws) all → number w ≡ Some n → (last < n → n ≤ 64 → ⊥) → subs_in all ≡ Err (if is_some (all_numbers ws) then Number else Form)
+pub risen_misplaced : (seen : List ℕ) (last n : ℕ) (w : List ℕ) (ws all : List (List ℕ)) → Risen seen last (w ∷ ws) all → number w ≡ Some n
+    → (last < n → n ≤ 64 → ⊥) → subs_in all ≡ Err (if is_some (all_numbers ws) then Number else Form)
 risen_misplaced seen last n w ws all h is bad = by (all_numbers ws) refl
   where
     by : (o : Option (List ℕ)) → all_numbers ws ≡ o → subs_in all ≡ Err (if is_some (all_numbers ws) then Number else Form)
     by None left = rw left (is_form all (h.whole ∙ rw (is, left) refl))
-    by (Some ns) left = rw left (is_number all seen n ns (h.whole ∙ rw (is, left) refl) (not_so _ (bad_number seen last n ns h.last_is bad)))
+    by (Some ns) left =
+        rw left (is_number all seen n ns (h.whole ∙ rw (is, left) refl) (not_so _ (bad_number seen last n ns h.last_is bad)))
 
 no_numbers : (all : List (List ℕ)) → all_numbers all ≡ Some [] → numbers_of all ≡ None
 no_numbers [] h = refl
 no_numbers (w ∷ ws) h = by (number w) (all_numbers ws) h
   where
-    by : (o : Option ℕ) (p : Option (List ℕ)) → option_and_then (λ n. option_and_then (λ ns. Some (n ∷ ns)) p) o ≡ Some [] → numbers_of (w ∷ ws) ≡ None
+    by : (o : Option ℕ) (p : Option (List ℕ)) → option_and_then (λ n. option_and_then (λ ns. Some (n ∷ ns)) p) o ≡ Some []
+        → numbers_of (w ∷ ws) ≡ None
     by None p e = cc
     by (Some n) None e = cc
     by (Some n) (Some ns) e = cc

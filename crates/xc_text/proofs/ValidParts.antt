@@ -1,5 +1,6 @@
 -- The parts of valid logs, as a text gives them record by record.
-use Rattle.std.proofs.Common.{◌≡◌, ℕ, zero, suc, ◌-◌, ◌<◌, ◌==◌, Bool, true, false, ◌&&◌, not, nat_le, nat_lt, List, [], ◌∷◌, ◌++◌, length, Option, Some, None, is_some, slice_get, slice_set, if◌then◌else◌, refl, sym, ap, ◌∙◌, arith}
+use Rattle.std.proofs.Common.{◌≡◌, ℕ, zero, suc, ◌-◌, ◌<◌, ◌==◌, Bool, true, false, ◌&&◌, not, nat_le, nat_lt, List, [], ◌∷◌, ◌++◌, length}
+use Rattle.std.proofs.Common.{Option, Some, None, is_some, slice_get, slice_set, if◌then◌else◌, refl, sym, ap, ◌∙◌, arith}
 use Rattle.std.proofs.lemmas.Bool.{and_parts, or_parts, not-false}
 use Rattle.std.proofs.lemmas.Bool.Decides.{nat_tests}
 use Rattle.std.specs.List.{list_all, list_any}
@@ -25,7 +26,8 @@ has_ops (Write ops) = nat_le 1 (length ops)
 has_ops (Intent txn sub ops) = nat_le 1 (length ops)
 has_ops _ = true
 
-all_fit : (h : Header) (ops : List Op) → list_all op_is_named ops ≡ true → list_all (λ op. holds h (hash_of op.key)) ops ≡ true → list_all (op_fits h) ops ≡ true
+all_fit : (h : Header) (ops : List Op) → list_all op_is_named ops ≡ true → list_all (λ op. holds h (hash_of op.key)) ops ≡ true
+    → list_all (op_fits h) ops ≡ true
 all_fit h [] named held = refl
 all_fit h (op ∷ ops) named held =
     let n = and_parts (op_is_named op) (list_all op_is_named ops) named in
@@ -33,10 +35,13 @@ all_fit h (op ∷ ops) named held =
     let k = and_parts (is_key op.key) (option_map_or is_value op.value true) n.0 in
     rw (k.0, k.1, m.0) (all_fit h ops n.1 m.1)
 
-ops_ok : (h : Header) (ops : List Op) → nat_le 1 (length ops) ≡ true → nat_lt 64 (length ops) ≡ false → list_all op_is_named ops ≡ true → list_all (λ op. holds h (hash_of op.key)) ops ≡ true → ops_fit h ops ≡ true
-ops_ok h ops some few named held = let few_enough : nat_le (length ops) 64 ≡ true = grind (arith, nat_tests) in rw (some, few_enough) (all_fit h ops named held)
+ops_ok : (h : Header) (ops : List Op) → nat_le 1 (length ops) ≡ true → nat_lt 64 (length ops) ≡ false → list_all op_is_named ops ≡ true
+    → list_all (λ op. holds h (hash_of op.key)) ops ≡ true → ops_fit h ops ≡ true
+ops_ok h ops some few named held =
+    let few_enough : nat_le (length ops) 64 ≡ true = grind (arith, nat_tests) in rw (some, few_enough) (all_fit h ops named held)
 
-pub kind_ok : (hs : List Header) (h : Header) (k : Kind) → has_ops k ≡ true → nat_lt 64 (ops_in k) ≡ false → kind_numbers_fit k ≡ true → kind_names_fit k ≡ true → in_range hs h k ≡ true → kind_fits h (children hs h.id) k ≡ true
+pub kind_ok : (hs : List Header) (h : Header) (k : Kind) → has_ops k ≡ true → nat_lt 64 (ops_in k) ≡ false → kind_numbers_fit k ≡ true
+    → kind_names_fit k ≡ true → in_range hs h k ≡ true → kind_fits h (children hs h.id) k ≡ true
 kind_ok hs h (Write ops) some few numbers names range = ops_ok h ops some few names range
 kind_ok hs h (Intent txn sub ops) some few numbers names range =
     let p = and_parts (is_txn txn) (nat_le sub 64) numbers in rw (p.0, p.1) (ops_ok h ops some few names range)
@@ -63,12 +68,14 @@ last_is (r ∷ []) = refl
 last_is (r ∷ (x ∷ xs)) =
     let e : length (r ∷ x ∷ xs) - 1 ≡ suc (length xs) = omega arith in
     let f : length xs ≡ length (x ∷ xs) - 1 = omega arith in
-    ap (λ i. option_map_or (λ q. is_split q.kind) (slice_get (r ∷ x ∷ xs) i) false) e ∙ ap (λ i. option_map_or (λ q. is_split q.kind) (slice_get (x ∷ xs) i) false) f ∙ last_is (x ∷ xs)
+    ap (λ i. option_map_or (λ q. is_split q.kind) (slice_get (r ∷ x ∷ xs) i) false) e
+    ∙ ap (λ i. option_map_or (λ q. is_split q.kind) (slice_get (x ∷ xs) i) false) f ∙ last_is (x ∷ xs)
 
 pub split_off_is : (t : Tablet) → is_split_off t ≡ ends_split t.records
 split_off_is t = last_is t.records
 
-open_cases : (r : Record) (rs : List Record) → open_fit (r ∷ rs) ≡ true → (b : Bool) → is_split r.kind ≡ b → (elim b as (λ c. Type 0) [ true ↦ rs ≡ [] | false ↦ open_fit rs ≡ true ])
+open_cases : (r : Record) (rs : List Record) → open_fit (r ∷ rs) ≡ true → (b : Bool) → is_split r.kind ≡ b
+    → (elim b as (λ c. Type 0) [ true ↦ rs ≡ [] | false ↦ open_fit rs ≡ true ])
 open_cases r [] h true is = refl
 open_cases r (x ∷ xs) h true is = let e : (length (x ∷ xs) == 0) ≡ true = rw is at h in absurd (grind (arith, nat_tests))
 open_cases r rs h false is = rw is at h
@@ -78,7 +85,8 @@ open_push [] r h last = elim (is_split r.kind) as (λ b. (if b then true else tr
 open_push (q ∷ []) r h last = rw last (elim (is_split r.kind) as (λ b. (if b then true else true) ≡ true) [ true ↦ refl | false ↦ refl ])
 open_push (q ∷ (x ∷ xs)) r h last = by (λ e. open_push (x ∷ xs) r e last) (is_split q.kind) refl
   where
-    by : (open_fit (x ∷ xs) ≡ true → open_fit ((x ∷ xs) ++ r ∷ []) ≡ true) → (b : Bool) → is_split q.kind ≡ b → open_fit ((q ∷ x ∷ xs) ++ r ∷ []) ≡ true
+    by : (open_fit (x ∷ xs) ≡ true → open_fit ((x ∷ xs) ++ r ∷ []) ≡ true) → (b : Bool) → is_split q.kind ≡ b
+        → open_fit ((q ∷ x ∷ xs) ++ r ∷ []) ≡ true
     by more true is = let e = open_cases q (x ∷ xs) h true is in cc
     by more false is = let e = open_cases q (x ∷ xs) h false is in rw is (more e)
 
@@ -106,7 +114,8 @@ split_last (r ∷ (x ∷ xs)) h last = by (λ e. split_last (x ∷ xs) e last) (
     by more true is = let e = open_cases r (x ∷ xs) h true is in cc
     by more false is = let e = open_cases r (x ∷ xs) h false is in rw is (more e)
 
-ends_ok : (h : Header) (pair : Option (Header × Header)) (rs : List Record) → list_all (record_fits h pair) rs ≡ true → open_fit rs ≡ true → (is_some pair && not (ends_split rs)) ≡ false → ends_fit (is_some pair) rs ≡ true
+ends_ok : (h : Header) (pair : Option (Header × Header)) (rs : List Record) → list_all (record_fits h pair) rs ≡ true → open_fit rs ≡ true
+    → (is_some pair && not (ends_split rs)) ≡ false → ends_fit (is_some pair) rs ≡ true
 ends_ok h None rs all open_ no_orphan = no_splits h rs all
 ends_ok h (Some p) rs all open_ no_orphan = split_last rs open_ (not-false (ends_split rs) no_orphan)
 
@@ -117,10 +126,12 @@ grows hs t = list_all (record_fits t.header (children hs t.header.id)) t.records
 pub tablet_ok : (hs : List Header) (t : Tablet) → grows hs t ≡ true → is_orphaned hs t ≡ false → tablet_fits hs t ≡ true
 tablet_ok hs t g o =
     let p = and_parts (list_all (record_fits t.header (children hs t.header.id)) t.records) (open_fit t.records) g in
-    let n : (is_some (children hs t.header.id) && not (ends_split t.records)) ≡ false = ap (λ b. is_some (children hs t.header.id) && not b) (sym (split_off_is t)) ∙ o in
+    let n : (is_some (children hs t.header.id) && not (ends_split t.records)) ≡ false =
+    ap (λ b. is_some (children hs t.header.id) && not b) (sym (split_off_is t)) ∙ o in
     rw p.0 (ends_ok t.header (children hs t.header.id) t.records p.0 p.1 n)
 
-pub all_tablets_ok : (hs : List Header) (ts : List Tablet) → list_all (grows hs) ts ≡ true → list_any (is_orphaned hs) ts ≡ false → list_all (tablet_fits hs) ts ≡ true
+pub all_tablets_ok : (hs : List Header) (ts : List Tablet) → list_all (grows hs) ts ≡ true → list_any (is_orphaned hs) ts ≡ false
+    → list_all (tablet_fits hs) ts ≡ true
 all_tablets_ok hs [] g o = refl
 all_tablets_ok hs (t ∷ ts) g o =
     let p = and_parts (grows hs t) (list_all (grows hs) ts) g in
@@ -133,7 +144,8 @@ abbrev pub is_bare : List Record → Bool
 is_bare [] = true
 is_bare (r ∷ rs) = false
 
-bare_grows : (h : Header) (pair : Option (Header × Header)) (rs : List Record) → is_bare rs ≡ true → (list_all (record_fits h pair) rs && open_fit rs) ≡ true
+bare_grows : (h : Header) (pair : Option (Header × Header)) (rs : List Record) → is_bare rs ≡ true
+    → (list_all (record_fits h pair) rs && open_fit rs) ≡ true
 bare_grows h pair [] b = refl
 bare_grows h pair (r ∷ rs) b = cc
 

@@ -1,5 +1,6 @@
 -- Worked texts, computed.
-use Rattle.std.proofs.Common.{◌≡◌, ℕ, Bool, true, false, List, [], ◌∷◌, ◌++◌, Option, Some, None, Result, Ok, Err, map, refl, codes, replicate}
+use Rattle.std.proofs.Common.{◌≡◌, ℕ, Bool, true, false, List, [], ◌∷◌, ◌++◌, Option, Some, None, Result, Ok, Err, map, refl, codes}
+use Rattle.std.proofs.Common.{replicate}
 use Rattle.xc_record.specs.Hash.{hash_of}
 use Rattle.xc_record.specs.declared.record.Logs.{Logs}
 use Rattle.xc_text.specs.declared.kind.LogKind.{LogKind}
@@ -91,7 +92,8 @@ after_split : read (split (split_lines ++ codes "0 15 abort 9" ∷ codes "end" �
 unfolding read
 after_split = refl
 
-headers_too_short : read (text (codes "xclog 1" ∷ codes "tablet 0 0 65534 root" ∷ codes "0 10 abort 3" ∷ codes "end" ∷ [])) ≡ bad 3 kind.Header
+headers_too_short : read (text (codes "xclog 1" ∷ codes "tablet 0 0 65534 root" ∷ codes "0 10 abort 3" ∷ codes "end" ∷ [])) ≡ bad 3
+    kind.Header
 unfolding read
 headers_too_short = refl
 
@@ -150,11 +152,20 @@ table =
     (one_head ++ (codes "end\nx"), Some (record { line = 4; kind = kind.Form })) ∷
     (one_head ++ (codes "xclog 1\n"), Some (record { line = 3; kind = kind.Form })) ∷
     (one_head ++ ([]), Some (record { line = 3; kind = kind.NoEnd })) ∷
-    (one_head ++ (codes "end" ++ (13 ∷ []) ++ codes "\n"), Some (record { line = 3; kind = kind.Form })) ∷
-    (one_head ++ (codes "0 4611686018427387903 write +aaaaaaaaaaaaaaaaaaaaaaaaaaaaaaaa=vvvvvvvvvvvvvvvvvvvvvvvvvvvvvvvvvvvvvvvvvvvvvvvvvvvvvvvvvvvvvvvv\nend\n"), None) ∷
-    (one_head ++ (codes "0 4611686018427387904 write +aaaaaaaaaaaaaaaaaaaaaaaaaaaaaaaaa=\n"), Some (record { line = 3; kind = kind.Number })) ∷
-    (one_head ++ (codes "0 4611686018427387903 write +aaaaaaaaaaaaaaaaaaaaaaaaaaaaaaaaa=\n"), Some (record { line = 3; kind = kind.Key })) ∷
-    (one_head ++ (codes "0 1 write +a=vvvvvvvvvvvvvvvvvvvvvvvvvvvvvvvvvvvvvvvvvvvvvvvvvvvvvvvvvvvvvvvvv\n"), Some (record { line = 3; kind = kind.Key })) ∷
+    (one_head ++ (codes "end" ++ (13 ∷ []) ++ codes "\n"), Some (record { line = 3; kind = kind.Form })) ∷ (
+      one_head ++ (codes
+          "0 4611686018427387903 write +aaaaaaaaaaaaaaaaaaaaaaaaaaaaaaaa=vvvvvvvvvvvvvvvvvvvvvvvvvvvvvvvvvvvvvvvvvvvvvvvvvvvvvvvvvvvvvvvv\nend\n"),
+      None,
+    ) ∷ (
+      one_head ++ (codes "0 4611686018427387904 write +aaaaaaaaaaaaaaaaaaaaaaaaaaaaaaaaa=\n"),
+      Some
+          (record { line = 3; kind = kind.Number }),
+    ) ∷
+    (one_head ++ (codes "0 4611686018427387903 write +aaaaaaaaaaaaaaaaaaaaaaaaaaaaaaaaa=\n"), Some (record { line = 3; kind = kind.Key })) ∷ (
+      one_head ++ (codes "0 1 write +a=vvvvvvvvvvvvvvvvvvvvvvvvvvvvvvvvvvvvvvvvvvvvvvvvvvvvvvvvvvvvvvvvv\n"),
+      Some
+          (record { line = 3; kind = kind.Key }),
+    ) ∷
     (one_head ++ (codes "0 1 write +=1\n"), Some (record { line = 3; kind = kind.Key })) ∷
     (one_head ++ (codes "0 1 write --a +a=\nend\n"), None) ∷
     (one_head ++ (codes "0 1 write +a\n"), Some (record { line = 3; kind = kind.Form })) ∷
@@ -164,10 +175,19 @@ table =
     (one_head ++ (codes "0 1 write -a  -b\n"), Some (record { line = 3; kind = kind.Form })) ∷
     (one_head ++ (codes "0 1 write -a" ++ (13 ∷ []) ++ codes "\n"), Some (record { line = 3; kind = kind.Key })) ∷
     (one_head ++ (codes "0 1 write +a=b=c\n"), Some (record { line = 3; kind = kind.Key })) ∷
-    (one_head ++ (codes "0 1 write +=1 a\n"), Some (record { line = 3; kind = kind.Form })) ∷
-    (one_head ++ (codes "0 1 write -a -a -a -a -a -a -a -a -a -a -a -a -a -a -a -a -a -a -a -a -a -a -a -a -a -a -a -a -a -a -a -a -a -a -a -a -a -a -a -a -a -a -a -a -a -a -a -a -a -a -a -a -a -a -a -a -a -a -a -a -a -a -a -a\nend\n"), None) ∷
-    (one_head ++ (codes "0 1 write -a -a -a -a -a -a -a -a -a -a -a -a -a -a -a -a -a -a -a -a -a -a -a -a -a -a -a -a -a -a -a -a -a -a -a -a -a -a -a -a -a -a -a -a -a -a -a -a -a -a -a -a -a -a -a -a -a -a -a -a -a -a -a -a -a\nend\n"), Some (record { line = 3; kind = kind.Limit })) ∷
-    (one_head ++ (codes "0 1 intent 1 -a -a -a -a -a -a -a -a -a -a -a -a -a -a -a -a -a -a -a -a -a -a -a -a -a -a -a -a -a -a -a -a -a -a -a -a -a -a -a -a -a -a -a -a -a -a -a -a -a -a -a -a -a -a -a -a -a -a -a -a -a -a -a -a -a a\n"), Some (record { line = 3; kind = kind.Form })) ∷
+    (one_head ++ (codes "0 1 write +=1 a\n"), Some (record { line = 3; kind = kind.Form })) ∷ (
+      one_head ++ (codes
+          "0 1 write -a -a -a -a -a -a -a -a -a -a -a -a -a -a -a -a -a -a -a -a -a -a -a -a -a -a -a -a -a -a -a -a -a -a -a -a -a -a -a -a -a -a -a -a -a -a -a -a -a -a -a -a -a -a -a -a -a -a -a -a -a -a -a -a\nend\n"),
+      None,
+    ) ∷ (
+      one_head ++ (codes
+          "0 1 write -a -a -a -a -a -a -a -a -a -a -a -a -a -a -a -a -a -a -a -a -a -a -a -a -a -a -a -a -a -a -a -a -a -a -a -a -a -a -a -a -a -a -a -a -a -a -a -a -a -a -a -a -a -a -a -a -a -a -a -a -a -a -a -a -a\nend\n"),
+      Some (record { line = 3; kind = kind.Limit }),
+    ) ∷ (
+      one_head ++ (codes
+          "0 1 intent 1 -a -a -a -a -a -a -a -a -a -a -a -a -a -a -a -a -a -a -a -a -a -a -a -a -a -a -a -a -a -a -a -a -a -a -a -a -a -a -a -a -a -a -a -a -a -a -a -a -a -a -a -a -a -a -a -a -a -a -a -a -a -a -a -a -a a\n"),
+      Some (record { line = 3; kind = kind.Form }),
+    ) ∷
     (one_head ++ (codes "0 0 write +=1\n"), Some (record { line = 3; kind = kind.Number })) ∷
     (one_head ++ (codes "0 00 abort 1\n"), Some (record { line = 3; kind = kind.Form })) ∷
     (one_head ++ (codes "0 1 abort 0\n"), Some (record { line = 3; kind = kind.Number })) ∷

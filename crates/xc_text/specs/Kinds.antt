@@ -7,7 +7,8 @@
 --     Answers view result reading      a call answered what the reading gives, seen by view, or that memory ran out
 use Rattle.std.specs.Prelude.{◌≡◌, ℕ, Bool, true, false, List, [], ◌∷◌, Option, Some, None, Result, Ok, Err, if◌then◌else◌, codes}
 use Rattle.xc_text.specs.declared.kind.LogKind.{LogKind}
-use Rattle.xc_text.specs.declared.kind.LogKind.TheVariants.{Form, Number, Key, Header, UnknownTablet, Range, AfterSplit, Limit, Orphan, NoEnd}
+use Rattle.xc_text.specs.declared.kind.LogKind.TheVariants.{Form, Number, Key, Header, UnknownTablet, Range, AfterSplit, Limit, Orphan}
+use Rattle.xc_text.specs.declared.kind.LogKind.TheVariants.{NoEnd}
 use Rattle.xc_text.specs.declared.kind.Fail.{Fail}
 use Rattle.xc_text.specs.declared.kind.Fail.TheVariants as fail
 

@@ -1,10 +1,12 @@
 -- The lines of a log text, by their words. A word is a list of bytes.
 --     name_of version word      the bytes of a key or of a value, whose word this is in a text of the version
---     line_of version words      the line that the words spell, with its numbers and its names as they stand there; None where they have none of the forms
+--     line_of version words      the line that the words spell, with its numbers and its names as they stand there; None where they have
+--         none of the forms
 --     numbers_fit line      each number is within the range of its place
 --     names_fit line      each key and each value is well formed
 -- `judge` of a line or of a part of one, as in kind_in and line_in, is what single functions answer; what a text spells doesn't rest on it.
-use Rattle.std.specs.Prelude.{ℕ, ◌-◌, ◌^◌, min, Bool, true, false, ◌&&◌, ◌==◌, nat_lt, nat_le, List, [], ◌∷◌, ◌++◌, replicate, Option, Some, None, is_some, Result, if◌then◌else◌, option_and_then, option_map, codes}
+use Rattle.std.specs.Prelude.{ℕ, ◌-◌, ◌^◌, min, Bool, true, false, ◌&&◌, ◌==◌, nat_lt, nat_le, List, [], ◌∷◌, ◌++◌, replicate, Option, Some}
+use Rattle.std.specs.Prelude.{None, is_some, Result, if◌then◌else◌, option_and_then, option_map, codes}
 use Rattle.std.specs.List.{list_all, list_any, before_first, after_first}
 use Rattle.std.specs.Option.{option_map_or}
 use Rattle.std.specs.Str.{bytes_eq}
@@ -59,7 +61,8 @@ at_end words x = if is_over words then Some x else None
 -- The key and the value as they are written. `key=value`: the first `=` ends the key
 abbrev pub set_of : List ℕ → Option Op
 set_of rest =
-    if list_any (λ b. b == 61) rest then Some (record { key = before_first (λ b. b == 61) rest; value = Some (after_first (λ b. b == 61) rest) }) else None
+    if list_any (λ b. b == 61) rest then Some
+    (record { key = before_first (λ b. b == 61) rest; value = Some (after_first (λ b. b == 61) rest) }) else None
 
 -- `+key=value` sets a key, `-key` removes it
 abbrev pub op_written : List ℕ → Option Op
@@ -237,7 +240,8 @@ line_of version [] = None
 line_of version (word ∷ words) = line_by version word words
 
 abbrev pub header_numbers_fit : Header → Bool
-header_numbers_fit h = nat_lt h.id 64 && (nat_lt h.lo 65536 && (nat_lt h.hi 65536 && option_map_or (λ parent. nat_lt parent 64) h.parent true))
+header_numbers_fit h =
+    nat_lt h.id 64 && (nat_lt h.lo 65536 && (nat_lt h.hi 65536 && option_map_or (λ parent. nat_lt parent 64) h.parent true))
 
 abbrev pub numbers_fit : LogLine → Bool
 numbers_fit (line.First version) = true

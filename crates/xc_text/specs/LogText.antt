@@ -4,7 +4,8 @@
 --     kinds reading line      the rules for a line after those before, in their order: where a test is true, the line is bad for this kind
 --     step reading bytes      what the lines give with one more, or why that one is bad
 -- placed, starting, between and at_line are what single functions answer, each a part of step; what a text spells doesn't rest on them.
-use Rattle.std.specs.Prelude.{◌≡◌, ℕ, ◌+◌, ◌-◌, ◌^◌, Bool, true, false, ◌&&◌, ◌||◌, ◌==◌, nat_lt, nat_le, not, List, [], ◌∷◌, ◌++◌, length, Option, Some, None, Result, Ok, Err, if◌then◌else◌, slice_get, is_some}
+use Rattle.std.specs.Prelude.{◌≡◌, ℕ, ◌+◌, ◌-◌, ◌^◌, Bool, true, false, ◌&&◌, ◌||◌, ◌==◌, nat_lt, nat_le, not, List, [], ◌∷◌, ◌++◌, length}
+use Rattle.std.specs.Prelude.{Option, Some, None, Result, Ok, Err, if◌then◌else◌, slice_get, is_some}
 use Rattle.std.specs.List.{list_all, list_any}
 use Rattle.std.specs.Option.{option_map_or}
 use Rattle.xc_base.specs.Words.{split_on}
@@ -80,7 +81,8 @@ in_range headers h (Split place left right) = split_fits (children headers h.id)
 in_range headers h _ = true
 
 abbrev pub is_out_of_range : Reading → LogLine → Bool
-is_out_of_range s (line.Entry id r) = option_map_or (λ t. not (in_range (headers_of s.tablets) t.header r.kind)) (slice_get s.tablets id) false
+is_out_of_range s (line.Entry id r) =
+    option_map_or (λ t. not (in_range (headers_of s.tablets) t.header r.kind)) (slice_get s.tablets id) false
 is_out_of_range s _ = false
 
 -- the last record is a split; no other one is, since none is taken after a split

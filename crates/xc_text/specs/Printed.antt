@@ -1,10 +1,12 @@
 -- The text of logs.
 --     name_word version name      the word of a key or of a value: in version 1 its bytes, which are to be plain
 --     spelled version name      that word is the name's
---     text_of version logs      the first line, the headers by number, the records of tablet 0, then those of tablet 1 and so on, and the last line
+--     text_of version logs      the first line, the headers by number, the records of tablet 0, then those of tablet 1 and so on, and the
+--         last line
 --     text2_of logs      the same of version 2
 --     line_text first words      a line: its words, each but the first behind a space, and the line's end
-use Rattle.std.specs.Prelude.{ℕ, Bool, true, ◌&&◌, ◌==◌, List, [], ◌∷◌, ◌++◌, map, flat_map, Option, Some, None, option_map, if◌then◌else◌, codes, decimal}
+use Rattle.std.specs.Prelude.{ℕ, Bool, true, ◌&&◌, ◌==◌, List, [], ◌∷◌, ◌++◌, map, flat_map, Option, Some, None, option_map, if◌then◌else◌}
+use Rattle.std.specs.Prelude.{codes, decimal}
 use Rattle.std.specs.List.{list_all}
 use Rattle.std.specs.Option.{option_map_or}
 use Rattle.xc_base.specs.Names.{is_plain}
@@ -84,7 +86,9 @@ first_line One = codes "xclog 1\n"
 first_line Two = codes "xclog 2\n"
 
 unfoldable pub text_of : Version → Logs → List ℕ
-text_of version logs = first_line version ++ (flat_map (λ t. header_text t.header) logs.tablets ++ (flat_map (records_text version) logs.tablets ++ codes "end\n"))
+text_of version logs =
+    first_line version ++
+    (flat_map (λ t. header_text t.header) logs.tablets ++ (flat_map (records_text version) logs.tablets ++ codes "end\n"))
 
 abbrev pub text2_of : Logs → List ℕ
 text2_of logs = text_of Two logs

@@ -1,7 +1,8 @@
 -- A log text that spells logs, said without reading it, and the laws that join this to what is read.
 --     Entry      a record and the number of its tablet: a line of the text
 --     given id entries      the records among the entries that are of the tablet of this number, in their order
---     Spells text logs      the text is the lines of these valid logs; lines of different tablets may be mixed, and each tablet's own come in their order
+--     Spells text logs      the text is the lines of these valid logs; lines of different tablets may be mixed, and each tablet's own come
+--         in their order
 use Rattle.std.specs.Prelude.{◌≡◌, ℕ, true, ◌==◌, nat_lt, List, [], ◌∷◌, ◌++◌, length, flat_map, Some, Ok, if◌then◌else◌, slice_get, codes}
 use Rattle.std.specs.List.{list_all}
 use Rattle.xc_record.specs.Valid.{is_valid}
@@ -28,7 +29,8 @@ pub record Spells (text : List ℕ) (logs : Logs) : Type 0 where
   pub version : Version
   pub entries : List Entry
   -- the first line, the headers by number, the entries and the last line
-  pub lines : text ≡ first_line version ++ (flat_map (λ t. header_text t.header) logs.tablets ++ (flat_map (entry_text version) entries ++ codes "end\n"))
+  pub lines : text ≡ first_line version ++
+      (flat_map (λ t. header_text t.header) logs.tablets ++ (flat_map (entry_text version) entries ++ codes "end\n"))
   -- in version 1 all keys and values are plain
   pub spelled : list_all (λ entry. kind_spelled version entry.item.kind) entries ≡ true
   -- each entry is of a tablet of the logs
@@ -53,4 +55,5 @@ ReadIsSpelled = (text : List ℕ) (logs : Logs) → logs_of text ≡ Ok logs →
 -- What is printed of valid logs spells them: in version 2 always, so each valid logs are spelled by some text, and in version 1 where
 -- all keys and values are plain.
 abbrev pub PrintedIsSpelled : Type 0
-PrintedIsSpelled = (version : Version) (logs : Logs) → is_valid logs ≡ true → logs_spelled version logs ≡ true → Spells (text_of version logs) logs
+PrintedIsSpelled = (version : Version) (logs : Logs) → is_valid logs ≡ true → logs_spelled version logs ≡ true
+    → Spells (text_of version logs) logs

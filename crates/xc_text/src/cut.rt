@@ -1,5 +1,6 @@
 // Bytes that are cut at a separator.
-ghost use Rattle.std.specs.Prelude.{◌≡◌, ◌<◌, ◌==◌, [], ◌∷◌, length, is_some, IfSome, MatchOption, MatchResult, count_by, take, slice_index, ◌+◌, ◌^◌, ◌≤◌, Some, None, true, false};
+ghost use Rattle.std.specs.Prelude.{◌≡◌, ◌<◌, ◌==◌, [], ◌∷◌, length, is_some, IfSome, MatchOption, MatchResult};
+ghost use Rattle.std.specs.Prelude.{count_by, take, slice_index, ◌+◌, ◌^◌, ◌≤◌, Some, None, true, false};
 ghost use Rattle.std.specs.List.{position_or_len, before_first, after_first, list_any};
 ghost use Rattle.std.specs.Option.{option_map_or};
 ghost use Rattle.xc_base.specs.Words.{split_on};
@@ -30,7 +31,8 @@ fn first_place(bytes: &[u8], separator: u8) -> usize
 // What stands before the first separator, and what stands after it where there is one.
 #[inline(always)]
 pub(crate) fn cut(bytes: &[u8], separator: u8) -> (&[u8], Option<&[u8]>)
-    ensures pieces { split_on separator bytes.now ≡ result.0.now ∷ option_map_or (λ rest. split_on separator rest.now) result.1 [] }
+    ensures pieces { split_on separator bytes.now
+        ≡ result.0.now ∷ option_map_or (λ rest. split_on separator rest.now) result.1 [] }
     ensures found { is_some result.1 ≡ list_any (λ b. b == separator) bytes.now }
     ensures before { result.0.now ≡ before_first (λ b. b == separator) bytes.now }
     ensures after { IfSome result.1 (λ rest. rest.now ≡ after_first (λ b. b == separator) bytes.now) }
@@ -93,7 +95,8 @@ impl<'a> Words<'a> {
     // The number that the next word spells.
     #[inline]
     pub(crate) fn number(&mut self) -> Result<u64, Fail>
-        ensures { MatchResult result (λ n. first_number self.old ≡ Some (n, self.new)) (λ e. (e ≡ Bad Form) × (first_number self.old ≡ None)) }
+        ensures { MatchResult result (λ n. first_number self.old ≡ Some (n, self.new)) (λ e. (e ≡ Bad Form)
+            × (first_number self.old ≡ None)) }
     {
         let Some(rest) = self.rest else {
             return Err(Fail::Bad(LogKind::Form));
@@ -110,7 +113,8 @@ impl<'a> Words<'a> {
     // The number of the subtransaction that the next two words name, or 0 where the next word isn't `sub`.
     #[inline]
     pub(crate) fn sub(&mut self) -> Result<u64, Fail>
-        ensures { MatchResult result (λ n. sub_of self.old ≡ Some (n, self.new)) (λ e. (e ≡ Bad Form) × (sub_of self.old ≡ None)) }
+        ensures { MatchResult result (λ n. sub_of self.old ≡ Some (n, self.new)) (λ e. (e ≡ Bad Form)
+            × (sub_of self.old ≡ None)) }
     {
         let Some(rest) = self.rest else {
             return Ok(0);
@@ -139,7 +143,8 @@ impl<'a> Words<'a> {
     }
 }
 
-// The digits that bytes begin with, but for those behind the first 19: the number that they spell, and how many they are.
+// The digits that bytes begin with, but for those behind the first 19: the number that they spell, and how many they
+// are.
 #[inline(always)]
 fn leading_digits(bytes: &[u8]) -> (u64, usize)
     ensures within { result.1 ≤ length bytes.now }
@@ -169,7 +174,8 @@ fn is_plain(bytes: &[u8], len: usize) -> bool
 // leading zero, or is longer than 19 digits.
 #[inline(always)]
 fn short_number(bytes: &[u8]) -> Option<(u64, Option<&[u8]>)>
-    ensures { IfSome result (λ r. first_number (split_on 32 bytes.now) ≡ Some (r.0, option_map_or (λ rest. split_on 32 rest.now) r.1 [])) }
+    ensures { IfSome result (λ r. first_number (split_on 32 bytes.now)
+        ≡ Some (r.0, option_map_or (λ rest. split_on 32 rest.now) r.1 [])) }
 {
     let (value, len) = leading_digits(bytes);
     if !is_plain(bytes, len) {
@@ -184,7 +190,8 @@ fn short_number(bytes: &[u8]) -> Option<(u64, Option<&[u8]>)>
     Some((value, Some(&bytes[len + 1..])))
 }
 
-// The number that a word spells. One past 64 bits gives the greatest of 64 bits, which is out of the range of every place.
+// The number that a word spells. One past 64 bits gives the greatest of 64 bits, which is out of the range of every
+// place.
 #[tactic(auto, unfolding(crate::specs::Lines::number))]
 pub(crate) fn number(word: &[u8]) -> Result<u64, Fail>
     ensures { MatchResult result (λ n. number word.now ≡ Some n) (λ e. (e ≡ Bad Form) × (number word.now ≡ None)) }

@@ -4,7 +4,8 @@ ghost use Rattle.xc_record.specs.Valid.{is_time};
 ghost use Rattle.std.specs.Option.{option_map_or};
 ghost use Rattle.xc_base.specs.Words.{split_on};
 ghost use Rattle.xc_text.specs.Kinds.{Answers, judge};
-ghost use Rattle.xc_text.specs.Lines.{line_in, header_of, header_numbers_fit, parent_of, version_of, entry_of, number, numbers_fit, names_fit};
+ghost use Rattle.xc_text.specs.Lines.{line_in, header_of, header_numbers_fit, parent_of, version_of, entry_of, number};
+ghost use Rattle.xc_text.specs.Lines.{numbers_fit, names_fit};
 ghost use Rattle.xc_text.specs.declared.kind.LogKind.TheVariants.{Form, Number};
 ghost use Rattle.xc_text.specs.declared.kind.Fail.TheVariants.{Bad};
 
@@ -51,7 +52,8 @@ fn read_version(mut words: Words<'_>) -> Result<LogLine, Fail>
 
 // `root`, or `child` and the parent's number.
 fn read_parent(mut words: Words<'_>) -> Result<Option<u64>, Fail>
-    ensures { MatchResult result (λ parent. parent_of words.entry ≡ Some parent) (λ e. (e ≡ Bad Form) × (parent_of words.entry ≡ None)) }
+    ensures { MatchResult result (λ parent. parent_of words.entry ≡ Some parent) (λ e. (e ≡ Bad Form)
+        × (parent_of words.entry ≡ None)) }
 {
     let Some(word) = words.next() else {
         return Err(Fail::Bad(LogKind::Form));
@@ -69,7 +71,9 @@ fn read_parent(mut words: Words<'_>) -> Result<Option<u64>, Fail>
 }
 
 fn parent_in(parent: Option<u64>) -> Result<Option<u32>, Fail>
-    ensures { MatchResult result (λ id. (id ≡ parent) × (option_map_or (λ p. nat_lt p 64) parent true ≡ true)) (λ e. (e ≡ Bad Number) × (option_map_or (λ p. nat_lt p 64) parent true ≡ false)) }
+    ensures { MatchResult result (λ id. (id ≡ parent)
+        × (option_map_or (λ p. nat_lt p 64) parent true ≡ true)) (λ e. (e ≡ Bad Number)
+        × (option_map_or (λ p. nat_lt p 64) parent true ≡ false)) }
 {
     match parent {
         None => Ok(None),
@@ -122,7 +126,8 @@ fn read_entry(
     }
 }
 
-// The line that the bytes spell in a text of the version, without the byte that ends it. The scratch is for the operations.
+// The line that the bytes spell in a text of the version, without the byte that ends it. The scratch is for the
+// operations.
 #[tactic(auto, unfolding(crate::specs::Lines::line_in, crate::specs::Lines::line_of))]
 #[inline(always)]
 pub(crate) fn read_line(

@@ -17,7 +17,8 @@ use xc_record::{Op, Ops};
 // The key and the value of `key=value`.
 #[inline]
 fn set_parts(rest: &[u8]) -> Option<(&[u8], Option<&[u8]>)>
-    ensures { MatchOption result (set_of rest.now ≡ None) (λ parts. set_of rest.now ≡ Some (record { key = parts.0.now; value = option_copied parts.1 })) }
+    ensures { MatchOption result (set_of rest.now ≡ None) (λ parts. set_of rest.now
+        ≡ Some (record { key = parts.0.now; value = option_copied parts.1 })) }
 {
     match cut(rest, b'=') {
         (key, Some(value)) => Some((key, Some(value))),
@@ -28,7 +29,8 @@ fn set_parts(rest: &[u8]) -> Option<(&[u8], Option<&[u8]>)>
 // The key of an operation and its value, where it sets one.
 #[inline]
 fn parts(word: &[u8]) -> Option<(&[u8], Option<&[u8]>)>
-    ensures { MatchOption result (op_written word.now ≡ None) (λ parts. op_written word.now ≡ Some (record { key = parts.0.now; value = option_copied parts.1 })) }
+    ensures { MatchOption result (op_written word.now ≡ None) (λ parts. op_written word.now
+        ≡ Some (record { key = parts.0.now; value = option_copied parts.1 })) }
 {
     let (sign, rest) = word.split_first()?;
     match *sign {
@@ -41,7 +43,9 @@ fn parts(word: &[u8]) -> Option<(&[u8], Option<&[u8]>)>
 // Whether a key and a value are plain and well formed, so that they are their own words.
 #[inline]
 fn are_plain(key: &[u8], value: Option<&[u8]>) -> bool
-    ensures { result ≡ (op_is_named (record { key = key.now; value = option_copied value.entry }) && op_spelled One (record { key = key.now; value = option_copied value.entry })) }
+    ensures { result
+        ≡ (op_is_named (record { key = key.now; value = option_copied value.entry }) && op_spelled One
+        (record { key = key.now; value = option_copied value.entry })) }
 {
     is_key(key)
         && is_plain(key)
@@ -53,7 +57,8 @@ fn are_plain(key: &[u8], value: Option<&[u8]>) -> bool
 
 // Puts the operation last that the words of any key and value stand for.
 fn put_words(ops: &mut Ops, key: &[u8], value: Option<&[u8]>) -> Result<(), Fail>
-    ensures { Answers (λ _. ops.new) result (with_op Two ops.old (record { key = key.now; value = option_copied value.entry })) }
+    ensures { Answers (λ _. ops.new) result
+        (with_op Two ops.old (record { key = key.now; value = option_copied value.entry })) }
 {
     let Ok(key) = read_key(key) else {
         return Err(Fail::Bad(LogKind::Key));
@@ -72,7 +77,8 @@ fn put_words(ops: &mut Ops, key: &[u8], value: Option<&[u8]>) -> Result<(), Fail
 // Puts the operation last that is written so.
 #[inline]
 fn put_op(version: Version, ops: &mut Ops, key: &[u8], value: Option<&[u8]>) -> Result<(), Fail>
-    ensures { Answers (λ _. ops.new) result (with_op version ops.old (record { key = key.now; value = option_copied value.entry })) }
+    ensures { Answers (λ _. ops.new) result
+        (with_op version ops.old (record { key = key.now; value = option_copied value.entry })) }
 {
     if are_plain(key, value) {
         ops.push_bytes(key, value)?;
@@ -98,7 +104,8 @@ fn all_have_form(mut words: Words<'_>) -> bool
 
 // Why operations are refused of which one isn't well named, and these words are left.
 fn misnamed(words: Words<'_>) -> Fail
-    ensures { result ≡ Bad (if list_all (λ word. is_some (op_written word)) words.entry then LogKind.Key else LogKind.Form) }
+    ensures { result
+        ≡ Bad (if list_all (λ word. is_some (op_written word)) words.entry then LogKind.Key else LogKind.Form) }
 {
     if all_have_form(words) {
         Fail::Bad(LogKind::Key)

@@ -2,7 +2,8 @@
 ghost use Rattle.std.specs.Prelude.{◌≡◌, ◌++◌, ◌∷◌, [], true, IfOk, OnOk, decimal, map, flat_map, codes};
 ghost use Rattle.xc_record.specs.Valid.{is_valid};
 ghost use Rattle.xc_text.specs.LogText.{logs_of};
-ghost use Rattle.xc_text.specs.Printed.{spaced, name_word, op_word, sub_words, without_words, kind_words, record_text, parent_words, header_text, records_text, first_line, text_of, least_version};
+ghost use Rattle.xc_text.specs.Printed.{spaced, name_word, op_word, sub_words, without_words, kind_words, record_text};
+ghost use Rattle.xc_text.specs.Printed.{parent_words, header_text, records_text, first_line, text_of, least_version};
 ghost use Rattle.xc_text.specs.declared.line.Version.TheVariants.{One, Two};
 
 use crate::line::Version;

@@ -9,7 +9,8 @@ use crate::reading::{Reading, Stage};
 use std::alloc::Global;
 use xc_record::{Logs, Ops};
 
-/// The logs that a log text of version 1 or 2 spells. Nothing is looked at but the text itself: the order of the records isn't.
+/// The logs that a log text of version 1 or 2 spells. Nothing is looked at but the text itself: the order of the
+/// records isn't.
 ///
 /// `Bad` comes exactly where the text spells no logs, with its first bad line, counted from 1, and the first kind of
 /// [`LogKind`] for which that line is bad. It takes time and memory in proportion to the text.

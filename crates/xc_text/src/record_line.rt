@@ -3,7 +3,8 @@ ghost use Rattle.std.specs.Prelude.{◌≡◌, ◌<◌, ◌&&◌, true, false, M
 ghost use Rattle.xc_record.specs.Valid.{is_time, is_txn};
 ghost use Rattle.xc_record.specs.declared.record.Kind.TheVariants.{Write};
 ghost use Rattle.xc_text.specs.Kinds.{Answers, judge};
-ghost use Rattle.xc_text.specs.Lines.{kind_in, kind_numbers_fit, kind_names_fit, intent_of, apply_of, abort_of, safe_of, split_of, ops_of};
+ghost use Rattle.xc_text.specs.Lines.{kind_in, kind_numbers_fit, kind_names_fit, intent_of, apply_of, abort_of};
+ghost use Rattle.xc_text.specs.Lines.{safe_of, split_of, ops_of};
 ghost use Rattle.xc_text.specs.declared.kind.LogKind.TheVariants.{Number};
 ghost use Rattle.xc_text.specs.declared.kind.Fail.TheVariants.{Bad};
 
@@ -18,7 +19,8 @@ use xc_time::HybridTime;
 
 #[inline]
 pub(crate) fn time_in(value: u64) -> Result<HybridTime, Fail>
-    ensures { MatchResult result (λ time. (time ≡ value) × (is_time value ≡ true)) (λ e. (e ≡ Bad Number) × (is_time value ≡ false)) }
+    ensures { MatchResult result (λ time. (time ≡ value) × (is_time value ≡ true)) (λ e. (e ≡ Bad Number)
+        × (is_time value ≡ false)) }
 {
     match HybridTime::new(value) {
         Some(time) => Ok(time),
@@ -49,7 +51,8 @@ pub(crate) fn is_tablet(value: u64) -> bool
 
 #[inline]
 fn transaction_in(value: u64) -> Result<u32, Fail>
-    ensures { MatchResult result (λ txn. (txn ≡ value) × (is_txn value ≡ true)) (λ e. (e ≡ Bad Number) × (is_txn value ≡ false)) }
+    ensures { MatchResult result (λ txn. (txn ≡ value) × (is_txn value ≡ true)) (λ e. (e ≡ Bad Number)
+        × (is_txn value ≡ false)) }
 {
     if !is_transaction(value) {
         return Err(Fail::Bad(LogKind::Number));
@@ -59,7 +62,8 @@ fn transaction_in(value: u64) -> Result<u32, Fail>
 
 #[inline]
 pub(crate) fn tablet_in(value: u64) -> Result<u32, Fail>
-    ensures { MatchResult result (λ id. (id ≡ value) × (nat_lt value 64 ≡ true)) (λ e. (e ≡ Bad Number) × (nat_lt value 64 ≡ false)) }
+    ensures { MatchResult result (λ id. (id ≡ value) × (nat_lt value 64 ≡ true)) (λ e. (e ≡ Bad Number)
+        × (nat_lt value 64 ≡ false)) }
 {
     if !is_tablet(value) {
         return Err(Fail::Bad(LogKind::Number));
@@ -69,7 +73,8 @@ pub(crate) fn tablet_in(value: u64) -> Result<u32, Fail>
 
 #[inline]
 pub(crate) fn hash_in(value: u64) -> Result<u16, Fail>
-    ensures { MatchResult result (λ hash. (hash ≡ value) × (nat_lt value 65536 ≡ true)) (λ e. (e ≡ Bad Number) × (nat_lt value 65536 ≡ false)) }
+    ensures { MatchResult result (λ hash. (hash ≡ value) × (nat_lt value 65536 ≡ true)) (λ e. (e ≡ Bad Number)
+        × (nat_lt value 65536 ≡ false)) }
 {
     if value > 65_535 {
         return Err(Fail::Bad(LogKind::Number));
@@ -86,7 +91,8 @@ fn is_sub(value: u64) -> bool
 
 #[inline]
 fn sub_in(value: u64) -> Result<u8, Fail>
-    ensures { MatchResult result (λ sub. (sub ≡ value) × (nat_le value 64 ≡ true)) (λ e. (e ≡ Bad Number) × (nat_le value 64 ≡ false)) }
+    ensures { MatchResult result (λ sub. (sub ≡ value) × (nat_le value 64 ≡ true)) (λ e. (e ≡ Bad Number)
+        × (nat_le value 64 ≡ false)) }
 {
     if !is_sub(value) {
         return Err(Fail::Bad(LogKind::Number));
@@ -101,7 +107,8 @@ fn read_write(
     scratch: &mut Ops,
     words: Words<'_>,
 ) -> Result<Kind, Fail>
-    ensures { Answers (λ kind. kind) result (judge kind_numbers_fit kind_names_fit (option_map Write (ops_of version words.entry))) }
+    ensures { Answers (λ kind. kind) result
+        (judge kind_numbers_fit kind_names_fit (option_map Write (ops_of version words.entry))) }
 {
     read_ops(version, scratch, words)?;
     Ok(Kind::Write {

@@ -1,5 +1,7 @@
 -- A version that is added to one of the pages.
-use Rattle.std.proofs.Common.{◌≡◌, ℕ, ◌+◌, ◌-◌, ◌*◌, ◌/◌, ◌<◌, ◌≤◌, true, false, List, [], ◌∷◌, ◌++◌, length, get_or, take, drop, min, max, refl, ap, sym, ◌∙◌, subst, arith, append_assoc, append-nil, ◌⊎◌, inl, inr, ⊎_elim, set, add-one, length-append, take-append-drop}
+use Rattle.std.proofs.Common.{◌≡◌, ℕ, ◌+◌, ◌-◌, ◌*◌, ◌/◌, ◌<◌, ◌≤◌, true, false, List, [], ◌∷◌, ◌++◌, length, get_or, take, drop, min, max}
+use Rattle.std.proofs.Common.{refl, ap, sym, ◌∙◌, subst, arith, append_assoc, append-nil, ◌⊎◌, inl, inr, ⊎_elim, set, add-one}
+use Rattle.std.proofs.Common.{length-append, take-append-drop}
 use Rattle.std.specs.Prelude.{insert, Vec, vec_len}
 use Rattle.std.specs.declared.alloc.Global.{Global}
 use Rattle.std.proofs.lemmas.Grind.{common_steps}
@@ -18,7 +20,8 @@ use Rattle.xc_versions.specs.Around.{Around}
 use Rattle.xc_versions.specs.Pages.{items_of, IsPage, IsPaged, is_first_passed, Idle, Dues, over, load, spare_of}
 use Rattle.xc_versions.proofs.StoredOrder.{stored-total, in_order-left, in_order-right}
 use Rattle.xc_versions.proofs.VersionLaws.{with-in_order}
-use Rattle.xc_versions.proofs.PageLaws.{each-left, each-right, at-index, items_of-append, with-between, any-append, any-with, not-by, idle-instead, idle-with, idle-append, dues-append, dues-left, dues-right}
+use Rattle.xc_versions.proofs.PageLaws.{each-left, each-right, at-index, items_of-append, with-between, any-append, any-with, not-by}
+use Rattle.xc_versions.proofs.PageLaws.{idle-instead, idle-with, idle-append, dues-append, dues-left, dues-right}
 
 above-before : (v w : StoredVersion) → is_gt (stored_cmp v w) ≡ true → IsBefore w v
 above-before v w e = stored-total.antisymm w v ∙ ap ordering_reverse (greater (stored_cmp v w) e)
@@ -28,11 +31,13 @@ above-before v w e = stored-total.antisymm w v ∙ ap ordering_reverse (greater 
     greater Equal e = cc
     greater Greater e = refl
 
-pub before-all : (xs : List StoredVersion) (w : StoredVersion) (ys : List StoredVersion) → InOrder (xs ++ w ∷ ys) → Each (λ x. IsBefore x w) xs
+pub before-all : (xs : List StoredVersion) (w : StoredVersion) (ys : List StoredVersion) → InOrder (xs ++ w ∷ ys)
+    → Each (λ x. IsBefore x w) xs
 before-all [] w ys o = tt
 before-all (x ∷ xs) w ys o = ((each-right (IsBefore x) xs (w ∷ ys) o.0).0, before-all xs w ys o.1)
 
-replaced-grown : (u : ℕ) (x w v : StoredVersion) (xs ys zs : List StoredVersion) → IsBefore x w → IsBefore w v → is_replaced u x (xs ++ ((w ∷ ys) ++ zs)) ≡ false → is_replaced u x (xs ++ (with_version v (w ∷ ys) ++ zs)) ≡ false
+replaced-grown : (u : ℕ) (x w v : StoredVersion) (xs ys zs : List StoredVersion) → IsBefore x w → IsBefore w v
+    → is_replaced u x (xs ++ ((w ∷ ys) ++ zs)) ≡ false → is_replaced u x (xs ++ (with_version v (w ∷ ys) ++ zs)) ≡ false
 replaced-grown u x w v xs ys zs b c e =
     let p = or_parts (is_replaced u x xs) (is_replaced u x ((w ∷ ys) ++ zs)) (sym (any-append u x xs ((w ∷ ys) ++ zs)) ∙ e) in
     let q = or_parts (is_replaced u x (w ∷ ys)) (is_replaced u x zs) (sym (any-append u x (w ∷ ys) zs) ∙ p.1) in
@@ -43,18 +48,22 @@ replaced-grown u x w v xs ys zs b c e =
     (any-append u x (with_version v (w ∷ ys)) zs ∙ or_from (is_replaced u x (with_version v (w ∷ ys))) (is_replaced u x zs) more q.1)
 
 -- pages before the one that the version goes into, behind its first version
-dues-grown : (bs : List Page) (w v : StoredVersion) (ys zs : List StoredVersion) → Each (λ x. IsBefore x w) (items_of bs) → IsBefore w v → Dues bs ((w ∷ ys) ++ zs) → Dues bs (with_version v (w ∷ ys) ++ zs)
+dues-grown : (bs : List Page) (w v : StoredVersion) (ys zs : List StoredVersion) → Each (λ x. IsBefore x w) (items_of bs) → IsBefore w v
+    → Dues bs ((w ∷ ys) ++ zs) → Dues bs (with_version v (w ∷ ys) ++ zs)
 dues-grown [] w v ys zs h b d = tt
 dues-grown (p ∷ ps) w v ys zs h b d = (
   λ u l. idle-instead u p.items.items (items_of ps ++ ((w ∷ ys) ++ zs)) (items_of ps ++ (with_version v (w ∷ ys) ++ zs))
-      (Each-weaker (λ x. IsBefore x w) (λ x. is_replaced u x (items_of ps ++ ((w ∷ ys) ++ zs)) ≡ false → is_replaced u x (items_of ps ++ (with_version v (w ∷ ys) ++ zs)) ≡ false)
+      (Each-weaker (λ x. IsBefore x w)
+      (λ x. is_replaced u x (items_of ps ++ ((w ∷ ys) ++ zs)) ≡ false → is_replaced u x (items_of ps ++ (with_version v (w ∷ ys) ++ zs))
+      ≡ false)
       (λ x c. replaced-grown u x w v (items_of ps) ys zs c b) p.items.items (each-left (λ x. IsBefore x w) p.items.items (items_of ps) h))
       (d.0 u l),
   dues-grown ps w v ys zs (each-right (λ x. IsBefore x w) p.items.items (items_of ps) h) b d.1,
 )
 
 -- pages that share what is idle under one due
-dues-parts : (ms : List Page) (due : ℕ) (zs : List StoredVersion) → Each (λ m. m.due ≡ due) ms → ((u : ℕ) → u < due → Idle u (items_of ms) zs) → Dues ms zs
+dues-parts : (ms : List Page) (due : ℕ) (zs : List StoredVersion) → Each (λ m. m.due ≡ due) ms
+    → ((u : ℕ) → u < due → Idle u (items_of ms) zs) → Dues ms zs
 dues-parts [] due zs e i = tt
 dues-parts (m ∷ ms) due zs e i = (
   λ u l. (idle-append u m.items.items (items_of ms) zs (i u (subst (λ (n : ℕ). u < n) e.0 l))).0,
@@ -66,7 +75,8 @@ pub record Grown (v : StoredVersion) (old new : List Page) : Type 0 where
   pub paged : IsPaged new []
 
 -- The pages ms stand in for the page q, with the version in it.
-pub grown : (v : StoredVersion) (bs : List Page) (q : Page) (cs ms : List Page) → IsPaged (bs ++ q ∷ cs) [] → IsNew v (items_of (bs ++ q ∷ cs))
+pub grown : (v : StoredVersion) (bs : List Page) (q : Page) (cs ms : List Page) → IsPaged (bs ++ q ∷ cs) []
+    → IsNew v (items_of (bs ++ q ∷ cs))
     → Each (λ x. is_gt (stored_cmp v x) ≡ true) (items_of bs) → Each (λ x. is_gt (stored_cmp v x) ≡ false) (items_of cs)
     → (bs ≡ []) ⊎ (is_first_passed (λ x. is_gt (stored_cmp v x)) q.items.items ≡ true)
     → items_of ms ≡ with_version v q.items.items → Each IsPage ms → Each (λ m. m.due ≡ min q.due v.commit) ms
@@ -76,34 +86,45 @@ grown v bs q cs ms g n f b first e pages dues =
     let was : items_of (bs ++ q ∷ cs) ≡ items_of bs ++ (q.items.items ++ items_of cs) = items_of-append bs (q ∷ cs) in
     let tail : items_of (ms ++ cs) ≡ with_version v q.items.items ++ items_of cs = items_of-append ms cs ∙ ap (λ w. w ++ items_of cs) e in
     let items : items_of (bs ++ (ms ++ cs)) ≡ with_version v (items_of (bs ++ q ∷ cs)) =
-    items_of-append bs (ms ++ cs) ∙ ap (λ w. items_of bs ++ w) tail ∙ sym (with-between v (items_of bs) q.items.items (items_of cs) f b) ∙ ap (with_version v) (sym was)
+    items_of-append bs (ms ++ cs) ∙ ap (λ w. items_of bs ++ w) tail ∙ sym (with-between v (items_of bs) q.items.items (items_of cs) f b)
+    ∙ ap (with_version v) (sym was)
     in
-    let ordered : InOrder (items_of (bs ++ (ms ++ cs))) = subst InOrder (sym items) (with-in_order v (items_of (bs ++ q ∷ cs)) g.ordered n) in
+    let ordered : InOrder (items_of (bs ++ (ms ++ cs))) =
+    subst InOrder (sym items) (with-in_order v (items_of (bs ++ q ∷ cs)) g.ordered n) in
     let here : InOrder (with_version v q.items.items ++ items_of cs) =
-    in_order-right (items_of bs) (with_version v q.items.items ++ items_of cs) (subst InOrder (items_of-append bs (ms ++ cs) ∙ ap (λ w. items_of bs ++ w) tail) ordered)
+    in_order-right (items_of bs) (with_version v q.items.items ++ items_of cs) (subst InOrder (items_of-append bs (ms ++ cs)
+    ∙ ap (λ w. items_of bs ++ w) tail) ordered)
     in
     let behind = dues-right bs (q ∷ cs) [] g.dues in
     let middle : Dues ms zs = dues-parts ms (min q.due v.commit) zs dues (λ u l. subst (λ (w : List StoredVersion). Idle u w zs) (sym e)
-    (idle-with u v q.items.items zs (omega arith) (subst (λ (w : List StoredVersion). InOrder (with_version v q.items.items ++ w)) (sym (append-nil (items_of cs))) here) (behind.0 u (omega arith)))) in
+    (idle-with u v q.items.items zs (omega arith)
+    (subst (λ (w : List StoredVersion). InOrder (with_version v q.items.items ++ w)) (sym (append-nil (items_of cs))) here)
+    (behind.0 u (omega arith)))) in
     let below : Dues bs (items_of (q ∷ cs) ++ []) = dues-left bs (q ∷ cs) [] g.dues in
     let old_order : InOrder (items_of bs ++ (q.items.items ++ items_of cs)) = subst InOrder was g.ordered in
     let front : Dues bs (with_version v q.items.items ++ zs) = ⊎_elim {C = Dues bs (with_version v q.items.items ++ zs)}
     (λ none. subst (λ (ps : List Page). Dues ps (with_version v q.items.items ++ zs)) (sym none) tt)
-    (λ some. front-grown q.items.items some old_order (subst (λ (w : List StoredVersion). Dues bs w) (append_assoc q.items.items (items_of cs) []) below))
+    (λ some. front-grown q.items.items some old_order
+    (subst (λ (w : List StoredVersion). Dues bs w) (append_assoc q.items.items (items_of cs) []) below))
     first
     in
     record {
       items = items;
       paged = record {
         ordered = ordered;
-        pages = Each-append IsPage bs (ms ++ cs) (each-left IsPage bs (q ∷ cs) g.pages) (Each-append IsPage ms cs pages (each-right IsPage bs (q ∷ cs) g.pages).1);
-        dues = dues-append bs (ms ++ cs) [] (subst (λ (w : List StoredVersion). Dues bs w) (sym (ap (λ w. w ++ []) tail ∙ append_assoc (with_version v q.items.items) (items_of cs) [])) front) (dues-append ms cs [] middle behind.1);
+        pages = Each-append IsPage bs (ms ++ cs) (each-left IsPage bs (q ∷ cs) g.pages)
+            (Each-append IsPage ms cs pages (each-right IsPage bs (q ∷ cs) g.pages).1);
+        dues = dues-append bs (ms ++ cs) [] (subst (λ (w : List StoredVersion). Dues bs w) (sym (ap (λ w. w ++ []) tail
+            ∙ append_assoc (with_version v q.items.items) (items_of cs) [])) front) (dues-append ms cs [] middle behind.1);
       };
     }
   where
-    front-grown : (xs : List StoredVersion) → is_first_passed (λ x. is_gt (stored_cmp v x)) xs ≡ true → InOrder (items_of bs ++ (xs ++ items_of cs)) → Dues bs (xs ++ (items_of cs ++ [])) → Dues bs (with_version v xs ++ (items_of cs ++ []))
+    front-grown : (xs : List StoredVersion) → is_first_passed (λ x. is_gt (stored_cmp v x)) xs ≡ true
+        → InOrder (items_of bs ++ (xs ++ items_of cs)) → Dues bs (xs ++ (items_of cs ++ []))
+        → Dues bs (with_version v xs ++ (items_of cs ++ []))
     front-grown [] s o d = cc
-    front-grown (w ∷ ys) s o d = dues-grown bs w v ys (items_of cs ++ []) (before-all (items_of bs) w (ys ++ items_of cs) o) (above-before v w s) d
+    front-grown (w ∷ ys) s o d =
+        dues-grown bs w v ys (items_of cs ++ []) (before-all (items_of bs) w (ys ++ items_of cs) o) (above-before v w s) d
 
 -- ---- room
 
@@ -129,33 +150,43 @@ empty-there o n h s = omega arith
 pub cut-at : (old : List Page) (i : ℕ) (q : Page) → i < length old → q ≡ get_or old i q → old ≡ take i old ++ q ∷ drop (i + 1) old
 cut-at old i q h e = at-index old i q h ∙ ap (λ p. take i old ++ p ∷ drop (i + 1) old) (sym e)
 
-pub added-at : (v : StoredVersion) (old : List Page) (i : ℕ) (q : Page) (ms : List Page) → IsPaged old [] → IsNew v (items_of old) → i < length old → Around (λ x. is_gt (stored_cmp v x)) old i → q ≡ get_or old i q
-    → items_of ms ≡ with_version v q.items.items → Each IsPage ms → Each (λ m. m.due ≡ min q.due v.commit) ms → Grown v old (take i old ++ (ms ++ drop (i + 1) old))
+pub added-at : (v : StoredVersion) (old : List Page) (i : ℕ) (q : Page) (ms : List Page) → IsPaged old [] → IsNew v (items_of old)
+    → i < length old → Around (λ x. is_gt (stored_cmp v x)) old i → q ≡ get_or old i q
+    → items_of ms ≡ with_version v q.items.items → Each IsPage ms → Each (λ m. m.due ≡ min q.due v.commit) ms
+    → Grown v old (take i old ++ (ms ++ drop (i + 1) old))
 added-at v old i q ms g n h a e items pages dues =
     let cut = cut-at old i q h e in
     let first : (take i old ≡ []) ⊎ (is_first_passed (λ x. is_gt (stored_cmp v x)) q.items.items ≡ true) =
     ⊎_elim (λ z. inl (ap (λ k. take k old) z)) (λ p. inr (p q e)) a.first
     in
     subst (λ (ps : List Page). Grown v ps (take i old ++ (ms ++ drop (i + 1) old))) (sym cut)
-    (grown v (take i old) q (drop (i + 1) old) ms (subst (λ (ps : List Page). IsPaged ps []) cut g) (subst (λ (ps : List Page). IsNew v (items_of ps)) cut n) a.before a.behind first items pages dues)
+    (grown v (take i old) q (drop (i + 1) old) ms (subst (λ (ps : List Page). IsPaged ps []) cut g)
+    (subst (λ (ps : List Page). IsNew v (items_of ps)) cut n) a.before a.behind first items pages dues)
 
-pub in_page : (v : StoredVersion) (old : List Page) (i : ℕ) (q : Page) → IsPaged old [] → IsNew v (items_of old) → i < length old → q ≡ get_or old i q → InOrder q.items.items × IsNew v q.items.items
+pub in_page : (v : StoredVersion) (old : List Page) (i : ℕ) (q : Page) → IsPaged old [] → IsNew v (items_of old) → i < length old
+    → q ≡ get_or old i q → InOrder q.items.items × IsNew v q.items.items
 in_page v old i q g n h e =
     let cut = ap items_of (cut-at old i q h e) ∙ items_of-append (take i old) (q ∷ drop (i + 1) old) in
     let o = in_order-right (items_of (take i old)) (q.items.items ++ items_of (drop (i + 1) old)) (subst InOrder cut g.ordered) in
-    let m = each-right (λ x. ¬ (stored_cmp v x ≡ Equal)) (items_of (take i old)) (q.items.items ++ items_of (drop (i + 1) old)) (subst (λ (xs : List StoredVersion). IsNew v xs) cut n) in
-    (in_order-left q.items.items (items_of (drop (i + 1) old)) o, each-left (λ x. ¬ (stored_cmp v x ≡ Equal)) q.items.items (items_of (drop (i + 1) old)) m)
+    let m = each-right (λ x. ¬ (stored_cmp v x ≡ Equal)) (items_of (take i old)) (q.items.items ++ items_of (drop (i + 1) old))
+    (subst (λ (xs : List StoredVersion). IsNew v xs) cut n) in (
+      in_order-left q.items.items (items_of (drop (i + 1) old)) o,
+      each-left (λ x. ¬ (stored_cmp v x ≡ Equal)) q.items.items
+          (items_of (drop (i + 1) old)) m,
+    )
 
 pub set-cut : (old : List Page) (i : ℕ) (q : Page) → i < length old → set old i q ≡ take i old ++ ((q ∷ []) ++ drop (i + 1) old)
 set-cut old i q h = set_split old i q h ∙ ap (λ k. take i old ++ q ∷ drop k old) (sym (add-one i))
 
-pub insert-cut : (old : List Page) (i : ℕ) (q r : Page) → i < length old → insert (set old i q) (i + 1) r ≡ take i old ++ ((q ∷ r ∷ []) ++ drop (i + 1) old)
+pub insert-cut : (old : List Page) (i : ℕ) (q r : Page) → i < length old
+    → insert (set old i q) (i + 1) r ≡ take i old ++ ((q ∷ r ∷ []) ++ drop (i + 1) old)
 insert-cut old i q r h =
     ap (λ w. w ++ r ∷ drop (i + 1) (set old i q)) (take_more_set old i q h)
     ∙ ap (λ w. (take i old ++ q ∷ []) ++ r ∷ w) (drop-set-lt (i + 1) old i q (omega arith))
     ∙ append_assoc (take i old) (q ∷ []) (r ∷ drop (i + 1) old)
 
-over-cut : (old : List Page) (i : ℕ) (q : Page) → i < length old → q ≡ get_or old i q → load old ≡ over (take i old) + ((length q.items.items - 32) + over (drop (i + 1) old))
+over-cut : (old : List Page) (i : ℕ) (q : Page) → i < length old → q ≡ get_or old i q
+    → load old ≡ over (take i old) + ((length q.items.items - 32) + over (drop (i + 1) old))
 over-cut old i q h e = load-some old (omega arith) ∙ ap over (cut-at old i q h e) ∙ over-append (take i old) (q ∷ drop (i + 1) old)
 
 load-middle : (bs : List Page) (m : Page) (ms cs : List Page) → load (bs ++ ((m ∷ ms) ++ cs)) ≡ over bs + (over (m ∷ ms) + over cs)
@@ -163,21 +194,24 @@ load-middle bs m ms cs =
     let long = length-append bs ((m ∷ ms) ++ cs) in
     load-some (bs ++ ((m ∷ ms) ++ cs)) (omega arith) ∙ over-append bs ((m ∷ ms) ++ cs) ∙ ap (λ n. over bs + n) (over-append (m ∷ ms) cs)
 
-pub spare-one : (old : List Page) (i : ℕ) (q r : Page) (n : ℕ) → i < length old → q ≡ get_or old i q → length r.items.items ≡ length q.items.items + 1
+pub spare-one : (old : List Page) (i : ℕ) (q r : Page) (n : ℕ) → i < length old → q ≡ get_or old i q
+    → length r.items.items ≡ length q.items.items + 1
     → spare_of old n ≤ spare_of (take i old ++ ((r ∷ []) ++ drop (i + 1) old)) n + 1
 spare-one old i q r n h e l =
     let a = over-cut old i q h e in
     let b = load-middle (take i old) r [] (drop (i + 1) old) in
     spare-kept (load old) (load (take i old ++ ((r ∷ []) ++ drop (i + 1) old))) n (omega arith)
 
-pub spare-two : (old : List Page) (i : ℕ) (q r s : Page) (n m : ℕ) → i < length old → q ≡ get_or old i q → length q.items.items ≡ 64 → length r.items.items ≡ 32 → length s.items.items ≡ 33 → n ≡ m + 1
+pub spare-two : (old : List Page) (i : ℕ) (q r s : Page) (n m : ℕ) → i < length old → q ≡ get_or old i q → length q.items.items ≡ 64
+    → length r.items.items ≡ 32 → length s.items.items ≡ 33 → n ≡ m + 1
     → spare_of old n ≤ spare_of (take i old ++ ((r ∷ s ∷ []) ++ drop (i + 1) old)) m + 1
 spare-two old i q r s n m h e l k j f =
     let a = over-cut old i q h e in
     let b = load-middle (take i old) r (s ∷ []) (drop (i + 1) old) in
     spare-split (load old) (load (take i old ++ ((r ∷ s ∷ []) ++ drop (i + 1) old))) n m (omega arith) f
 
-pub pool-there : (old : List Page) (i : ℕ) (q : Page) (n : ℕ) → i < length old → q ≡ get_or old i q → length q.items.items ≡ 64 → 1 ≤ spare_of old n → 1 ≤ n
+pub pool-there : (old : List Page) (i : ℕ) (q : Page) (n : ℕ) → i < length old → q ≡ get_or old i q → length q.items.items ≡ 64
+    → 1 ≤ spare_of old n → 1 ≤ n
 pool-there old i q n h e l s = let a = over-cut old i q h e in empty-there (load old) n (omega arith) s
 
 pub page-at : (old : List Page) (i : ℕ) (q : Page) → Each IsPage old → i < length old → q ≡ get_or old i q → IsPage q
@@ -185,7 +219,8 @@ page-at old i q g h e = subst IsPage (sym e) (each-at IsPage old i q g h)
 
 -- the two halves of a page that has one version too many
 pub halves : (xs : List StoredVersion) (q r : Page) → q.items.items ≡ take 32 xs → r.items.items ≡ drop 32 xs → items_of (q ∷ r ∷ []) ≡ xs
-halves xs q r e f = ap (λ w. w ++ (r.items.items ++ [])) e ∙ ap (λ w. take 32 xs ++ w) (append-nil r.items.items ∙ f) ∙ take-append-drop 32 xs
+halves xs q r e f =
+    ap (λ w. w ++ (r.items.items ++ [])) e ∙ ap (λ w. take 32 xs ++ w) (append-nil r.items.items ∙ f) ∙ take-append-drop 32 xs
 
 pub length-set-insert : (old : List Page) (i : ℕ) (q r : Page) → i < length old → length (insert (set old i q) (i + 1) r) ≡ length old + 1
 length-set-insert old i q r h =
@@ -207,11 +242,13 @@ spare-enough (p ∷ ps) n m g h = let few = over-most (p ∷ ps) g in omega arit
 
 pub some-pages : (ps : List Page) → Each IsPage ps → length ps ≤ length (items_of ps)
 some-pages [] g = omega arith
-some-pages (p ∷ ps) g = let some = g.0.some in let rest = some-pages ps g.1 in let whole = length-append p.items.items (items_of ps) in omega arith
+some-pages (p ∷ ps) g =
+    let some = g.0.some in let rest = some-pages ps g.1 in let whole = length-append p.items.items (items_of ps) in omega arith
 
 pub few-pages : (ps : List Page) → Each IsPage ps → length (items_of ps) ≤ 64 * length ps
 few-pages [] g = omega arith
-few-pages (p ∷ ps) g = let few = g.0.few in let rest = few-pages ps g.1 in let whole = length-append p.items.items (items_of ps) in omega arith
+few-pages (p ∷ ps) g =
+    let few = g.0.few in let rest = few-pages ps g.1 in let whole = length-append p.items.items (items_of ps) in omega arith
 
 pub vec-long : {X : Type 0} (v : Vec X Global) → vec_len v ≡ length v.items
 vec-long v = grind (arith, common_steps)

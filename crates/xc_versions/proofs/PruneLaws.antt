@@ -1,5 +1,6 @@
 -- A prune of a page, from its last version to its first.
-use Rattle.std.proofs.Common.{◌≡◌, ℕ, suc, ◌+◌, ◌<◌, ◌≤◌, true, false, cond, List, [], ◌∷◌, ◌++◌, length, get_or, take, drop, Option, Some, refl, ap, sym, ◌∙◌, subst, arith, add-one, length-append}
+use Rattle.std.proofs.Common.{◌≡◌, ℕ, suc, ◌+◌, ◌<◌, ◌≤◌, true, false, cond, List, [], ◌∷◌, ◌++◌, length, get_or, take, drop, Option, Some}
+use Rattle.std.proofs.Common.{refl, ap, sym, ◌∙◌, subst, arith, add-one, length-append}
 use Rattle.std.specs.Prelude.{remove, slice_get}
 use Rattle.std.specs.Option.{option_to_list}
 use Rattle.std.proofs.lemmas.List.{drop_more, drop_all, length-take-le, take_at, drop_at, length-drop, get_or-take, take-take}
@@ -8,14 +9,15 @@ use Rattle.xc_versions.specs.Stored.{next_commit, is_due, next_replaces, pruned_
 use Rattle.xc_versions.specs.Pages.{IdleNext}
 
 -- from the place i on all is done, and `behind` stands first there
-pub record Going (u : ℕ) (next : Option StoredVersion) (old items : List StoredVersion) (behind : Option StoredVersion) (due i : ℕ) : Type 0 where
-  pub within : i ≤ length old
-  pub long : length items ≤ length old
-  pub short : i ≤ length items
-  pub front : take i items ≡ take i old
-  pub tail : (rest : List StoredVersion) → slice_get rest 0 ≡ next → drop i items ++ rest ≡ pruned_before u (drop i old) rest
-  pub head : (rest : List StoredVersion) → slice_get rest 0 ≡ next → slice_get (drop i items ++ rest) 0 ≡ behind
-  pub idle : (w : ℕ) (rest : List StoredVersion) → slice_get rest 0 ≡ next → w < due → IdleNext w (drop i items) rest
+pub record Going (u : ℕ) (next : Option StoredVersion) (old items : List StoredVersion) (behind : Option StoredVersion) (due i : ℕ) : Type 0
+  where
+    pub within : i ≤ length old
+    pub long : length items ≤ length old
+    pub short : i ≤ length items
+    pub front : take i items ≡ take i old
+    pub tail : (rest : List StoredVersion) → slice_get rest 0 ≡ next → drop i items ++ rest ≡ pruned_before u (drop i old) rest
+    pub head : (rest : List StoredVersion) → slice_get rest 0 ≡ next → slice_get (drop i items ++ rest) 0 ≡ behind
+    pub idle : (w : ℕ) (rest : List StoredVersion) → slice_get rest 0 ≡ next → w < due → IdleNext w (drop i items) rest
 
 pub going-start : (u : ℕ) (next : Option StoredVersion) (old : List StoredVersion) (due : ℕ) → Going u next old old next due (length old)
 going-start u next old due =
@@ -34,7 +36,8 @@ by-head : (x : StoredVersion) (ys : List StoredVersion) → next_commit x (optio
 by-head x [] = refl
 by-head x (y ∷ ys) = refl
 
-read-old : (old items : List StoredVersion) (i : ℕ) (x : StoredVersion) → i < length old → i < length items → take (i + 1) items ≡ take (i + 1) old → x ≡ get_or items i x → x ≡ get_or old i x
+read-old : (old items : List StoredVersion) (i : ℕ) (x : StoredVersion) → i < length old → i < length items
+    → take (i + 1) items ≡ take (i + 1) old → x ≡ get_or items i x → x ≡ get_or old i x
 read-old old items i x h k e f =
     f ∙ sym (get_or-take (i + 1) items i x (omega arith)) ∙ ap (λ xs. get_or xs i x) e ∙ get_or-take (i + 1) old i x (omega arith)
 
@@ -42,8 +45,11 @@ shorter : (xs ys : List StoredVersion) (i : ℕ) → take (i + 1) xs ≡ take (i
 shorter xs ys i e = sym (take-take i (i + 1) xs (omega arith)) ∙ ap (take i) e ∙ take-take i (i + 1) ys (omega arith)
 
 -- the version stays
-pub going-kept : (u : ℕ) (next : Option StoredVersion) (old items : List StoredVersion) (behind : Option StoredVersion) (due later i : ℕ) (x : StoredVersion) → Going u next old items behind due (i + 1) → x ≡ get_or items i x
-    → is_due u (next_commit x (option_to_list behind)) ≡ false → ((w : ℕ) → w < later → (w < due) × (is_due w (next_commit x (option_to_list behind)) ≡ false)) → Going u next old items (Some x) later i
+pub going-kept : (u : ℕ) (next : Option StoredVersion) (old items : List StoredVersion) (behind : Option StoredVersion) (due later i : ℕ)
+    (x : StoredVersion) → Going u next old items behind due (i + 1) → x ≡ get_or items i x
+    → is_due u (next_commit x (option_to_list behind)) ≡ false
+    → ((w : ℕ) → w < later → (w < due) × (is_due w (next_commit x (option_to_list behind)) ≡ false))
+    → Going u next old items (Some x) later i
 going-kept u next old items behind due later i x g e n l =
     let w = g.within in
     let s = g.short in
@@ -58,19 +64,25 @@ going-kept u next old items behind due later i x g e n l =
       tail = λ rest r.
           let below = g.tail rest r in
           let test : next_replaces u x (pruned_before u (drop (i + 1) old) rest) ≡ false =
-          ap (λ ys. is_due u (next_commit x ys)) (sym below) ∙ ap (is_due u) (sym (by-head x (drop (i + 1) items ++ rest)) ∙ ap (λ o. next_commit x (option_to_list o)) (g.head rest r)) ∙ n
+          ap (λ ys. is_due u (next_commit x ys)) (sym below)
+          ∙ ap (is_due u) (sym (by-head x (drop (i + 1) items ++ rest)) ∙ ap (λ o. next_commit x (option_to_list o)) (g.head rest r))
+          ∙ n
           in
           ap (λ ys. ys ++ rest) split ∙ ap (λ ys. x ∷ ys) below
-          ∙ sym (ap (λ ys. pruned_before u ys rest) split_old ∙ ap (λ b. cond b (pruned_before u (drop (i + 1) old) rest) (x ∷ pruned_before u (drop (i + 1) old) rest)) test);
+          ∙ sym (ap (λ ys. pruned_before u ys rest) split_old
+          ∙ ap (λ b. cond b (pruned_before u (drop (i + 1) old) rest) (x ∷ pruned_before u (drop (i + 1) old) rest)) test);
       head = λ rest r. ap (λ ys. slice_get (ys ++ rest) 0) split;
       idle = λ v rest r k.
           let later = l v k in
-          let test : next_replaces v x (drop (i + 1) items ++ rest) ≡ false = ap (is_due v) (sym (by-head x (drop (i + 1) items ++ rest)) ∙ ap (λ o. next_commit x (option_to_list o)) (g.head rest r)) ∙ later.1 in
+          let test : next_replaces v x (drop (i + 1) items ++ rest) ≡ false =
+          ap (is_due v) (sym (by-head x (drop (i + 1) items ++ rest)) ∙ ap (λ o. next_commit x (option_to_list o)) (g.head rest r))
+          ∙ later.1 in
           subst (λ (ys : List StoredVersion). IdleNext v ys rest) (sym split) (test, g.idle v rest r later.0);
     }
 
 -- the version goes
-pub going-removed : (u : ℕ) (next : Option StoredVersion) (old items : List StoredVersion) (behind : Option StoredVersion) (due i : ℕ) (x : StoredVersion) → Going u next old items behind due (i + 1) → x ≡ get_or items i x
+pub going-removed : (u : ℕ) (next : Option StoredVersion) (old items : List StoredVersion) (behind : Option StoredVersion) (due i : ℕ)
+    (x : StoredVersion) → Going u next old items behind due (i + 1) → x ≡ get_or items i x
     → is_due u (next_commit x (option_to_list behind)) ≡ true → Going u next old (remove items i) behind due i
 going-removed u next old items behind due i x g e n =
     let w = g.within in
@@ -92,13 +104,17 @@ going-removed u next old items behind due i x g e n =
       tail = λ rest r.
           let below = g.tail rest r in
           let test : next_replaces u x (pruned_before u (drop (i + 1) old) rest) ≡ true =
-          ap (λ ys. is_due u (next_commit x ys)) (sym below) ∙ ap (is_due u) (sym (by-head x (drop (i + 1) items ++ rest)) ∙ ap (λ o. next_commit x (option_to_list o)) (g.head rest r)) ∙ n
+          ap (λ ys. is_due u (next_commit x ys)) (sym below)
+          ∙ ap (is_due u) (sym (by-head x (drop (i + 1) items ++ rest)) ∙ ap (λ o. next_commit x (option_to_list o)) (g.head rest r))
+          ∙ n
           in
           ap (λ ys. ys ++ rest) after ∙ below
-          ∙ sym (ap (λ ys. pruned_before u ys rest) split_old ∙ ap (λ b. cond b (pruned_before u (drop (i + 1) old) rest) (x ∷ pruned_before u (drop (i + 1) old) rest)) test);
+          ∙ sym (ap (λ ys. pruned_before u ys rest) split_old
+          ∙ ap (λ b. cond b (pruned_before u (drop (i + 1) old) rest) (x ∷ pruned_before u (drop (i + 1) old) rest)) test);
       head = λ rest r. ap (λ ys. slice_get (ys ++ rest) 0) after ∙ g.head rest r;
       idle = λ v rest r k. subst (λ (ys : List StoredVersion). IdleNext v ys rest) (sym after) (g.idle v rest r k);
     }
 
-pub going-done : (u : ℕ) (next : Option StoredVersion) (old items : List StoredVersion) (behind : Option StoredVersion) (due i : ℕ) → Going u next old items behind due i → i ≡ 0 → Going u next old items behind due 0
+pub going-done : (u : ℕ) (next : Option StoredVersion) (old items : List StoredVersion) (behind : Option StoredVersion) (due i : ℕ)
+    → Going u next old items behind due i → i ≡ 0 → Going u next old items behind due 0
 going-done u next old items behind due i g e = subst (λ (k : ℕ). Going u next old items behind due k) e g

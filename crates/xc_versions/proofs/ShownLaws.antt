@@ -1,5 +1,6 @@
 -- What versions in order show at a time: at a key by the last version that reaches it, and as rows by one walk.
-use Rattle.std.proofs.Common.{◌≡◌, ℕ, zero, suc, ◌-◌, get_or, ◌<◌, ◌≤◌, Bool, true, false, cond, List, [], ◌∷◌, ◌++◌, length, None, refl, ap, sym, ◌∙◌, arith, subst, append-nil, ⊎_elim, take, drop, take-append-drop}
+use Rattle.std.proofs.Common.{◌≡◌, ℕ, zero, suc, ◌-◌, get_or, ◌<◌, ◌≤◌, Bool, true, false, cond, List, [], ◌∷◌, ◌++◌, length, None, refl}
+use Rattle.std.proofs.Common.{ap, sym, ◌∙◌, arith, subst, append-nil, ⊎_elim, take, drop, take-append-drop}
 use Rattle.std.specs.Prelude.{bytes_eq, nat_le, filter}
 use Rattle.std.specs.declared.cmp.Ordering.{Ordering}
 use Rattle.std.specs.declared.cmp.Ordering.TheVariants.{Less, Equal, Greater}
@@ -70,9 +71,12 @@ reaches-back k t x y b e = back (key_cmp x.key k) refl (key_cmp y.key k) refl e
 
     back : (o : Ordering) → key_cmp x.key k ≡ o → (p : Ordering) → key_cmp y.key k ≡ p → Back t x y o p
     back Less e p f h = cc
-    back Equal e Less f h = absurd (not-greater (key_cmp x.key y.key) (nat_list_cmp_total.congr x.key k y.key e ∙ above-key y.key k f) rises)
+    back Equal e Less f h =
+        absurd (not-greater (key_cmp x.key y.key) (nat_list_cmp_total.congr x.key k y.key e ∙ above-key y.key k f) rises)
     back Equal e Equal f h =
-        let same : bytes_eq x.key y.key ≡ true = sym (is_eq-slice_cmp x.key y.key) ∙ ap is_eq (nat_list_cmp_total.congr x.key k y.key e ∙ tied_back nat_list_cmp_total y.key k f) in
+        let same : bytes_eq x.key y.key ≡ true =
+        sym (is_eq-slice_cmp x.key y.key)
+        ∙ ap is_eq (nat_list_cmp_total.congr x.key k y.key e ∙ tied_back nat_list_cmp_total y.key k f) in
         let le : x.commit ≤ y.commit = commits-rise x y same b in
         let lt = leb-false x.commit t h in
         lt-leb y.commit t (omega arith)
@@ -83,7 +87,8 @@ reaches-back k t x y b e = back (key_cmp x.key k) refl (key_cmp y.key k) refl e
 
 pub reaches-falls : (k : List ℕ) (t : ℕ) (xs : List StoredVersion) → InOrder xs → Falls (reaches k t) xs
 reaches-falls k t [] o = tt
-reaches-falls k t (x ∷ xs) o = (λ e. Each-weaker (IsBefore x) (λ y. reaches k t y ≡ false) (λ y b. reaches-back k t x y b e) xs o.0, reaches-falls k t xs o.1)
+reaches-falls k t (x ∷ xs) o =
+    (λ e. Each-weaker (IsBefore x) (λ y. reaches k t y ≡ false) (λ y b. reaches-back k t x y b e) xs o.0, reaches-falls k t xs o.1)
 
 -- ---- what is shown at a key
 
@@ -99,11 +104,14 @@ value_at k (x ∷ xs) = cond (bytes_eq k x.key) x.value None
 reaches-in : (k : List ℕ) (t : ℕ) (x : StoredVersion) → bytes_eq k x.key ≡ true → reaches k t x ≡ nat_le x.commit t
 reaches-in k t x e = ap (λ o. match_ordering o true (nat_le x.commit t) false) (tied_back nat_list_cmp_total k x.key (keys-tie k x.key e))
 
-reached-upto : (k : List ℕ) (t : ℕ) (xs : List StoredVersion) → Each (λ x. reaches k t x ≡ true) xs → filter (upto t) (stored_at k xs) ≡ stored_at k xs
+reached-upto : (k : List ℕ) (t : ℕ) (xs : List StoredVersion) → Each (λ x. reaches k t x ≡ true) xs
+    → filter (upto t) (stored_at k xs) ≡ stored_at k xs
 reached-upto k t [] h = refl
 reached-upto k t (x ∷ xs) h =
     ⊎_elim
-    (λ e. ap (filter (upto t)) (stored_at-in k x xs e) ∙ ap (λ b. cond b (version x ∷ filter (upto t) (stored_at k xs)) (filter (upto t) (stored_at k xs))) (sym (reaches-in k t x e) ∙ h.0)
+    (λ e. ap (filter (upto t)) (stored_at-in k x xs e)
+    ∙ ap (λ b. cond b (version x ∷ filter (upto t) (stored_at k xs)) (filter (upto t) (stored_at k xs))) (sym (reaches-in k t x e)
+    ∙ h.0)
     ∙ ap (λ w. version x ∷ w) (reached-upto k t xs h.1) ∙ sym (stored_at-in k x xs e))
     (λ e. ap (filter (upto t)) (stored_at-out k x xs e) ∙ reached-upto k t xs h.1 ∙ sym (stored_at-out k x xs e))
     (cases_Bool (bytes_eq k x.key))
@@ -112,7 +120,9 @@ passed-upto : (k : List ℕ) (t : ℕ) (xs : List StoredVersion) → Each (λ x.
 passed-upto k t [] h = refl
 passed-upto k t (x ∷ xs) h =
     ⊎_elim
-    (λ e. ap (filter (upto t)) (stored_at-in k x xs e) ∙ ap (λ b. cond b (version x ∷ filter (upto t) (stored_at k xs)) (filter (upto t) (stored_at k xs))) (sym (reaches-in k t x e) ∙ h.0) ∙ passed-upto k t xs h.1)
+    (λ e. ap (filter (upto t)) (stored_at-in k x xs e)
+    ∙ ap (λ b. cond b (version x ∷ filter (upto t) (stored_at k xs)) (filter (upto t) (stored_at k xs))) (sym (reaches-in k t x e)
+    ∙ h.0) ∙ passed-upto k t xs h.1)
     (λ e. ap (filter (upto t)) (stored_at-out k x xs e) ∙ passed-upto k t xs h.1)
     (cases_Bool (bytes_eq k x.key))
 
@@ -124,7 +134,8 @@ reached-key k t x e = at (key_cmp x.key k) (nat_le x.commit t) e
     at Equal b e = refl
     at Greater b e = cc
 
-last-value : (k : List ℕ) (t : ℕ) (xs : List StoredVersion) → InOrder xs → Each (λ x. reaches k t x ≡ true) xs → value_of (last_of (stored_at k xs)) ≡ value_at k (last_of xs)
+last-value : (k : List ℕ) (t : ℕ) (xs : List StoredVersion) → InOrder xs → Each (λ x. reaches k t x ≡ true) xs
+    → value_of (last_of (stored_at k xs)) ≡ value_at k (last_of xs)
 last-value k t [] o h = refl
 last-value k t (x ∷ []) o h =
     ⊎_elim
@@ -143,22 +154,28 @@ last-value k t (x ∷ (y ∷ ys)) o h =
     next-in : bytes_eq k x.key ≡ true → bytes_eq k y.key ≡ true
     next-in e =
         let same : k ≡ x.key = (bytes_eq-Decides k x.key).0 e in
-        between k y.key k (subst (λ (q : List ℕ). is_gt (key_cmp q y.key) ≡ false) (sym same) (keys-rise x y o.0.0)) (reached-key k t y h.1.0) ((bytes_eq-Decides k k).1 refl)
+        between k y.key k (subst (λ (q : List ℕ). is_gt (key_cmp q y.key) ≡ false) (sym same) (keys-rise x y o.0.0))
+        (reached-key k t y h.1.0) ((bytes_eq-Decides k k).1 refl)
 
 reached-only : (k : List ℕ) (t : ℕ) (xs : List StoredVersion) → filter (upto t) (stored_at k xs) ≡ stored_at k (filter (reaches k t) xs)
 reached-only k t [] = refl
 reached-only k t (x ∷ xs) =
     let rest = reached-only k t xs in
     ⊎_elim
-    (λ e. ap (filter (upto t)) (stored_at-in k x xs e) ∙ ap (λ b. cond b (version x ∷ filter (upto t) (stored_at k xs)) (filter (upto t) (stored_at k xs))) (sym (reaches-in k t x e)) ∙ here (reaches k t x) e rest)
+    (λ e. ap (filter (upto t)) (stored_at-in k x xs e)
+    ∙ ap (λ b. cond b (version x ∷ filter (upto t) (stored_at k xs)) (filter (upto t) (stored_at k xs))) (sym (reaches-in k t x e))
+    ∙ here (reaches k t x) e rest)
     (λ e. ap (filter (upto t)) (stored_at-out k x xs e) ∙ rest ∙ other (reaches k t x) e)
     (cases_Bool (bytes_eq k x.key))
   where
-    here : (b : Bool) → bytes_eq k x.key ≡ true → filter (upto t) (stored_at k xs) ≡ stored_at k (filter (reaches k t) xs) → cond b (version x ∷ filter (upto t) (stored_at k xs)) (filter (upto t) (stored_at k xs)) ≡ stored_at k (cond b (x ∷ filter (reaches k t) xs) (filter (reaches k t) xs))
+    here : (b : Bool) → bytes_eq k x.key ≡ true → filter (upto t) (stored_at k xs) ≡ stored_at k (filter (reaches k t) xs)
+        → cond b (version x ∷ filter (upto t) (stored_at k xs)) (filter (upto t) (stored_at k xs)) ≡ stored_at k
+        (cond b (x ∷ filter (reaches k t) xs) (filter (reaches k t) xs))
     here true e r = ap (λ w. version x ∷ w) r ∙ sym (stored_at-in k x (filter (reaches k t) xs) e)
     here false e r = r
 
-    other : (b : Bool) → bytes_eq k x.key ≡ false → stored_at k (filter (reaches k t) xs) ≡ stored_at k (cond b (x ∷ filter (reaches k t) xs) (filter (reaches k t) xs))
+    other : (b : Bool) → bytes_eq k x.key ≡ false
+        → stored_at k (filter (reaches k t) xs) ≡ stored_at k (cond b (x ∷ filter (reaches k t) xs) (filter (reaches k t) xs))
     other true e = sym (stored_at-out k x (filter (reaches k t) xs) e)
     other false e = refl
 
@@ -167,21 +184,27 @@ each-passed p [] = tt
 each-passed p (x ∷ xs) =
     let rest = each-passed p xs in
     let at : (b : Bool) → p x ≡ b → Each (λ x. p x ≡ true) (cond b (x ∷ filter p xs) (filter p xs)) =
-    λ b. elim b as (λ b. p x ≡ b → Each (λ x. p x ≡ true) (cond b (x ∷ filter p xs) (filter p xs))) [ true ↦ λ e. (e, rest) | false ↦ λ e. rest ]
+    λ b. elim b as (λ b. p x ≡ b → Each (λ x. p x ≡ true) (cond b (x ∷ filter p xs) (filter p xs)))
+    [ true ↦ λ e. (e, rest) | false ↦ λ e. rest ]
     in at (p x) refl
 
 -- What is shown at a key is the value of the last version that reaches it, where that is of the key.
-pub shown-reaching : (k : List ℕ) (t : ℕ) (xs : List StoredVersion) → InOrder xs → shown t (stored_at k xs) ≡ value_at k (last_of (filter (reaches k t) xs))
-shown-reaching k t xs o = ap (λ vs. value_of (last_of vs)) (reached-only k t xs) ∙ last-value k t (filter (reaches k t) xs) (filter-in_order (reaches k t) xs o) (each-passed (reaches k t) xs)
+pub shown-reaching : (k : List ℕ) (t : ℕ) (xs : List StoredVersion) → InOrder xs
+    → shown t (stored_at k xs) ≡ value_at k (last_of (filter (reaches k t) xs))
+shown-reaching k t xs o =
+    ap (λ vs. value_of (last_of vs)) (reached-only k t xs)
+    ∙ last-value k t (filter (reaches k t) xs) (filter-in_order (reaches k t) xs o) (each-passed (reaches k t) xs)
 
-pub shown-at : (k : List ℕ) (t n : ℕ) (xs : List StoredVersion) → InOrder xs → Splits (reaches k t) n xs → shown t (stored_at k xs) ≡ value_at k (last_of (take n xs))
+pub shown-at : (k : List ℕ) (t n : ℕ) (xs : List StoredVersion) → InOrder xs → Splits (reaches k t) n xs
+    → shown t (stored_at k xs) ≡ value_at k (last_of (take n xs))
 shown-at k t n xs o s =
     let A = take n xs in
     let B = drop n xs in
     let whole : stored_at k xs ≡ stored_at k A ++ stored_at k B = ap (stored_at k) (sym (take-append-drop n xs)) ∙ stored_at-append k A B in
     let front : filter (upto t) (stored_at k xs) ≡ stored_at k A =
     ap (filter (upto t)) whole ∙ filter-append (upto t) (stored_at k A) (stored_at k B)
-    ∙ ap (λ w. filter (upto t) (stored_at k A) ++ w) (passed-upto k t B s.back) ∙ append-nil (filter (upto t) (stored_at k A)) ∙ reached-upto k t A s.front
+    ∙ ap (λ w. filter (upto t) (stored_at k A) ++ w) (passed-upto k t B s.back) ∙ append-nil (filter (upto t) (stored_at k A))
+    ∙ reached-upto k t A s.front
     in
     ap (λ vs. value_of (last_of vs)) front ∙ last-value k t A (in_order-left A B (subst InOrder (sym (take-append-drop n xs)) o)) s.front
 
@@ -191,11 +214,14 @@ last-taken (x ∷ xs) zero d h = refl
 last-taken (x ∷ []) (suc n) d h = absurd (omega arith)
 last-taken (x ∷ (y ∷ ys)) (suc n) d h = last-taken (y ∷ ys) n d (omega arith)
 
-pub shown-none : (k : List ℕ) (t n : ℕ) (xs : List StoredVersion) → InOrder xs → Splits (reaches k t) n xs → n ≡ 0 → shown t (stored_at k xs) ≡ None
+pub shown-none : (k : List ℕ) (t n : ℕ) (xs : List StoredVersion) → InOrder xs → Splits (reaches k t) n xs → n ≡ 0
+    → shown t (stored_at k xs) ≡ None
 shown-none k t n xs o s e = shown-at k t n xs o s ∙ ap (λ n. value_at k (last_of (take n xs))) e
 
-pub shown-last : (k : List ℕ) (t n : ℕ) (xs : List StoredVersion) (x : StoredVersion) → InOrder xs → Splits (reaches k t) n xs → 0 < n → x ≡ get_or xs (n - 1) x → shown t (stored_at k xs) ≡ cond (bytes_eq k x.key) x.value None
+pub shown-last : (k : List ℕ) (t n : ℕ) (xs : List StoredVersion) (x : StoredVersion) → InOrder xs → Splits (reaches k t) n xs → 0 < n
+    → x ≡ get_or xs (n - 1) x → shown t (stored_at k xs) ≡ cond (bytes_eq k x.key) x.value None
 shown-last k t n xs x o s h e =
     let w = s.within in
     let same : n ≡ suc (n - 1) = omega arith in
-    shown-at k t n xs o s ∙ ap (λ n. value_at k (last_of (take n xs))) same ∙ ap (value_at k) (last-taken xs (n - 1) x (omega arith)) ∙ ap (λ y. cond (bytes_eq k y.key) y.value None) (sym e)
+    shown-at k t n xs o s ∙ ap (λ n. value_at k (last_of (take n xs))) same ∙ ap (value_at k) (last-taken xs (n - 1) x (omega arith))
+    ∙ ap (λ y. cond (bytes_eq k y.key) y.value None) (sym e)

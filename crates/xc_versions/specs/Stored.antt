@@ -10,7 +10,8 @@
 --     up_to t xs      those of commit at most t
 --     reaches k t x      x stands at or before all versions of the key k with commit at most t
 --     key_versions xs      the same versions without their places
-use Rattle.std.specs.Prelude.{◌≡◌, ◌<◌, ℕ, Bool, true, false, ◌&&◌, bytes_eq, nat_le, Option, Some, None, List, [], ◌∷◌, map, filter, if◌then◌else◌}
+use Rattle.std.specs.Prelude.{◌≡◌, ◌<◌, ℕ, Bool, true, false, ◌&&◌, bytes_eq, nat_le, Option, Some, None, List, [], ◌∷◌, map, filter}
+use Rattle.std.specs.Prelude.{if◌then◌else◌}
 use Rattle.std.specs.List.{AllByRecursion, list_any}
 use Rattle.std.specs.declared.cmp.Ordering.{Ordering}
 use Rattle.std.specs.declared.cmp.Ordering.TheVariants.{Less, Equal}
@@ -31,7 +32,9 @@ stored key commit txn place value = record { commit = commit; place = place; txn
 -- ---- order
 
 abbrev pub stored_cmp : StoredVersion → StoredVersion → Ordering
-stored_cmp x y = ordering_then (slice_cmp nat_cmp x.key y.key) (ordering_then (nat_cmp x.commit y.commit) (ordering_then (nat_cmp x.txn y.txn) (nat_cmp x.place y.place)))
+stored_cmp x y =
+    ordering_then (slice_cmp nat_cmp x.key y.key)
+    (ordering_then (nat_cmp x.commit y.commit) (ordering_then (nat_cmp x.txn y.txn) (nat_cmp x.place y.place)))
 
 abbrev pub IsBefore : StoredVersion → StoredVersion → Type 0
 IsBefore x y = stored_cmp x y ≡ Less
@@ -97,4 +100,5 @@ stored_at k xs = versions_at k (key_versions xs)
 -- xs without those that the next version, of xs or of rest behind it, replaces at u; and rest
 abbrev pub pruned_before : ℕ → List StoredVersion → List StoredVersion → List StoredVersion
 pruned_before u [] rest = rest
-pruned_before u (x ∷ xs) rest = if next_replaces u x (pruned_before u xs rest) then pruned_before u xs rest else (x ∷ pruned_before u xs rest)
+pruned_before u (x ∷ xs) rest =
+    if next_replaces u x (pruned_before u xs rest) then pruned_before u xs rest else (x ∷ pruned_before u xs rest)

@@ -25,7 +25,8 @@ fn add_first(pages: &mut Vec<Page>, pool: &mut Vec<Vec<StoredVersion>>, version:
     requires room { 1 ≤ spare_of pages.old.items (length pool.old.items) }
     ensures store { IsStore pages.new pool.new }
     ensures items { items_of pages.new.items ≡ with_version version (items_of pages.old.items) }
-    ensures spare { spare_of pages.old.items (length pool.old.items) ≤ spare_of pages.new.items (length pool.new.items) + 1 }
+    ensures spare { spare_of pages.old.items (length pool.old.items) ≤ spare_of pages.new.items (length pool.new.items)
+        + 1 }
 {
     let mut page = Page {
         items: take_empty(pool),
@@ -58,7 +59,8 @@ fn add_at(
     requires room { 1 ≤ spare_of pages.old.items (length pool.old.items) }
     ensures store { IsStore pages.new pool.new }
     ensures items { items_of pages.new.items ≡ with_version version (items_of pages.old.items) }
-    ensures spare { spare_of pages.old.items (length pool.old.items) ≤ spare_of pages.new.items (length pool.new.items) + 1 }
+    ensures spare { spare_of pages.old.items (length pool.old.items) ≤ spare_of pages.new.items (length pool.new.items)
+        + 1 }
 {
     let page = &mut pages[i];
     page.put(version);
@@ -75,7 +77,8 @@ pub fn add(pages: &mut Vec<Page>, pool: &mut Vec<Vec<StoredVersion>>, version: S
     requires room { 1 ≤ spare_of pages.old.items (length pool.old.items) }
     ensures store { IsStore pages.new pool.new }
     ensures items { items_of pages.new.items ≡ with_version version (items_of pages.old.items) }
-    ensures spare { spare_of pages.old.items (length pool.old.items) ≤ spare_of pages.new.items (length pool.new.items) + 1 }
+    ensures spare { spare_of pages.old.items (length pool.old.items) ≤ spare_of pages.new.items (length pool.new.items)
+        + 1 }
 {
     if pages.is_empty() {
         add_first(pages, pool, version);
@@ -141,8 +144,8 @@ fn pages_for(n: usize, pages: usize) -> usize
     n.min(pages.saturating_add(n / 32 + 1))
 }
 
-/// Makes room for at least n more versions: n additions split at most as many pages as there are, and one more for each 32
-/// of them.
+/// Makes room for at least n more versions: n additions split at most as many pages as there are, and one more for each
+/// 32 of them.
 pub fn grow(
     alloc: Global,
     pages: &mut Vec<Page>,

@@ -26,11 +26,13 @@ fn next_commit(version: &StoredVersion, next: &Option<StoredVersion>) -> Option<
 }
 
 impl Page {
-    /// Removes what its next version replaces at the cutoff, and notes when more is due. Behind the page stands `next`, or
-    /// nothing.
+    /// Removes what its next version replaces at the cutoff, and notes when more is due. Behind the page stands `next`,
+    /// or nothing.
     pub fn prune(&mut self, next: Option<StoredVersion>, cutoff: u64)
-        ensures items { (rest : List StoredVersion) → slice_get rest 0 ≡ next → self.new.items.items ++ rest ≡ pruned_before cutoff self.old.items.items rest }
-        ensures idle { (u : ℕ) (rest : List StoredVersion) → slice_get rest 0 ≡ next → u < self.new.due → IdleNext u self.new.items.items rest }
+        ensures items { (rest : List StoredVersion) → slice_get rest 0 ≡ next
+            → self.new.items.items ++ rest ≡ pruned_before cutoff self.old.items.items rest }
+        ensures idle { (u : ℕ) (rest : List StoredVersion) → slice_get rest 0 ≡ next → u < self.new.due
+            → IdleNext u self.new.items.items rest }
         ensures len { length self.new.items.items ≤ length self.old.items.items }
         ensures capacity { vec_capacity self.new.items ≡ vec_capacity self.old.items }
     {

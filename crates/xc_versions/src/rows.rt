@@ -76,7 +76,8 @@ fn ends_at(rows: &[(Key, Value)], key: &Key) -> bool
 
 // Removes the last row, where it is of this key.
 fn drop_row(rows: &mut Vec<(Key, Value)>, key: &Key)
-    ensures { (lesser : List (List ℕ × List ℕ)) (at : Written) → rows.old.items ≡ lesser ++ row_of key.now at → Below lesser key.now → rows.new.items ≡ lesser }
+    ensures { (lesser : List (List ℕ × List ℕ)) (at : Written) → rows.old.items ≡ lesser ++ row_of key.now at
+        → Below lesser key.now → rows.new.items ≡ lesser }
 {
     if ends_at(rows, key) {
         let _ = rows.pop();

@@ -1,5 +1,6 @@
 // Prunes and drops over pages: pages that became empty go to the pool.
-ghost use Rattle.std.specs.Prelude.{◌≡◌, ◌++◌, ◌<◌, ◌≤◌, ◌+◌, nat_lt, remove, take, drop, length, slice_get, slice_index_or, vec_capacity};
+ghost use Rattle.std.specs.Prelude.{◌≡◌, ◌++◌, ◌<◌, ◌≤◌, ◌+◌, nat_lt, remove, take, drop, length, slice_get};
+ghost use Rattle.std.specs.Prelude.{slice_index_or, vec_capacity};
 ghost use Rattle.std.specs.List.{AllByRecursion};
 ghost use Rattle.xc_versions.specs.Stored.{kept, pruned_before, up_to};
 ghost use Rattle.xc_versions.specs.Pages.{IsPage, IsEmptyPage, items_of, spare_of};
@@ -44,7 +45,9 @@ fn prune_at(pages: &mut Vec<Page>, pool: &mut Vec<Vec<StoredVersion>>, i: usize,
     requires within { i < length pages.old.items }
     ensures store { IsStore pages.new pool.new }
     ensures front { take i pages.new.items ≡ take i pages.old.items }
-    ensures tail { (q : Page) → q ≡ slice_index_or pages.old.items i q → items_of (drop i pages.new.items) ≡ pruned_before cutoff q.items.items (items_of (drop (i + 1) pages.old.items)) }
+    ensures tail { (q : Page) → q ≡ slice_index_or pages.old.items i q
+        → items_of (drop i pages.new.items)
+        ≡ pruned_before cutoff q.items.items (items_of (drop (i + 1) pages.old.items)) }
     ensures spare { spare_of pages.old.items (length pool.old.items) ≤ spare_of pages.new.items (length pool.new.items) }
 {
     if is_idle(pages, i, cutoff) {
@@ -68,7 +71,8 @@ fn is_idle(pages: &[Page], i: usize, cutoff: u64) -> bool
     cutoff < page.due
 }
 
-/// Of each key's versions with commit at most the cutoff only the last stays. A page that loses none is not looked into.
+/// Of each key's versions with commit at most the cutoff only the last stays. A page that loses none is not looked
+/// into.
 pub fn prune(pages: &mut Vec<Page>, pool: &mut Vec<Vec<StoredVersion>>, cutoff: u64)
     requires { IsStore pages.old pool.old }
     ensures store { IsStore pages.new pool.new }
@@ -88,7 +92,8 @@ fn drop_at(pages: &mut Vec<Page>, pool: &mut Vec<Vec<StoredVersion>>, i: usize, 
     requires within { i < length pages.old.items }
     ensures store { IsStore pages.new pool.new }
     ensures front { take i pages.new.items ≡ take i pages.old.items }
-    ensures tail { (q : Page) → q ≡ slice_index_or pages.old.items i q → items_of (drop i pages.new.items) ≡ up_to t q.items.items ++ items_of (drop (i + 1) pages.old.items) }
+    ensures tail { (q : Page) → q ≡ slice_index_or pages.old.items i q
+        → items_of (drop i pages.new.items) ≡ up_to t q.items.items ++ items_of (drop (i + 1) pages.old.items) }
     ensures spare { spare_of pages.old.items (length pool.old.items) ≤ spare_of pages.new.items (length pool.new.items) }
 {
     let page = &mut pages[i];

@@ -12,7 +12,8 @@ use std::alloc::Global;
 use std::marker::Model;
 use xc_base::{Key, NoMemory, Value};
 
-/// Versions of many keys, which contracts see in order beside the number of those that can still be added without memory.
+/// Versions of many keys, which contracts see in order beside the number of those that can still be added without
+/// memory.
 #[derive(Drop, Debug)]
 pub struct Versions {
     // Each has 1 to 64 versions.
@@ -75,8 +76,9 @@ impl Versions {
         }
     }
 
-    /// Adds a version, for which there is room: what the transaction of this number left at the key when it committed. The
-    /// place is the operation's among those that were taken in, so that it tells apart what one transaction did to a key.
+    /// Adds a version, for which there is room: what the transaction of this number left at the key when it committed.
+    /// The place is the operation's among those that were taken in, so that it tells apart what one transaction did to
+    /// a key.
     pub fn add(&mut self, key: Key, commit: u64, txn: u32, place: u64, value: Option<Value>)
         requires room { 1 ≤ self.old.spare }
         requires fresh { IsNew (stored key commit txn place value) self.old.items }
@@ -95,8 +97,8 @@ impl Versions {
         add(&mut self.pages, &mut self.pool, version);
     }
 
-    /// What the key is set to at t: by its last version with commit at most t. None comes exactly where there is none or it
-    /// is a removal.
+    /// What the key is set to at t: by its last version with commit at most t. None comes exactly where there is none
+    /// or it is a removal.
     pub fn at(&self, key: &Key, t: u64) -> Option<&Value>
         ensures value { option_copied result ≡ shown t (stored_at key.now self.now.items) }
         ensures ordered { InOrder self.now.items }
@@ -125,8 +127,8 @@ impl Versions {
         }
     }
 
-    /// Of each key's versions with commit at most the cutoff only the last stays, also where it is a removal. All others
-    /// stay. A page that loses none is not looked into.
+    /// Of each key's versions with commit at most the cutoff only the last stays, also where it is a removal. All
+    /// others stay. A page that loses none is not looked into.
     pub fn keep_from(&mut self, cutoff: u64)
         ensures items { self.new.items ≡ kept cutoff self.old.items }
         ensures spare { self.old.spare ≤ self.new.spare }

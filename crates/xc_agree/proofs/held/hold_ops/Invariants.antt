@@ -7,6 +7,9 @@ use Rattle.xc_agree.proofs.held.hold_ops.Given as goal
 
 abbrev pub invariant-loop-op : goal.invariant-loop-op
 invariant-loop-op l = record {
-  held : (n h : ℕ) → (is_held l.held.items n h || (l.waiter.txn == n && writes_at h l.op-iterator)) ≡ (is_held l.initial.held.items n h || (l.waiter.txn == n && writes_at h l.ops));
-  slots : (commits : List Commit) → is_in_slot commits l.waiter.txn l.waiter.slot ≡ true → InSlots commits l.initial.held.items → InSlots commits l.held.items;
+  held : (n h : ℕ)
+      → (is_held l.held.items n h || (l.waiter.txn == n && writes_at h l.op-iterator)) ≡
+      (is_held l.initial.held.items n h || (l.waiter.txn == n && writes_at h l.ops));
+  slots : (commits : List Commit) → is_in_slot commits l.waiter.txn l.waiter.slot ≡ true → InSlots commits l.initial.held.items
+      → InSlots commits l.held.items;
 }

@@ -5,6 +5,7 @@ use Rattle.xc_agree.proofs.look.stop_all.Given as goal
 
 abbrev pub invariant-loop-waiter : goal.invariant-loop-waiter
 invariant-loop-waiter l = record {
-  since : (i : ℕ) → waits_at l.waiting.items i ≡ (if is_slot_of i (take l.waiter-index l.waiters) then None else waits_at l.initial.waiting.items i);
+  since : (i : ℕ)
+      → waits_at l.waiting.items i ≡ (if is_slot_of i (take l.waiter-index l.waiters) then None else waits_at l.initial.waiting.items i);
   len : length l.waiting.items ≡ length l.initial.waiting.items;
 }

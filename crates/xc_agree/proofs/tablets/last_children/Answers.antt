@@ -10,11 +10,13 @@ loop-i-init c = record { count = sym c.in_ok-lasts.lasts.ok.0 ∙ c.in_ok-lasts.
 pub loop-i-preserved : goal.loop-i-preserved
 loop-i-preserved c = record {
   count = c.note_child.ensures.count ∙ c.loop-i.invariant.count;
-  last = last-more c.loop-i.lasts.items c.note_child.new.lasts.items c.args.tablets.now c.loop-i.i c.index-tablets-i.result c.loop-i-test.true c.index-tablets-i.is c.loop-i.invariant.last c.note_child.ensures.last;
+  last = last-more c.loop-i.lasts.items c.note_child.new.lasts.items c.args.tablets.now c.loop-i.i c.index-tablets-i.result
+      c.loop-i-test.true c.index-tablets-i.is c.loop-i.invariant.last c.note_child.ensures.last;
 }
 
 pub returns-clause-count : goal.returns-clause-count
 returns-clause-count c = c.loop-i.invariant.count
 
 pub returns-clause-last : goal.returns-clause-last
-returns-clause-last c = subst (AreLast c.loop-i.lasts.items) (take_all c.loop-i.i c.args.tablets.now c.loop-i-test.false) c.loop-i.invariant.last
+returns-clause-last c =
+    subst (AreLast c.loop-i.lasts.items) (take_all c.loop-i.i c.args.tablets.now c.loop-i-test.false) c.loop-i.invariant.last

@@ -6,7 +6,8 @@ use Rattle.xc_base.proofs.number.short_value.Goals as goal
 -- the value with the next digit behind it
 next_small : (c : goal.After-from) → 10 * c.loop-byte.value + c.from.result < 10 ^ (c.loop-byte.byte-index + 1)
 next_small c =
-    let digit : is_ascii_digit (get_or c.args.word.now c.loop-byte.byte-index 0) ≡ true = sym c.is_ascii_digit.ensures.value ∙ c.if-not-is_ascii_digit.false in
+    let digit : is_ascii_digit (get_or c.args.word.now c.loop-byte.byte-index 0) ≡ true =
+    sym c.is_ascii_digit.ensures.value ∙ c.if-not-is_ascii_digit.false in
     let most = digit_at_most (get_or c.args.word.now c.loop-byte.byte-index 0) digit in
     one_more_digit c.loop-byte.value c.from.result c.loop-byte.byte-index c.loop-byte.invariant.small (omega (arith, most))
 
@@ -23,6 +24,12 @@ overflow_add-value c =
 
 pub loop-byte-preserved : goal.loop-byte-preserved
 loop-byte-preserved c =
-    let digit : is_ascii_digit (get_or c.args.word.now c.loop-byte.byte-index 0) ≡ true = sym c.is_ascii_digit.ensures.value ∙ c.if-not-is_ascii_digit.false in
+    let digit : is_ascii_digit (get_or c.args.word.now c.loop-byte.byte-index 0) ≡ true =
+    sym c.is_ascii_digit.ensures.value ∙ c.if-not-is_ascii_digit.false in
     let taken = takes_byte c.loop-byte.value c.args.word.now c.loop-byte.byte-index c.loop-byte-test.true digit in
-    record { rest = cc (taken.value, c.loop-byte.invariant.rest, c.from.ensures); digits = sym taken.rest ∙ c.loop-byte.invariant.digits; small = next_small c }
+    record {
+      rest = cc (taken.value, c.loop-byte.invariant.rest, c.from.ensures);
+      digits = sym taken.rest
+          ∙ c.loop-byte.invariant.digits;
+      small = next_small c;
+    }

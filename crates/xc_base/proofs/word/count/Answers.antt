@@ -14,9 +14,14 @@ loop-at-preserved-then-digits-gt0 c =
 pub loop-at-preserved : goal.loop-at-preserved
 loop-at-preserved c =
     let none : c.loop-at.digits ≡ 0 = omega (arith, c.if-digits-gt0.false) in
-    let right = subst (λ xs. begins_byte xs ≡ true) (rest_is c.args.word.now c.loop-at.at) (sym c.begins_byte.ensures ∙ c.if-not-begins_byte.false) in
+    let right = subst (λ xs. begins_byte xs ≡ true) (rest_is c.args.word.now c.loop-at.at) (sym c.begins_byte.ensures
+    ∙ c.if-not-begins_byte.false) in
     let here = subst (λ d. Counts c.args.word.now c.loop-at.at d c.loop-at.len) none c.loop-at.invariant in
     elim c.if-byte-eq37.branch [
-      | then-byte-eq37 w ↦ rw w.digits-is (count_escape c.args.word.now c.loop-at.at c.loop-at.len c.loop-at-test.true right (eq-eqb (get_or c.args.word.now c.loop-at.at 0) 37 (search rules)) here)
-      | else-byte-eq37 w ↦ rw w.digits-is (rw none (count_byte c.args.word.now c.loop-at.at c.loop-at.len c.loop-at-test.true right (ne_eqb (get_or c.args.word.now c.loop-at.at 0) 37 (search rules)) here))
+      | then-byte-eq37 w ↦ rw w.digits-is
+          (count_escape c.args.word.now c.loop-at.at c.loop-at.len c.loop-at-test.true right
+          (eq-eqb (get_or c.args.word.now c.loop-at.at 0) 37 (search rules)) here)
+      | else-byte-eq37 w ↦ rw w.digits-is
+          (rw none (count_byte c.args.word.now c.loop-at.at c.loop-at.len c.loop-at-test.true right
+          (ne_eqb (get_or c.args.word.now c.loop-at.at 0) 37 (search rules)) here))
     ]

@@ -6,8 +6,10 @@ use Rattle.xc_text.proofs.cut.leading_digits.Goals as goal
 
 next : (c : goal.After-from) → IsLeading (10 * c.loop-len.value + c.from.result) (c.loop-len.len + 1) c.args.bytes.now
 next c =
-    let digit : is_ascii_digit (get_or c.args.bytes.now c.loop-len.len 0) ≡ true = sym c.is_ascii_digit.ensures.value ∙ c.if-is_ascii_digit.true in
-    one_digit_more c.loop-len.value c.loop-len.len c.from.result c.args.bytes.now c.loop-len.invariant.0 c.loop-len-test.true digit c.from.ensures
+    let digit : is_ascii_digit (get_or c.args.bytes.now c.loop-len.len 0) ≡ true =
+    sym c.is_ascii_digit.ensures.value ∙ c.if-is_ascii_digit.true in
+    one_digit_more c.loop-len.value c.loop-len.len c.from.result c.args.bytes.now c.loop-len.invariant.0 c.loop-len-test.true digit
+    c.from.ensures
 
 pub overflow_mul-value : goal.overflow_mul-value
 overflow_mul-value c =

@@ -6,7 +6,8 @@ pub returns-then-len-bytes : goal.returns-then-len-bytes
 returns-then-len-bytes c =
     let leading = c.leading_digits-value.ensures in
     let plain = c.is_plain.ensures c.if-not-is_plain.false in
-    quick_end c.args.bytes.now c.leading_digits-value.result.1 c.leading_digits-value.result.0 leading.digits leading.spells leading.fits plain.0 plain.1 c.if-len-bytes.true
+    quick_end c.args.bytes.now c.leading_digits-value.result.1 c.leading_digits-value.result.0 leading.digits leading.spells leading.fits
+    plain.0 plain.1 c.if-len-bytes.true
 
 pub returns : goal.returns
 returns c =
@@ -15,4 +16,5 @@ returns c =
     let within = leading.within in
     let other = c.if-len-bytes.false in
     let inside : c.leading_digits-value.result.1 < length c.args.bytes.now = omega (arith, within, other) in
-    quick_more c.args.bytes.now c.leading_digits-value.result.1 c.leading_digits-value.result.0 leading.digits leading.spells leading.fits plain.0 plain.1 inside c.if-bytes-len-ne32.false
+    quick_more c.args.bytes.now c.leading_digits-value.result.1 c.leading_digits-value.result.0 leading.digits leading.spells leading.fits
+    plain.0 plain.1 inside c.if-bytes-len-ne32.false

@@ -3,4 +3,5 @@ use Rattle.xc_text.specs.Printed.{records_text}
 use Rattle.xc_text.proofs.print.push_tablets.Given as goal
 
 abbrev pub invariant-loop-tablet : goal.invariant-loop-tablet
-invariant-loop-tablet l = l.out ++ flat_map (records_text l.version) (drop l.tablet-index l.tablets) ≡ l.fn.out ++ flat_map (records_text l.version) l.tablets
+invariant-loop-tablet l =
+    l.out ++ flat_map (records_text l.version) (drop l.tablet-index l.tablets) ≡ l.fn.out ++ flat_map (records_text l.version) l.tablets

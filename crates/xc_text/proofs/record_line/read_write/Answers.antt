@@ -3,7 +3,9 @@ use Rattle.xc_text.proofs.LineLaws.{write_refused, write_read}
 use Rattle.xc_text.proofs.record_line.read_write.Goals as goal
 
 pub returns-in_err-read_ops : goal.returns-in_err-read_ops
-returns-in_err-read_ops c = let p = err_from_is_err_and c.from_residual.result c.from_residual.ensures.1 in rw (p.1, p.2) (write_refused c.args.version c.args.words _ c.in_err-read_ops.ensures)
+returns-in_err-read_ops c =
+    let p = err_from_is_err_and c.from_residual.result c.from_residual.ensures.1 in rw (p.1, p.2)
+    (write_refused c.args.version c.args.words _ c.in_err-read_ops.ensures)
 
 pub returns : goal.returns
 returns c = rw c.in_ok-clone_in.ensures (write_read c.args.version c.args.words _ c.in_ok-read_ops.ensures)

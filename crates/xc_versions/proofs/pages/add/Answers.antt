@@ -14,4 +14,6 @@ add_at-requires-clause-around c =
     let split = rw c.deref.ensures.value at c.pages_before-before.ensures in
     let some : 0 < length ps = grind (arith, common_steps) in
     let within = split.within in
-    around-some (λ x. is_gt (stored_cmp v x)) ps c.pages_before-before.result c.saturating_sub.result c.requires.store.paged.pages (above-falls v (items_of ps) c.requires.store.paged.ordered) split c.saturating_sub.ensures (let e = c.saturating_sub.ensures in omega arith)
+    around-some (λ x. is_gt (stored_cmp v x)) ps c.pages_before-before.result c.saturating_sub.result c.requires.store.paged.pages
+    (above-falls v (items_of ps) c.requires.store.paged.ordered) split c.saturating_sub.ensures
+    (let e = c.saturating_sub.ensures in omega arith)

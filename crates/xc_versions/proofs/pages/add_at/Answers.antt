@@ -1,18 +1,24 @@
-use Rattle.std.proofs.Common.{◌≡◌, ◌+◌, ◌≤◌, List, [], ◌∷◌, ◌++◌, length, take, drop, set, ap, sym, ◌∙◌, subst, arith, append-nil, vec_capacity}
+use Rattle.std.proofs.Common.{◌≡◌, ◌+◌, ◌≤◌, List, [], ◌∷◌, ◌++◌, length, take, drop, set, ap, sym, ◌∙◌, subst, arith, append-nil}
+use Rattle.std.proofs.Common.{vec_capacity}
 use Rattle.std.proofs.lemmas.List.{length-set, length-take-le, length-drop}
 use Rattle.std.proofs.lemmas.Bool.{ltb-true, ltb-false}
 use Rattle.xc_versions.specs.declared.page.Page.{Page}
 use Rattle.xc_versions.specs.Stored.{with_version}
 use Rattle.xc_versions.specs.Pages.{items_of, IsPage, spare_of}
-use Rattle.xc_versions.proofs.AddLaws.{Grown, in_page, added-at, set-cut, insert-cut, spare-one, spare-two, pool-there, page-at, halves, length-set-insert}
+use Rattle.xc_versions.proofs.AddLaws.{Grown, in_page, added-at, set-cut, insert-cut, spare-one, spare-two, pool-there, page-at, halves}
+use Rattle.xc_versions.proofs.AddLaws.{length-set-insert}
 use Rattle.xc_versions.proofs.pages.add_at.Goals as goal
 use Rattle.xc_versions.proofs.pages.add_at.Goals.{After-pages-else-is_over-1, After-insert_page}
 
 pub put-requires-clause-ordered : goal.put-requires-clause-ordered
-put-requires-clause-ordered c = (in_page c.args.version c.args.pages.now.items c.args.i c.index_mut-page.result.now c.requires.store.paged c.requires.fresh c.requires.within c.index_mut-page.ensures.value).0
+put-requires-clause-ordered c =
+    (in_page c.args.version c.args.pages.now.items c.args.i c.index_mut-page.result.now c.requires.store.paged c.requires.fresh
+    c.requires.within c.index_mut-page.ensures.value).0
 
 pub put-requires-clause-fresh : goal.put-requires-clause-fresh
-put-requires-clause-fresh c = (in_page c.args.version c.args.pages.now.items c.args.i c.index_mut-page.result.now c.requires.store.paged c.requires.fresh c.requires.within c.index_mut-page.ensures.value).1
+put-requires-clause-fresh c =
+    (in_page c.args.version c.args.pages.now.items c.args.i c.index_mut-page.result.now c.requires.store.paged c.requires.fresh
+    c.requires.within c.index_mut-page.ensures.value).1
 
 pub take_empty-requires-clause-some : goal.take_empty-requires-clause-some
 take_empty-requires-clause-some c =
@@ -20,9 +26,11 @@ take_empty-requires-clause-some c =
     let page = page-at c.args.pages.now.items c.args.i q c.requires.store.paged.pages c.requires.within c.index_mut-page.ensures.value in
     let over = ltb-true 64 (length c.put.new.self.items.items) (sym c.if-is_over.ensures) in
     let full : length q.items.items ≡ 64 = let few = page.few in let long = c.put.ensures.len in omega arith in
-    pool-there c.args.pages.now.items c.args.i q (length c.args.pool.now.items) c.requires.within c.index_mut-page.ensures.value full c.requires.room
+    pool-there c.args.pages.now.items c.args.i q (length c.args.pool.now.items) c.requires.within c.index_mut-page.ensures.value full
+    c.requires.room
 
-grown-one : (c : After-pages-else-is_over-1) → Grown c.args.version c.args.pages.now.items (set c.args.pages.now.items c.args.i c.put.new.self)
+grown-one : (c : After-pages-else-is_over-1)
+    → Grown c.args.version c.args.pages.now.items (set c.args.pages.now.items c.args.i c.put.new.self)
 grown-one c =
     let old = c.args.pages.now.items in
     let q = c.index_mut-page.result.now in
@@ -32,14 +40,20 @@ grown-one c =
     let long = c.put.ensures.len in
     let is_page : IsPage r = record { some = omega arith; few = fits; room = c.put.ensures.room } in
     subst (λ (ps : List Page). Grown c.args.version old ps) (sym (set-cut old c.args.i r c.requires.within))
-    (added-at c.args.version old c.args.i q (r ∷ []) c.requires.store.paged c.requires.fresh c.requires.within c.requires.around c.index_mut-page.ensures.value
+    (added-at c.args.version old c.args.i q (r ∷ []) c.requires.store.paged c.requires.fresh c.requires.within c.requires.around
+    c.index_mut-page.ensures.value
     (append-nil r.items.items ∙ c.put.ensures.items) (is_page, tt) (c.put.ensures.due, tt))
 
 pub returns-else-is_over-clause-store : goal.returns-else-is_over-clause-store
 returns-else-is_over-clause-store c =
     let w = length-set c.args.pages.now.items c.args.i c.put.new.self in
     let room = c.requires.store.room in
-    record { paged = (grown-one c).paged; empty = c.requires.store.empty; room = record { pages_room = (let h = room.pages_room in omega arith); pool_room = (let h = room.pool_room in omega arith) } }
+    record {
+      paged = (grown-one c).paged;
+      empty = c.requires.store.empty;
+      room = record
+          { pages_room = (let h = room.pages_room in omega arith); pool_room = (let h = room.pool_room in omega arith) };
+    }
 
 pub returns-else-is_over-clause-items : goal.returns-else-is_over-clause-items
 returns-else-is_over-clause-items c = (grown-one c).items
@@ -60,8 +74,11 @@ full-page c =
     let long = c.put.ensures.len in
     omega arith
 
-new-pages : (c : After-insert_page) → c.insert_page.new.pages.items ≡ take c.args.i c.args.pages.now.items ++ ((c.split-upper.new.self ∷ c.split-upper.result ∷ []) ++ drop (c.args.i + 1) c.args.pages.now.items)
-new-pages c = c.insert_page.ensures.items ∙ insert-cut c.args.pages.now.items c.args.i c.split-upper.new.self c.split-upper.result c.requires.within
+new-pages : (c : After-insert_page)
+    → c.insert_page.new.pages.items ≡ take c.args.i c.args.pages.now.items ++
+    ((c.split-upper.new.self ∷ c.split-upper.result ∷ []) ++ drop (c.args.i + 1) c.args.pages.now.items)
+new-pages c = c.insert_page.ensures.items
+    ∙ insert-cut c.args.pages.now.items c.args.i c.split-upper.new.self c.split-upper.result c.requires.within
 
 grown-two : (c : After-insert_page) → Grown c.args.version c.args.pages.now.items c.insert_page.new.pages.items
 grown-two c =
@@ -69,10 +86,16 @@ grown-two c =
     let q = c.index_mut-page.result.now in
     let r = c.split-upper.new.self in
     let s = c.split-upper.result in
-    let whole : items_of (r ∷ s ∷ []) ≡ with_version c.args.version q.items.items = halves c.put.new.self.items.items r s c.split-upper.ensures.lower c.split-upper.ensures.upper ∙ c.put.ensures.items in
+    let whole : items_of (r ∷ s ∷ []) ≡ with_version c.args.version q.items.items =
+    halves c.put.new.self.items.items r s c.split-upper.ensures.lower c.split-upper.ensures.upper ∙ c.put.ensures.items in
     subst (λ (ps : List Page). Grown c.args.version old ps) (sym (new-pages c))
-    (added-at c.args.version old c.args.i q (r ∷ s ∷ []) c.requires.store.paged c.requires.fresh c.requires.within c.requires.around c.index_mut-page.ensures.value
-    whole (c.split-upper.ensures.lower_page, (c.split-upper.ensures.upper_page, tt)) (c.split-upper.ensures.lower_due ∙ c.put.ensures.due, (c.split-upper.ensures.upper_due ∙ c.put.ensures.due, tt)))
+    (added-at c.args.version old c.args.i q (r ∷ s ∷ []) c.requires.store.paged c.requires.fresh c.requires.within c.requires.around
+    c.index_mut-page.ensures.value
+    whole (c.split-upper.ensures.lower_page, (c.split-upper.ensures.upper_page, tt)) (
+      c.split-upper.ensures.lower_due
+          ∙ c.put.ensures.due,
+      (c.split-upper.ensures.upper_due ∙ c.put.ensures.due, tt),
+    ))
 
 pub returns-then-is_over-clause-store : goal.returns-then-is_over-clause-store
 returns-then-is_over-clause-store c =
@@ -83,7 +106,12 @@ returns-then-is_over-clause-store c =
     let pool_capacity : vec_capacity c.take_empty.new.pool ≡ vec_capacity c.args.pool.now = c.take_empty.ensures.capacity in
     let pages_room = c.requires.store.room.pages_room in
     let pool_room = c.requires.store.room.pool_room in
-    record { paged = (grown-two c).paged; empty = c.take_empty.ensures.empty; room = record { pages_room = omega arith; pool_room = omega arith } }
+    record {
+      paged = (grown-two c).paged;
+      empty = c.take_empty.ensures.empty;
+      room = record
+          { pages_room = omega arith; pool_room = omega arith };
+    }
 
 pub returns-then-is_over-clause-items : goal.returns-then-is_over-clause-items
 returns-then-is_over-clause-items c = (grown-two c).items
@@ -97,7 +125,10 @@ returns-then-is_over-clause-spare c =
     let s = c.split-upper.result in
     let full = full-page c in
     let long = c.put.ensures.len in
-    let low : length r.items.items ≡ 32 = ap length c.split-upper.ensures.lower ∙ length-take-le 32 c.put.new.self.items.items (omega arith) in
-    let high : length s.items.items ≡ 33 = ap length c.split-upper.ensures.upper ∙ length-drop 32 c.put.new.self.items.items ∙ omega arith in
+    let low : length r.items.items ≡ 32 =
+    ap length c.split-upper.ensures.lower ∙ length-take-le 32 c.put.new.self.items.items (omega arith) in
+    let high : length s.items.items ≡ 33 =
+    ap length c.split-upper.ensures.upper ∙ length-drop 32 c.put.new.self.items.items ∙ omega arith in
     subst (λ (ps : List Page). spare_of old n ≤ spare_of ps m + 1) (sym (new-pages c))
-    (spare-two old c.args.i c.index_mut-page.result.now r s n m c.requires.within c.index_mut-page.ensures.value full low high (sym c.take_empty.ensures.len))
+    (spare-two old c.args.i c.index_mut-page.result.now r s n m c.requires.within c.index_mut-page.ensures.value full low high
+    (sym c.take_empty.ensures.len))

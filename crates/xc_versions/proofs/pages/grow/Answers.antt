@@ -15,8 +15,11 @@ returns-clause-room c =
     let had : length c.reserve-2.new.self.items ≡ length c.args.pool.now.items = ap length c.in_ok-reserve-2.ensures.items in
     let all : m ≡ length c.reserve-2.new.self.items + c.saturating_sub-more.result = e in
     let count : c.len.result ≡ length ps = c.len.ensures ∙ vec-long c.args.pages.now in
-    let most : c.pages_for-most.result ≡ min n (length ps + (n / 32 + 1)) = c.pages_for-most.ensures ∙ ap (λ k. min n (k + (n / 32 + 1))) count in
+    let most : c.pages_for-most.result ≡ min n (length ps + (n / 32 + 1)) =
+    c.pages_for-most.ensures ∙ ap (λ k. min n (k + (n / 32 + 1))) count in
     let held : c.len-2.result ≡ length c.args.pool.now.items = c.len-2.ensures ∙ vec-long c.args.pool.now in
-    let less : c.saturating_sub-more.result ≡ c.pages_for-most.result - length c.args.pool.now.items = c.saturating_sub-more.ensures ∙ ap (λ k. c.pages_for-most.result - k) held in
-    subst (λ (qs : List Page). n ≤ spare_of qs m) (sym c.in_ok-reserve.ensures.items) (spare-enough ps n m c.requires.paged.pages (omega arith)))
+    let less : c.saturating_sub-more.result ≡ c.pages_for-most.result - length c.args.pool.now.items =
+    c.saturating_sub-more.ensures ∙ ap (λ k. c.pages_for-most.result - k) held in
+    subst (λ (qs : List Page). n ≤ spare_of qs m) (sym c.in_ok-reserve.ensures.items)
+    (spare-enough ps n m c.requires.paged.pages (omega arith)))
     c.add_empty.ensures.all

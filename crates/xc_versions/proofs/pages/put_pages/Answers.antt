@@ -13,7 +13,8 @@ put_versions-requires-clause-under c =
     let q = c.page-item.result in
     let rest = items_of (drop (c.loop-page.page-index + 1) c.args.pages.now) in
     let split = items-from c.args.pages.now c.loop-page.page-index q c.loop-page-test.true c.page-item.is in
-    rw c.deref.ensures.value (each-left (λ x. Under c.loop-page.rows.items x.key) q.items.items rest (rw split at c.loop-page.invariant.under))
+    rw c.deref.ensures.value
+    (each-left (λ x. Under c.loop-page.rows.items x.key) q.items.items rest (rw split at c.loop-page.invariant.under))
 
 pub put_versions-requires-clause-ordered : goal.put_versions-requires-clause-ordered
 put_versions-requires-clause-ordered c =
@@ -28,7 +29,8 @@ loop-page-preserved c =
     let t = c.args.t in
     let rest = items_of (drop (c.loop-page.page-index + 1) c.args.pages.now) in
     let split = items-from c.args.pages.now c.loop-page.page-index q c.loop-page-test.true c.page-item.is in
-    let before = subst (λ (w : List StoredVersion). Left t c.args.rows.now.items c.loop-page.rows.items (items_of c.args.pages.now) w) split c.loop-page.invariant in
+    let before = subst (λ (w : List StoredVersion). Left t c.args.rows.now.items c.loop-page.rows.items (items_of c.args.pages.now) w) split
+    c.loop-page.invariant in
     let put : c.put_versions.new.rows.items ≡ rows_after (ops_to t q.items.items) c.loop-page.rows.items =
     c.in_ok-put_versions.ensures ∙ ap (λ xs. rows_after (ops_to t xs) c.loop-page.rows.items) c.deref.ensures.value
     in

@@ -18,7 +18,8 @@ loop-i-preserved c =
     let before = subst (λ (k : ℕ). Walked (up_to t) old c.loop-i.pages.items k) same c.loop-i.invariant.walked in
     record {
       store = c.drop_at.ensures.store;
-      walked = walked-some (up_to t) (λ xs rest. up_to t xs ++ rest) old c.loop-i.pages.items c.drop_at.new.pages.items i before c.drop_at.ensures.front c.drop_at.ensures.tail
+      walked = walked-some (up_to t) (λ xs rest. up_to t xs ++ rest) old c.loop-i.pages.items c.drop_at.new.pages.items i before
+          c.drop_at.ensures.front c.drop_at.ensures.tail
           (λ q e. sym (filter-append (λ x. nat_le x.commit t) q.items.items (items_of (drop (i + 1) old))));
       spare = both c.loop-i.invariant.spare c.drop_at.ensures.spare;
     }

@@ -1,4 +1,5 @@
-use Rattle.std.proofs.Common.{◌≡◌, ◌+◌, ◌<◌, ◌≤◌, List, [], ◌∷◌, ◌++◌, length, take, drop, ap, sym, ◌∙◌, subst, arith, append-nil, vec_capacity}
+use Rattle.std.proofs.Common.{◌≡◌, ◌+◌, ◌<◌, ◌≤◌, List, [], ◌∷◌, ◌++◌, length, take, drop, ap, sym, ◌∙◌, subst, arith, append-nil}
+use Rattle.std.proofs.Common.{vec_capacity}
 use Rattle.std.specs.Prelude.{nat_le}
 use Rattle.std.proofs.lemmas.Grind.{common_steps}
 use Rattle.std.proofs.lemmas.List.{length-set, nil_from_length, get_or_default}
@@ -8,7 +9,8 @@ use Rattle.xc_versions.specs.Stored.{up_to}
 use Rattle.xc_versions.specs.Pages.{items_of, IsPage, IsPaged, Idle, spare_of}
 use Rattle.xc_versions.proofs.AddLaws.{set-cut, page-at}
 use Rattle.xc_versions.proofs.SubLaws.{Sub, sub-filter, sub-behind, idle-sub}
-use Rattle.xc_versions.proofs.ShrinkLaws.{shrunk-at, remove-cut, length-removed, behind-removed, idle-at, dues-one, spare-shrunk, spare-gone, length-kept}
+use Rattle.xc_versions.proofs.ShrinkLaws.{shrunk-at, remove-cut, length-removed, behind-removed, idle-at, dues-one, spare-shrunk}
+use Rattle.xc_versions.proofs.ShrinkLaws.{spare-gone, length-kept}
 use Rattle.xc_versions.proofs.shrink.drop_at.Goals as goal
 use Rattle.xc_versions.proofs.shrink.drop_at.Goals.{After-free}
 
@@ -28,9 +30,11 @@ returns-then-is_empty-clause-store c =
     let q = c.index_mut-page.result.now in
     let rest = items_of (drop (i + 1) old) in
     let sub : Sub rest (q.items.items ++ rest) =
-    subst (λ (w : List StoredVersion). Sub (w ++ rest) (q.items.items ++ rest)) (none-left c) (sub-behind (up_to c.args.t q.items.items) q.items.items rest (sub-filter (λ x. nat_le x.commit c.args.t) q.items.items))
+    subst (λ (w : List StoredVersion). Sub (w ++ rest) (q.items.items ++ rest)) (none-left c)
+    (sub-behind (up_to c.args.t q.items.items) q.items.items rest (sub-filter (λ x. nat_le x.commit c.args.t) q.items.items))
     in
-    let paged : IsPaged (take i old ++ drop (i + 1) old) [] = shrunk-at old i q [] c.requires.store.paged c.requires.within c.index_mut-page.ensures.value sub tt (λ o. tt) in
+    let paged : IsPaged (take i old ++ drop (i + 1) old) [] =
+    shrunk-at old i q [] c.requires.store.paged c.requires.within c.index_mut-page.ensures.value sub tt (λ o. tt) in
     let long = length-removed old i c.requires.within in
     let count : length c.free.new.pages.items ≡ length (take i old ++ drop (i + 1) old) = ap length (new-pages c) in
     let more : length c.free.new.pool.items ≡ length c.args.pool.now.items + 1 = c.free.ensures.len in
@@ -38,7 +42,12 @@ returns-then-is_empty-clause-store c =
     let pool_capacity : vec_capacity c.free.new.pool ≡ vec_capacity c.args.pool.now = c.free.ensures.pool_capacity in
     let pages_room = c.requires.store.room.pages_room in
     let pool_room = c.requires.store.room.pool_room in
-    record { paged = subst (λ (ps : List Page). IsPaged ps []) (sym (new-pages c)) paged; empty = c.free.ensures.empty; room = record { pages_room = omega arith; pool_room = omega arith } }
+    record {
+      paged = subst (λ (ps : List Page). IsPaged ps []) (sym (new-pages c)) paged;
+      empty = c.free.ensures.empty;
+      room = record
+          { pages_room = omega arith; pool_room = omega arith };
+    }
 
 pub returns-then-is_empty-clause-tail : goal.returns-then-is_empty-clause-tail
 returns-then-is_empty-clause-tail c p e =
@@ -55,7 +64,8 @@ returns-then-is_empty-clause-spare c =
     let old = c.args.pages.now.items in
     let n = length c.args.pool.now.items in
     let m = length c.free.new.pool.items in
-    subst (λ (ps : List Page). spare_of old n ≤ spare_of ps m) (sym (new-pages c)) (spare-gone old c.args.i c.index_mut-page.result.now n m c.requires.within c.index_mut-page.ensures.value c.free.ensures.len)
+    subst (λ (ps : List Page). spare_of old n ≤ spare_of ps m) (sym (new-pages c))
+    (spare-gone old c.args.i c.index_mut-page.result.now n m c.requires.within c.index_mut-page.ensures.value c.free.ensures.len)
 
 pub returns-else-is_empty-clause-store : goal.returns-else-is_empty-clause-store
 returns-else-is_empty-clause-store c =
@@ -64,23 +74,36 @@ returns-else-is_empty-clause-store c =
     let q = c.index_mut-page.result.now in
     let r : Page = record { items = c.drop_later.new.items; due = q.due } in
     let rest = items_of (drop (i + 1) old) in
-    let flat : items_of (r ∷ []) ++ rest ≡ up_to c.args.t q.items.items ++ rest = ap (λ w. w ++ rest) (append-nil r.items.items ∙ c.drop_later.ensures.items) in
+    let flat : items_of (r ∷ []) ++ rest ≡ up_to c.args.t q.items.items ++ rest =
+    ap (λ w. w ++ rest) (append-nil r.items.items ∙ c.drop_later.ensures.items) in
     let part = sub-filter (λ x. nat_le x.commit c.args.t) q.items.items in
-    let sub : Sub (items_of (r ∷ []) ++ rest) (q.items.items ++ rest) = subst (λ (w : List StoredVersion). Sub w (q.items.items ++ rest)) (sym flat) (sub-behind (up_to c.args.t q.items.items) q.items.items rest part) in
+    let sub : Sub (items_of (r ∷ []) ++ rest) (q.items.items ++ rest) =
+    subst (λ (w : List StoredVersion). Sub w (q.items.items ++ rest)) (sym flat)
+    (sub-behind (up_to c.args.t q.items.items) q.items.items rest part) in
     let page = page-at old i q c.requires.store.paged.pages c.requires.within c.index_mut-page.ensures.value in
     let some : 0 < length r.items.items = grind (arith, common_steps) in
     let few = page.few in
-    let shorter : length r.items.items ≤ length q.items.items = rw c.drop_later.ensures.items (length-kept (λ x. nat_le x.commit c.args.t) q.items.items) in
-    let room : 65 ≤ vec_capacity r.items = let cap : vec_capacity r.items ≡ vec_capacity q.items = c.drop_later.ensures.capacity in let was = page.room in omega arith in
+    let shorter : length r.items.items ≤ length q.items.items =
+    rw c.drop_later.ensures.items (length-kept (λ x. nat_le x.commit c.args.t) q.items.items) in
+    let room : 65 ≤ vec_capacity r.items =
+    let cap : vec_capacity r.items ≡ vec_capacity q.items = c.drop_later.ensures.capacity in let was = page.room in omega arith in
     let is_page : IsPage r = record { some = some; few = omega arith; room = room } in
     let paged : IsPaged (take i old ++ ((r ∷ []) ++ drop (i + 1) old)) [] =
     shrunk-at old i q (r ∷ []) c.requires.store.paged c.requires.within c.index_mut-page.ensures.value sub (is_page, tt)
-    (λ o. dues-one r rest (λ u l. subst (λ (w : List StoredVersion). Idle u w rest) (sym c.drop_later.ensures.items) (idle-sub u (up_to c.args.t q.items.items) q.items.items rest part (idle-at old i q c.requires.store.paged c.requires.within c.index_mut-page.ensures.value u l))))
+    (λ o. dues-one r rest
+    (λ u l. subst (λ (w : List StoredVersion). Idle u w rest) (sym c.drop_later.ensures.items)
+    (idle-sub u (up_to c.args.t q.items.items) q.items.items rest part
+    (idle-at old i q c.requires.store.paged c.requires.within c.index_mut-page.ensures.value u l))))
     in
     let long = length-set old i r in
     let pages_room = c.requires.store.room.pages_room in
     let pool_room = c.requires.store.room.pool_room in
-    record { paged = subst (λ (ps : List Page). IsPaged ps []) (sym (set-cut old i r c.requires.within)) paged; empty = c.requires.store.empty; room = record { pages_room = omega arith; pool_room = omega arith } }
+    record {
+      paged = subst (λ (ps : List Page). IsPaged ps []) (sym (set-cut old i r c.requires.within)) paged;
+      empty =
+          c.requires.store.empty;
+      room = record { pages_room = omega arith; pool_room = omega arith };
+    }
 
 pub returns-else-is_empty-clause-spare : goal.returns-else-is_empty-clause-spare
 returns-else-is_empty-clause-spare c =
@@ -89,4 +112,5 @@ returns-else-is_empty-clause-spare c =
     let q = c.index_mut-page.result.now in
     let r : Page = record { items = c.drop_later.new.items; due = q.due } in
     subst (λ (ps : List Page). spare_of old n ≤ spare_of ps n) (sym (set-cut old c.args.i r c.requires.within))
-    (spare-shrunk old c.args.i q r n c.requires.within c.index_mut-page.ensures.value (rw c.drop_later.ensures.items (length-kept (λ x. nat_le x.commit c.args.t) q.items.items)))
+    (spare-shrunk old c.args.i q r n c.requires.within c.index_mut-page.ensures.value
+    (rw c.drop_later.ensures.items (length-kept (λ x. nat_le x.commit c.args.t) q.items.items)))

@@ -18,7 +18,8 @@ loop-i-preserved c =
     let within = before.within in
     record {
       store = c.prune_at.ensures.store;
-      walked = walked-some (kept u) (pruned_before u) old c.loop-i.pages.items c.prune_at.new.pages.items i before c.prune_at.ensures.front c.prune_at.ensures.tail
+      walked = walked-some (kept u) (pruned_before u) old c.loop-i.pages.items c.prune_at.new.pages.items i before c.prune_at.ensures.front
+          c.prune_at.ensures.tail
           (λ q e. sym (kept-before u q.items.items (items_of (drop (i + 1) old)) (order-at old i q c.requires.paged (omega arith) e)));
       spare = (let a = c.loop-i.invariant.spare in let b = c.prune_at.ensures.spare in both a b);
     }

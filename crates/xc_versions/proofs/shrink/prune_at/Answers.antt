@@ -1,4 +1,5 @@
-use Rattle.std.proofs.Common.{◌≡◌, ◌+◌, ◌<◌, ◌≤◌, List, [], ◌∷◌, ◌++◌, length, take, drop, ap, sym, ◌∙◌, subst, arith, append-nil, vec_capacity}
+use Rattle.std.proofs.Common.{◌≡◌, ◌+◌, ◌<◌, ◌≤◌, List, [], ◌∷◌, ◌++◌, length, take, drop, ap, sym, ◌∙◌, subst, arith, append-nil}
+use Rattle.std.proofs.Common.{vec_capacity}
 use Rattle.std.proofs.lemmas.Grind.{common_steps}
 use Rattle.std.proofs.lemmas.Bool.{ltb-true}
 use Rattle.std.proofs.lemmas.List.{length-set, nil_from_length, get_or_default}
@@ -9,7 +10,8 @@ use Rattle.xc_versions.specs.Pages.{items_of, IsPage, IsPaged, spare_of}
 use Rattle.xc_versions.proofs.AddLaws.{set-cut, page-at}
 use Rattle.xc_versions.proofs.PageLaws.{items-from}
 use Rattle.xc_versions.proofs.SubLaws.{Sub, sub-pruned}
-use Rattle.xc_versions.proofs.ShrinkLaws.{shrunk-at, remove-cut, length-removed, behind-removed, idle-at, order-at, pruned-idle, dues-one, idle-from-next, spare-shrunk, spare-gone}
+use Rattle.xc_versions.proofs.ShrinkLaws.{shrunk-at, remove-cut, length-removed, behind-removed, idle-at, order-at, pruned-idle, dues-one}
+use Rattle.xc_versions.proofs.ShrinkLaws.{idle-from-next, spare-shrunk, spare-gone}
 use Rattle.xc_versions.proofs.shrink.prune_at.Goals as goal
 use Rattle.xc_versions.proofs.shrink.prune_at.Goals.{After-free}
 
@@ -20,7 +22,8 @@ returns-then-is_idle-clause-tail c q e =
     let paged = c.requires.store.paged in
     let early = ltb-true c.args.cutoff q.due (sym (c.if-is_idle.ensures q (rw c.deref.ensures.value e))) in
     items-from old c.args.i q c.requires.within e
-    ∙ sym (pruned-idle c.args.cutoff q.items.items rest (order-at old c.args.i q paged c.requires.within e) (idle-at old c.args.i q paged c.requires.within e c.args.cutoff early))
+    ∙ sym (pruned-idle c.args.cutoff q.items.items rest (order-at old c.args.i q paged c.requires.within e)
+    (idle-at old c.args.i q paged c.requires.within e c.args.cutoff early))
 
 new-pages : (c : After-free) → c.free.new.pages.items ≡ take c.args.i c.args.pages.now.items ++ drop (c.args.i + 1) c.args.pages.now.items
 new-pages c = c.free.ensures.pages ∙ remove-cut c.args.pages.now.items c.args.i c.prune.new.self c.requires.within
@@ -36,8 +39,10 @@ returns-then-is_empty-clause-store c =
     let none : r.items.items ≡ [] = nil_from_length r.items.items empty in
     let all_left = c.prune.ensures.items rest (sym (rw c.deref-2.ensures.value at c.first_from-next.ensures)) in
     let gone : pruned_before c.args.cutoff q.items.items rest ≡ rest = sym all_left ∙ ap (λ w. w ++ rest) none in
-    let sub : Sub rest (q.items.items ++ rest) = subst (λ (w : List StoredVersion). Sub w (q.items.items ++ rest)) gone (sub-pruned c.args.cutoff q.items.items rest) in
-    let paged : IsPaged (take i old ++ drop (i + 1) old) [] = shrunk-at old i q [] c.requires.store.paged c.requires.within c.index_mut-page.ensures.value sub tt (λ o. tt) in
+    let sub : Sub rest (q.items.items ++ rest) =
+    subst (λ (w : List StoredVersion). Sub w (q.items.items ++ rest)) gone (sub-pruned c.args.cutoff q.items.items rest) in
+    let paged : IsPaged (take i old ++ drop (i + 1) old) [] =
+    shrunk-at old i q [] c.requires.store.paged c.requires.within c.index_mut-page.ensures.value sub tt (λ o. tt) in
     let long = length-removed old i c.requires.within in
     let count : length c.free.new.pages.items ≡ length (take i old ++ drop (i + 1) old) = ap length (new-pages c) in
     let more : length c.free.new.pool.items ≡ length c.args.pool.now.items + 1 = c.free.ensures.len in
@@ -45,7 +50,12 @@ returns-then-is_empty-clause-store c =
     let pool_capacity : vec_capacity c.free.new.pool ≡ vec_capacity c.args.pool.now = c.free.ensures.pool_capacity in
     let pages_room = c.requires.store.room.pages_room in
     let pool_room = c.requires.store.room.pool_room in
-    record { paged = subst (λ (ps : List Page). IsPaged ps []) (sym (new-pages c)) paged; empty = c.free.ensures.empty; room = record { pages_room = omega arith; pool_room = omega arith } }
+    record {
+      paged = subst (λ (ps : List Page). IsPaged ps []) (sym (new-pages c)) paged;
+      empty = c.free.ensures.empty;
+      room = record
+          { pages_room = omega arith; pool_room = omega arith };
+    }
 
 pub returns-then-is_empty-clause-tail : goal.returns-then-is_empty-clause-tail
 returns-then-is_empty-clause-tail c p e =
@@ -66,7 +76,8 @@ returns-then-is_empty-clause-spare c =
     let old = c.args.pages.now.items in
     let n = length c.args.pool.now.items in
     let m = length c.free.new.pool.items in
-    subst (λ (ps : List Page). spare_of old n ≤ spare_of ps m) (sym (new-pages c)) (spare-gone old c.args.i c.index_mut-page.result.now n m c.requires.within c.index_mut-page.ensures.value c.free.ensures.len)
+    subst (λ (ps : List Page). spare_of old n ≤ spare_of ps m) (sym (new-pages c))
+    (spare-gone old c.args.i c.index_mut-page.result.now n m c.requires.within c.index_mut-page.ensures.value c.free.ensures.len)
 
 pub returns-else-is_empty-clause-store : goal.returns-else-is_empty-clause-store
 returns-else-is_empty-clause-store c =
@@ -78,12 +89,15 @@ returns-else-is_empty-clause-store c =
     let head = sym (rw c.deref-2.ensures.value at c.first_from-next.ensures) in
     let all_left = c.prune.ensures.items rest head in
     let flat : items_of (r ∷ []) ++ rest ≡ r.items.items ++ rest = ap (λ w. w ++ rest) (append-nil r.items.items) in
-    let sub : Sub (items_of (r ∷ []) ++ rest) (q.items.items ++ rest) = subst (λ (w : List StoredVersion). Sub w (q.items.items ++ rest)) (sym (flat ∙ all_left)) (sub-pruned c.args.cutoff q.items.items rest) in
+    let sub : Sub (items_of (r ∷ []) ++ rest) (q.items.items ++ rest) =
+    subst (λ (w : List StoredVersion). Sub w (q.items.items ++ rest)) (sym (flat
+    ∙ all_left)) (sub-pruned c.args.cutoff q.items.items rest) in
     let page = page-at old i q c.requires.store.paged.pages c.requires.within c.index_mut-page.ensures.value in
     let some : 0 < length r.items.items = grind (arith, common_steps) in
     let few = page.few in
     let shorter : length r.items.items ≤ length q.items.items = c.prune.ensures.len in
-    let room : 65 ≤ vec_capacity r.items = let cap : vec_capacity r.items ≡ vec_capacity q.items = c.prune.ensures.capacity in let was = page.room in omega arith in
+    let room : 65 ≤ vec_capacity r.items =
+    let cap : vec_capacity r.items ≡ vec_capacity q.items = c.prune.ensures.capacity in let was = page.room in omega arith in
     let is_page : IsPage r = record { some = some; few = omega arith; room = room } in
     let paged : IsPaged (take i old ++ ((r ∷ []) ++ drop (i + 1) old)) [] =
     shrunk-at old i q (r ∷ []) c.requires.store.paged c.requires.within c.index_mut-page.ensures.value sub (is_page, tt)
@@ -92,11 +106,17 @@ returns-else-is_empty-clause-store c =
     let long = length-set old i r in
     let pages_room = c.requires.store.room.pages_room in
     let pool_room = c.requires.store.room.pool_room in
-    record { paged = subst (λ (ps : List Page). IsPaged ps []) (sym (set-cut old i r c.requires.within)) paged; empty = c.requires.store.empty; room = record { pages_room = omega arith; pool_room = omega arith } }
+    record {
+      paged = subst (λ (ps : List Page). IsPaged ps []) (sym (set-cut old i r c.requires.within)) paged;
+      empty =
+          c.requires.store.empty;
+      room = record { pages_room = omega arith; pool_room = omega arith };
+    }
 
 pub returns-else-is_empty-clause-spare : goal.returns-else-is_empty-clause-spare
 returns-else-is_empty-clause-spare c =
     let old = c.args.pages.now.items in
     let n = length c.args.pool.now.items in
     subst (λ (ps : List Page). spare_of old n ≤ spare_of ps n) (sym (set-cut old c.args.i c.prune.new.self c.requires.within))
-    (spare-shrunk old c.args.i c.index_mut-page.result.now c.prune.new.self n c.requires.within c.index_mut-page.ensures.value c.prune.ensures.len)
+    (spare-shrunk old c.args.i c.index_mut-page.result.now c.prune.new.self n c.requires.within c.index_mut-page.ensures.value
+    c.prune.ensures.len)

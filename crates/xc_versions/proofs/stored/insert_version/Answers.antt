@@ -12,4 +12,5 @@ returns-clause-items c =
     put ∙ insert-with c.args.version c.place_of-at.result c.args.items.now.items s
 
 pub returns-clause-ordered : goal.returns-clause-ordered
-returns-clause-ordered c = rw (returns-clause-items c) (with-in_order c.args.version c.args.items.now.items c.requires.ordered c.requires.fresh)
+returns-clause-ordered c =
+    rw (returns-clause-items c) (with-in_order c.args.version c.args.items.now.items c.requires.ordered c.requires.fresh)

@@ -10,7 +10,9 @@ add-requires-clause-fresh c =
     let v : StoredVersion = stored c.in_ok-key.key (c.loop-key.commit + 1) 0 0 c.ok.result in
     let i = c.loop-key.key-index in
     let count : c.loop-key.commit ≡ i = c.loop-key.invariant.count in
-    new-later v c.loop-key.versions.items (Each-weaker (λ x. x.commit ≤ i) (λ x. x.commit < v.commit) (λ x h. omega arith) c.loop-key.versions.items c.loop-key.invariant.earlier)
+    new-later v c.loop-key.versions.items
+    (Each-weaker (λ x. x.commit ≤ i) (λ x. x.commit < v.commit) (λ x h. omega arith) c.loop-key.versions.items
+    c.loop-key.invariant.earlier)
 
 pub loop-key-preserved : goal.loop-key-preserved
 loop-key-preserved c =
@@ -22,6 +24,7 @@ loop-key-preserved c =
     record {
       count = omega arith;
       earlier = rw c.add.ensures.items (each-with (λ x. x.commit ≤ i + 1) v c.loop-key.versions.items (omega arith)
-          (Each-weaker (λ x. x.commit ≤ i) (λ x. x.commit ≤ i + 1) (λ x h. omega arith) c.loop-key.versions.items c.loop-key.invariant.earlier));
+          (Each-weaker (λ x. x.commit ≤ i) (λ x. x.commit ≤ i + 1) (λ x h. omega arith) c.loop-key.versions.items
+          c.loop-key.invariant.earlier));
       room = omega arith;
     }

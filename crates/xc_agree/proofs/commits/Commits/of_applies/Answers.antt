@@ -11,9 +11,12 @@ kept : (c : After-dedup_by_key) → c.dedup_by_key.new.self.items ≡ dedup same
 kept c = dedup_same _ same_txn _ (λ x y b f x' y' k. search rules) _ _ c.dedup_by_key.ensures.filtered
 
 rises : (c : After-dedup_by_key) → Rises c.dedup_by_key.new.self.items
-rises c = subst Rises (sym (kept c)) (rises-dedup c.sort_by_key.new.self.items (sorted-by-txn c.sort_by_key.new.self.items c.in_ok-sort_by_key.ensures.sorted (λ a r f k. search rules)))
+rises c = subst Rises (sym (kept c))
+    (rises-dedup c.sort_by_key.new.self.items
+    (sorted-by-txn c.sort_by_key.new.self.items c.in_ok-sort_by_key.ensures.sorted (λ a r f k. search rules)))
 
-fields : {X : Type 0} (field : Commit → X) (c : After-dedup_by_key) (n : ℕ) → field_of field c.dedup_by_key.new.self.items n ≡ field_of field c.args.applies.items n
+fields : {X : Type 0} (field : Commit → X) (c : After-dedup_by_key) (n : ℕ)
+    → field_of field c.dedup_by_key.new.self.items n ≡ field_of field c.args.applies.items n
 fields field c n =
     ap (λ cs. field_of field cs n) (kept c) ∙ field-dedup field c.sort_by_key.new.self.items n
     ∙ field-sorted field c.args.applies.items c.sort_by_key.new.self.items c.in_ok-sort_by_key.ensures.stable (λ a r f k. search rules) n

@@ -8,5 +8,6 @@ use Rattle.xc_agree.proofs.look.Look.begin.Given as goal
 abbrev pub invariant-loop-x : goal.invariant-loop-x
 invariant-loop-x l = record {
   place : l.self.place ≡ 0;
-  begun : (commits : List Commit) → IsIdle l.initial.self commits → InSlots commits l.held → Beginning l.self commits l.header (take l.x-index l.held);
+  begun : (commits : List Commit) → IsIdle l.initial.self commits → InSlots commits l.held
+      → Beginning l.self commits l.header (take l.x-index l.held);
 }

@@ -7,6 +7,8 @@ use Rattle.xc_agree.proofs.look.Look.clear.Goals as goal
 
 pub returns : goal.returns
 returns c = λ commits seen h.
-    cleared c.args.self.now (record c.args.self.now { waiting = c.stop_all.new.waiting; began = c.clear.new.self }) commits seen h c.stop_all.ensures.len
-    (subst (λ (ws : List Waiter). (i : ℕ) → waits_at c.stop_all.new.waiting.items i ≡ (if is_slot_of i ws then None else waits_at c.args.self.now.waiting.items i)) c.as_slice.ensures.value c.stop_all.ensures.since)
+    cleared c.args.self.now (record c.args.self.now { waiting = c.stop_all.new.waiting; began = c.clear.new.self }) commits seen h
+    c.stop_all.ensures.len
+    (subst (λ (ws : List Waiter). (i : ℕ) → waits_at c.stop_all.new.waiting.items i ≡
+    (if is_slot_of i ws then None else waits_at c.args.self.now.waiting.items i)) c.as_slice.ensures.value c.stop_all.ensures.since)
     c.clear.ensures.items

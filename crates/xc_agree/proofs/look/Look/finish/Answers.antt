@@ -18,5 +18,7 @@ pub returns : goal.returns
 returns c = λ seen h.
     let items : List Waiter = c.as_slice-waiter-items.result.now in
     try-all c.args.self.now c.args.commits.now seen c.loop-waiter.found h
-    (subst (λ (ws : List Waiter). IsLeast c.loop-waiter.found (λ n. option_and_then (λ x. kind_tried (is_among n (map txn_of ws)) x (seen n x)) (time_of c.args.commits.now n)))
-    (take_all c.loop-waiter.waiter-index items c.loop-waiter-test.false ∙ c.as_slice-waiter-items.ensures.value) (c.loop-waiter.invariant seen h))
+    (subst (λ (ws : List Waiter). IsLeast c.loop-waiter.found
+    (λ n. option_and_then (λ x. kind_tried (is_among n (map txn_of ws)) x (seen n x)) (time_of c.args.commits.now n)))
+    (take_all c.loop-waiter.waiter-index items c.loop-waiter-test.false
+    ∙ c.as_slice-waiter-items.ensures.value) (c.loop-waiter.invariant seen h))

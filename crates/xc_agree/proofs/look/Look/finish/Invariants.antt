@@ -7,4 +7,7 @@ use Rattle.xc_agree.proofs.look.Look.finish.Given as goal
 
 abbrev pub invariant-loop-waiter : goal.invariant-loop-waiter
 invariant-loop-waiter l =
-    (seen : ℕ → ℕ → Seen) → IsLook l.self l.commits seen → IsLeast l.found (λ n. option_and_then (λ c. kind_tried (is_among n (map txn_of (take l.waiter-index l.waiter-items))) c (seen n c)) (time_of l.commits n))
+    (seen : ℕ → ℕ → Seen) → IsLook l.self l.commits seen
+    → IsLeast l.found
+    (λ n. option_and_then (λ c. kind_tried (is_among n (map txn_of (take l.waiter-index l.waiter-items))) c (seen n c))
+    (time_of l.commits n))

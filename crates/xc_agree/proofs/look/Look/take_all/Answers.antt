@@ -10,5 +10,7 @@ loop-r-preserved c = (
   omega (arith, c.in_ok-take.ensures.place),
   λ seen h.
       look-more c.take.new.self c.args.commits.now seen c.args.records.now c.loop-r.r-index c.r-item.result c.loop-r-test.true c.r-item.is
-      (c.in_ok-take.ensures.taken (λ n x. fold (see n x (undone_of c.args.commits.now n)) (seen n x) (take c.loop-r.r-index c.args.records.now)) (c.loop-r.invariant.1 seen h)),
+      (c.in_ok-take.ensures.taken
+      (λ n x. fold (see n x (undone_of c.args.commits.now n)) (seen n x) (take c.loop-r.r-index c.args.records.now))
+      (c.loop-r.invariant.1 seen h)),
 )

@@ -15,7 +15,8 @@ loop-r-preserved c =
     let r = c.r-item.result in
     let more = add_item [] c.args.records.now c.loop-r.r-index r c.loop-r-test.true c.r-item.is in
     let w = sym (writes-append front (r ∷ [])) ∙ ap writes more in (
-      c.in_ok-add.ensures.items ∙ ap (λ xs. xs ++ applies_in (r ∷ [])) c.loop-r.invariant.0 ∙ append_assoc c.args.self.now.items.items (applies_in front) (applies_in (r ∷ []))
+      c.in_ok-add.ensures.items ∙ ap (λ xs. xs ++ applies_in (r ∷ [])) c.loop-r.invariant.0
+          ∙ append_assoc c.args.self.now.items.items (applies_in front) (applies_in (r ∷ []))
           ∙ ap (λ xs. c.args.self.now.items.items ++ xs) (sym (applies-append front (r ∷ [])) ∙ ap applies_in more),
       omega (arith, c.in_ok-add.ensures.writes),
     )

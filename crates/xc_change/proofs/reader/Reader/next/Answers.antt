@@ -14,7 +14,13 @@ returns-clause-fits g c =
     let cs = g.F.Feed.counts c.args.feed.now in
     let gave : Gave hs cs c.args.max c.args.self.now c.in-Ok.records =
     subst (λ (r : ReaderState). FitsFeed hs cs r → Gave hs cs c.args.max r c.in-Ok.records) c.self.view_is
-    (λ fits. record { fits = fits; order = c.self.invariant; count = c.in-Ok.ensures.count; keep = c.in-Ok.ensures.keep; some = c.requires.some }) c.requires.fits in
+    (λ fits. record {
+      fits = fits;
+      order = c.self.invariant;
+      count = c.in-Ok.ensures.count;
+      keep = c.in-Ok.ensures.keep;
+      some = c.requires.some;
+    }) c.requires.fits in
     rw (c.fetch.ensures.same_headers, c.fetch.ensures.same_counts, c.take.ensures.looked) (fits-looked _ _ _ _ _ gave)
 
 pub returns-clause-next : goal.returns-clause-next
@@ -23,7 +29,13 @@ returns-clause-next g c =
     let cs = g.F.Feed.counts c.args.feed.now in
     let gave : Gave hs cs c.args.max c.args.self.now c.in-Ok.records =
     subst (λ (r : ReaderState). FitsFeed hs cs r → Gave hs cs c.args.max r c.in-Ok.records) c.self.view_is
-    (λ fits. record { fits = fits; order = c.self.invariant; count = c.in-Ok.ensures.count; keep = c.in-Ok.ensures.keep; some = c.requires.some }) c.requires.fits in
+    (λ fits. record {
+      fits = fits;
+      order = c.self.invariant;
+      count = c.in-Ok.ensures.count;
+      keep = c.in-Ok.ensures.keep;
+      some = c.requires.some;
+    }) c.requires.fits in
     rw c.take.ensures.looked (next-is _ _ _ _ _ c.take.result gave c.take.ensures.taken)
 
 pub returns-clause-logs : goal.returns-clause-logs

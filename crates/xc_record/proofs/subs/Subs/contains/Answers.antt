@@ -6,8 +6,10 @@ use Rattle.xc_record.proofs.subs.Subs.contains.Goals.{then-sub-lt1-via-then-sub-
 
 pub returns-then-sub-lt1 : goal.returns-then-sub-lt1
 returns-then-sub-lt1 c = rw (← c.self.view_is) (elim c.then-sub-lt1.branch [
-  | then-sub-lt1-via-then-sub-lt1 w ↦ sym (none-outside c.self.inside.bits c.args.sub (λ low high. absurd (omega (arith, w.if-sub-lt1.true))))
-  | then-sub-lt1-via-else-sub-lt1+then-sub-gt-LAST_SUB w ↦ sym (none-outside c.self.inside.bits c.args.sub (λ low high. absurd (omega (arith, w.if-sub-gt-LAST_SUB.true))))
+  | then-sub-lt1-via-then-sub-lt1 w ↦ sym
+      (none-outside c.self.inside.bits c.args.sub (λ low high. absurd (omega (arith, w.if-sub-lt1.true))))
+  | then-sub-lt1-via-else-sub-lt1+then-sub-gt-LAST_SUB w ↦ sym
+      (none-outside c.self.inside.bits c.args.sub (λ low high. absurd (omega (arith, w.if-sub-gt-LAST_SUB.true))))
 ])
 
 pub returns : goal.returns

@@ -6,4 +6,8 @@ use Rattle.xc_text.proofs.CutLaws.{not_over}
 use Rattle.xc_text.proofs.cut.Words.end.Goals as goal
 
 pub returns-in-Some : goal.returns-in-Some
-returns-in-Some c = (refl, ap is_over (sym c.self.view_is ∙ ap (λ rest. option_map_or (λ b. split_on 32 b.now) rest []) c.in-Some.is) ∙ not_over c.in-Some.field-0.now)
+returns-in-Some c = (
+  refl,
+  ap is_over (sym c.self.view_is ∙ ap (λ rest. option_map_or (λ b. split_on 32 b.now) rest []) c.in-Some.is)
+      ∙ not_over c.in-Some.field-0.now,
+)

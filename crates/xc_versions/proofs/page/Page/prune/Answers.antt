@@ -10,9 +10,11 @@ loop-i-preserved-then-commit-cutoff c =
     let old = c.args.self.now.items.items in
     let items = c.loop-i.self.items.items in
     let same : c.loop-i.i ≡ (c.loop-i.i - 1) + 1 = omega arith in
-    let before = subst (λ (k : ℕ). Going c.args.cutoff c.args.next old items c.loop-i.behind c.loop-i.due k) same c.loop-i.invariant.going in
+    let before = subst (λ (k : ℕ). Going c.args.cutoff c.args.next old items c.loop-i.behind c.loop-i.due k) same c.loop-i.invariant.going
+    in
     record {
-      going = rw c.remove.ensures.items (going-removed c.args.cutoff c.args.next old items c.loop-i.behind c.loop-i.due (c.loop-i.i - 1) x before c.index.ensures
+      going = rw c.remove.ensures.items
+          (going-removed c.args.cutoff c.args.next old items c.loop-i.behind c.loop-i.due (c.loop-i.i - 1) x before c.index.ensures
           (ap (is_due c.args.cutoff) (sym c.in-Some.ensures) ∙ le-leb c.in-Some.commit c.args.cutoff c.if-commit-cutoff.true));
       capacity = c.remove.ensures.capacity ∙ c.loop-i.invariant.capacity;
     }
@@ -24,11 +26,13 @@ loop-i-preserved-in-Some-2 c =
     let items = c.loop-i.self.items.items in
     let commit = c.in-Some.commit in
     let same : c.loop-i.i ≡ (c.loop-i.i - 1) + 1 = omega arith in
-    let before = subst (λ (k : ℕ). Going c.args.cutoff c.args.next old items c.loop-i.behind c.loop-i.due k) same c.loop-i.invariant.going in
+    let before = subst (λ (k : ℕ). Going c.args.cutoff c.args.next old items c.loop-i.behind c.loop-i.due k) same c.loop-i.invariant.going
+    in
     let is_least : c.min-due.result ≡ min c.loop-i.due commit = c.min-due.ensures in
     let late = c.if-commit-cutoff.false in
     record {
-      going = going-kept c.args.cutoff c.args.next old items c.loop-i.behind c.loop-i.due c.min-due.result (c.loop-i.i - 1) x before c.index.ensures
+      going = going-kept c.args.cutoff c.args.next old items c.loop-i.behind c.loop-i.due c.min-due.result (c.loop-i.i - 1) x before
+          c.index.ensures
           (ap (is_due c.args.cutoff) (sym c.in-Some.ensures) ∙ lt-leb commit c.args.cutoff (omega arith))
           (λ w l. (omega arith, ap (is_due w) (sym c.in-Some.ensures) ∙ lt-leb commit w (omega arith)));
       capacity = c.loop-i.invariant.capacity;
@@ -40,9 +44,11 @@ loop-i-preserved c =
     let old = c.args.self.now.items.items in
     let items = c.loop-i.self.items.items in
     let same : c.loop-i.i ≡ (c.loop-i.i - 1) + 1 = omega arith in
-    let before = subst (λ (k : ℕ). Going c.args.cutoff c.args.next old items c.loop-i.behind c.loop-i.due k) same c.loop-i.invariant.going in
+    let before = subst (λ (k : ℕ). Going c.args.cutoff c.args.next old items c.loop-i.behind c.loop-i.due k) same c.loop-i.invariant.going
+    in
     record {
-      going = going-kept c.args.cutoff c.args.next old items c.loop-i.behind c.loop-i.due c.loop-i.due (c.loop-i.i - 1) x before c.index.ensures
+      going = going-kept c.args.cutoff c.args.next old items c.loop-i.behind c.loop-i.due c.loop-i.due (c.loop-i.i - 1) x before
+          c.index.ensures
           (ap (is_due c.args.cutoff) (sym c.in-None.ensures)) (λ w l. (l, ap (is_due w) (sym c.in-None.ensures)));
       capacity = c.loop-i.invariant.capacity;
     }

@@ -12,7 +12,8 @@ returns-then-eq-clause-value c =
     let xs = items_of c.self.inside.pages.items in
     let last = rw c.deref.ensures.value at c.in-Some.ensures in
     c.as_ref.ensures.value ∙ ap (λ b. cond b x.value None) c.if-eq.ensures ∙ ap (value_at k) last
-    ∙ sym (ap (λ s. shown c.args.t (stored_at k s.items)) (sym c.self.view_is) ∙ shown-reaching k c.args.t xs c.self.invariant.paged.ordered)
+    ∙ sym (ap (λ s. shown c.args.t (stored_at k s.items)) (sym c.self.view_is)
+    ∙ shown-reaching k c.args.t xs c.self.invariant.paged.ordered)
 
 pub returns-else-eq-clause-value : goal.returns-else-eq-clause-value
 returns-else-eq-clause-value c =
@@ -21,11 +22,14 @@ returns-else-eq-clause-value c =
     let xs = items_of c.self.inside.pages.items in
     let last = rw c.deref.ensures.value at c.in-Some.ensures in
     ap (λ b. cond b x.value None) c.if-eq.ensures ∙ ap (value_at k) last
-    ∙ sym (ap (λ s. shown c.args.t (stored_at k s.items)) (sym c.self.view_is) ∙ shown-reaching k c.args.t xs c.self.invariant.paged.ordered)
+    ∙ sym (ap (λ s. shown c.args.t (stored_at k s.items)) (sym c.self.view_is)
+    ∙ shown-reaching k c.args.t xs c.self.invariant.paged.ordered)
 
 pub returns-in-None-clause-value : goal.returns-in-None-clause-value
 returns-in-None-clause-value c =
     let k = c.args.key.now in
     let xs = items_of c.self.inside.pages.items in
     let last = rw c.deref.ensures.value at c.in-None.ensures in
-    ap (value_at k) last ∙ sym (ap (λ s. shown c.args.t (stored_at k s.items)) (sym c.self.view_is) ∙ shown-reaching k c.args.t xs c.self.invariant.paged.ordered)
+    ap (value_at k) last
+    ∙ sym (ap (λ s. shown c.args.t (stored_at k s.items)) (sym c.self.view_is)
+    ∙ shown-reaching k c.args.t xs c.self.invariant.paged.ordered)

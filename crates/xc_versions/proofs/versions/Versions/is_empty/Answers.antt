@@ -12,5 +12,6 @@ returns-clause-none c =
     let some = some-pages ps c.self.invariant.paged.pages in
     let few = few-pages ps c.self.invariant.paged.pages in (
       λ t. nil_from_length c.args.self.now.items (let none : length ps ≡ 0 = grind (arith, common_steps) in omega arith),
-      λ e. let none : length c.args.self.now.items ≡ 0 = ap length e in let empty : length ps ≡ 0 = omega arith in grind (arith, common_steps),
+      λ e. let none : length c.args.self.now.items ≡ 0 =
+          ap length e in let empty : length ps ≡ 0 = omega arith in grind (arith, common_steps),
     )

@@ -1,6 +1,8 @@
 -- Well-formed logs make a feed, and their records keep their headers.
-use Rattle.std.proofs.Common.{◌≡◌, ℕ, zero, suc, ◌+◌, ◌-◌, ◌<◌, ◌≤◌, Bool, true, false, List, [], ◌∷◌, length, get_or, inl, inr, take, drop, map, refl, sym, ap, ◌∙◌, subst, add-zero, zero-add, arith}
-use Rattle.std.specs.Prelude.{Option, Some, None, ◌⊎◌, IsTrue, IsSome, is_some, slice_get, slice_index, sum_by, ◌&&◌, ◌==◌, nat_le, if◌then◌else◌, option_map}
+use Rattle.std.proofs.Common.{◌≡◌, ℕ, zero, suc, ◌+◌, ◌-◌, ◌<◌, ◌≤◌, Bool, true, false, List, [], ◌∷◌, length, get_or, inl, inr, take, drop}
+use Rattle.std.proofs.Common.{map, refl, sym, ap, ◌∙◌, subst, add-zero, zero-add, arith}
+use Rattle.std.specs.Prelude.{Option, Some, None, ◌⊎◌, IsTrue, IsSome, is_some, slice_get, slice_index, sum_by, ◌&&◌, ◌==◌, nat_le}
+use Rattle.std.specs.Prelude.{if◌then◌else◌, option_map}
 use Rattle.std.specs.Bool.{beq}
 use Rattle.std.specs.Option.{option_map_or}
 use Rattle.std.proofs.lemmas.List.{length-map}
@@ -20,7 +22,8 @@ use Rattle.xc_record.specs.declared.record.Tablet.{Tablet}
 use Rattle.xc_record.specs.declared.record.Logs.{Logs}
 use Rattle.xc_record.specs.Order.{is_split}
 use Rattle.xc_record.specs.Headers.{children, are_headers}
-use Rattle.xc_record.specs.Valid.{is_valid, headers_of, tablet_fits, record_fits, kind_fits, op_fits, ops_fit, ops_keep, keeps_header, ends_fit, is_time, is_txn}
+use Rattle.xc_record.specs.Valid.{is_valid, headers_of, tablet_fits, record_fits, kind_fits, op_fits, ops_fit, ops_keep, keeps_header}
+use Rattle.xc_record.specs.Valid.{ends_fit, is_time, is_txn}
 use Rattle.xc_logs.specs.Feed.{IsFeed, KeepHeader, counts_of, fetched, kind_keeps, keep_from}
 use Rattle.xc_logs.proofs.ValidFacts.{valid_parts, headers_parts}
 use Rattle.xc_record.proofs.ListLaws.{all-at}
@@ -39,7 +42,8 @@ ops_fit-keep header ops e =
     let few = and_parts (nat_le (length ops) 64) (list_all (op_fits header) ops) some.1 in
     and_from _ _ few.0 (ops-hold header ops few.1)
 
-fit_keeps : (header : Header) (pair : Option (Header × Header)) (kind : Kind) → kind_fits header pair kind ≡ true → keeps_header header pair kind ≡ true
+fit_keeps : (header : Header) (pair : Option (Header × Header)) (kind : Kind) → kind_fits header pair kind ≡ true
+    → keeps_header header pair kind ≡ true
 fit_keeps header pair (Write ops) fit = ops_fit-keep header ops fit
 fit_keeps header pair (Intent txn sub ops) fit =
     let rest = and_parts (is_txn txn) (nat_le sub 64 && ops_fit header ops) fit in
@@ -50,22 +54,26 @@ fit_keeps header pair (Safe value) fit = refl
 fit_keeps header pair (Split at left right) fit = fit
 
 -- a split that ends the tablet, or another record that doesn't
-keeps : (header : Header) (pair : Option (Header × Header)) (ends : Bool) (kind : Kind) → is_split kind ≡ ends → kind_fits header pair kind ≡ true → kind_keeps header pair ends kind ≡ true
+keeps : (header : Header) (pair : Option (Header × Header)) (ends : Bool) (kind : Kind) → is_split kind ≡ ends
+    → kind_fits header pair kind ≡ true → kind_keeps header pair ends kind ≡ true
 keeps header pair ends kind same fit = and_from _ _ (rw same (beq-same ends)) (fit_keeps header pair kind fit)
 
-no_end : (has : Bool) (number count : ℕ) (rs : List Record) → number + suc (length rs) ≡ count + 1 → ends_fit has rs ≡ true → number == count && has ≡ false
+no_end : (has : Bool) (number count : ℕ) (rs : List Record) → number + suc (length rs) ≡ count + 1 → ends_fit has rs ≡ true
+    → number == count && has ≡ false
 no_end true number count [] size e = cc
 no_end false number count [] size e = and-false (number == count)
 no_end has number count (r ∷ rs) size e = let apart : number == count ≡ false = ne_eqb number count (λ is. omega arith) in rw apart refl
 
-keep_none : (header : Header) (pair : Option (Header × Header)) (count number : ℕ) (rs : List Record) → length rs ≡ 0 → keep_from header pair count number rs ≡ true
+keep_none : (header : Header) (pair : Option (Header × Header)) (count number : ℕ) (rs : List Record) → length rs ≡ 0
+    → keep_from header pair count number rs ≡ true
 keep_none header pair count number [] e = refl
 keep_none header pair count number (r ∷ rs) e = absurd (omega arith)
 
 keeps_all : (header : Header) (pair : Option (Header × Header)) (count number : ℕ) (rs : List Record) → number + length rs ≡ count + 1
     → list_all (record_fits header pair) rs ≡ true → ends_fit (is_some pair) rs ≡ true → keep_from header pair count number rs ≡ true
 keeps_all header pair count number [] size fit ends = refl
-keeps_all header pair count number (r ∷ rs) size fit ends = go (is_split r.kind) refl ends (keeps_all header pair count (number + 1) rs (omega arith) parts.1)
+keeps_all header pair count number (r ∷ rs) size fit ends =
+    go (is_split r.kind) refl ends (keeps_all header pair count (number + 1) rs (omega arith) parts.1)
   where
     parts : (record_fits header pair r ≡ true) × (list_all (record_fits header pair) rs ≡ true)
     parts = and_parts _ _ fit
@@ -74,28 +82,35 @@ keeps_all header pair count number (r ∷ rs) size fit ends = go (is_split r.kin
     kind = (and_parts (is_time r.time) (kind_fits header pair r.kind) parts.0).1
 
     go : (b : Bool) → is_split r.kind ≡ b → (if b then (is_some pair && length rs == 0) else ends_fit (is_some pair) rs) ≡ true
-        → (ends_fit (is_some pair) rs ≡ true → keep_from header pair count (number + 1) rs ≡ true) → keep_from header pair count number (r ∷ rs) ≡ true
+        → (ends_fit (is_some pair) rs ≡ true → keep_from header pair count (number + 1) rs ≡ true)
+        → keep_from header pair count number (r ∷ rs) ≡ true
     go true is last later =
         let end = and_parts (is_some pair) (length rs == 0) last in
         let none : length rs ≡ 0 = eqb-true (length rs) 0 end.1 in
-        and_from _ _ (keeps header pair _ r.kind (is ∙ sym (and_from _ _ (eq-eqb number count (omega arith)) end.0)) kind) (keep_none header pair count (number + 1) rs none)
-    go false is rest later = and_from _ _ (keeps header pair _ r.kind (is ∙ sym (no_end (is_some pair) number count rs size rest)) kind) (later rest)
+        and_from _ _ (keeps header pair _ r.kind (is
+        ∙ sym (and_from _ _ (eq-eqb number count (omega arith)) end.0)) kind) (keep_none header pair count (number + 1) rs none)
+    go false is rest later =
+        and_from _ _ (keeps header pair _ r.kind (is ∙ sym (no_end (is_some pair) number count rs size rest)) kind) (later rest)
 
 -- ---- the rest and the front of records that keep the header
 
-pub keep_from-drop : (header : Header) (pair : Option (Header × Header)) (count number k : ℕ) (rs : List Record) → keep_from header pair count number rs ≡ true → keep_from header pair count (number + k) (drop k rs) ≡ true
+pub keep_from-drop : (header : Header) (pair : Option (Header × Header)) (count number k : ℕ) (rs : List Record)
+    → keep_from header pair count number rs ≡ true → keep_from header pair count (number + k) (drop k rs) ≡ true
 keep_from-drop header pair count number zero rs e = subst (λ n. keep_from header pair count n rs ≡ true) (sym (add-zero number)) e
 keep_from-drop header pair count number (suc k) [] e = refl
 keep_from-drop header pair count number (suc k) (r ∷ rs) e =
-    let parts = and_parts (kind_keeps header pair (number == count && is_some pair) r.kind) (keep_from header pair count (number + 1) rs) e in
+    let parts = and_parts (kind_keeps header pair (number == count && is_some pair) r.kind) (keep_from header pair count (number + 1) rs) e
+    in
     let on : number + 1 + k ≡ number + suc k = omega arith in
     subst (λ n. keep_from header pair count n (drop k rs) ≡ true) on (keep_from-drop header pair count (number + 1) k rs parts.1)
 
-pub keep_from-take : (header : Header) (pair : Option (Header × Header)) (count number k : ℕ) (rs : List Record) → keep_from header pair count number rs ≡ true → keep_from header pair count number (take k rs) ≡ true
+pub keep_from-take : (header : Header) (pair : Option (Header × Header)) (count number k : ℕ) (rs : List Record)
+    → keep_from header pair count number rs ≡ true → keep_from header pair count number (take k rs) ≡ true
 keep_from-take header pair count number zero rs e = refl
 keep_from-take header pair count number (suc k) [] e = refl
 keep_from-take header pair count number (suc k) (r ∷ rs) e =
-    let parts = and_parts (kind_keeps header pair (number == count && is_some pair) r.kind) (keep_from header pair count (number + 1) rs) e in
+    let parts = and_parts (kind_keeps header pair (number == count && is_some pair) r.kind) (keep_from header pair count (number + 1) rs) e
+    in
     and_from _ _ parts.0 (keep_from-take header pair count (number + 1) k rs parts.1)
 
 -- ---- a tablet by its number
@@ -103,7 +118,8 @@ keep_from-take header pair count number (suc k) (r ∷ rs) e =
 number_is : (hs : List Header) (i : ℕ) (h : Header) → are_headers hs ≡ true → slice_get hs i ≡ Some h → h.id ≡ i
 number_is hs i h e there = Numbered-at 0 hs i h (headers_fit-all hs (headers_parts hs e).1).1.numbered there ∙ zero-add i
 
-count_at : (ts : List Tablet) (i : ℕ) (t : Tablet) → slice_get ts i ≡ Some t → slice_index (map (λ (t : Tablet). length t.records) ts) i ≡ length t.records
+count_at : (ts : List Tablet) (i : ℕ) (t : Tablet) → slice_get ts i ≡ Some t
+    → slice_index (map (λ (t : Tablet). length t.records) ts) i ≡ length t.records
 count_at [] i t there = cc
 count_at (x ∷ ts) zero t there = let same : x ≡ t = cc in ap (λ (y : Tablet). length y.records) same
 count_at (x ∷ ts) (suc i) t there = count_at ts i t there
@@ -113,7 +129,8 @@ past_count [] i past = refl
 past_count (x ∷ ts) zero past = absurd (omega arith)
 past_count (x ∷ ts) (suc i) past = past_count ts i (omega arith)
 
-count_small : (ts : List Tablet) (i : ℕ) → slice_index (map (λ (t : Tablet). length t.records) ts) i ≤ sum_by (λ (t : Tablet). length t.records) ts
+count_small : (ts : List Tablet) (i : ℕ)
+    → slice_index (map (λ (t : Tablet). length t.records) ts) i ≤ sum_by (λ (t : Tablet). length t.records) ts
 count_small ts i = go (slice_get_cases ts i).1
   where
     go : ((x : Tablet) × (i < length ts) × (slice_get ts i ≡ Some x) × (get_or ts i x ≡ x)) ⊎ ((length ts ≤ i) × (slice_get ts i ≡ None))
@@ -134,10 +151,12 @@ record IsTabletOf (logs : Logs) (id : ℕ) (t : Tablet) : Type 0 where
 tablet_of : (logs : Logs) (id : ℕ) (t : Tablet) → IsTrue (is_valid logs) → slice_get logs.tablets id ≡ Some t → IsTabletOf logs id t
 tablet_of logs id t valid there =
     let well = valid_parts logs valid in
-    let header : slice_get (headers_of logs.tablets) id ≡ Some t.header = get_of_headers logs.tablets id ∙ ap (option_map (λ (t : Tablet). t.header)) there in
+    let header : slice_get (headers_of logs.tablets) id ≡ Some t.header =
+    get_of_headers logs.tablets id ∙ ap (option_map (λ (t : Tablet). t.header)) there in
     let number : t.header.id ≡ id = number_is (headers_of logs.tablets) id t.header well.headers header in
     let all = all-at (tablet_fits (headers_of logs.tablets)) logs.tablets id t well.tablets there in
-    let parts = and_parts (list_all (record_fits t.header (children (headers_of logs.tablets) t.header.id)) t.records) (ends_fit (is_some (children (headers_of logs.tablets) t.header.id)) t.records) all in
+    let parts = and_parts (list_all (record_fits t.header (children (headers_of logs.tablets) t.header.id)) t.records)
+    (ends_fit (is_some (children (headers_of logs.tablets) t.header.id)) t.records) all in
     record {
       header = header;
       number = number;
@@ -153,7 +172,8 @@ some_records has [] e end = absurd (both_ways has (not-true has end) e)
 some_records has (r ∷ rs) e end = omega arith
 
 parent_counts : (logs : Logs) (id : ℕ) → IsTrue (is_valid logs) → id < length logs.tablets → IsSome (children (headers_of logs.tablets) id)
-    → ((x : Tablet) × (id < length logs.tablets) × (slice_get logs.tablets id ≡ Some x) × (get_or logs.tablets id x ≡ x)) ⊎ ((length logs.tablets ≤ id) × (slice_get logs.tablets id ≡ None))
+    → ((x : Tablet) × (id < length logs.tablets) × (slice_get logs.tablets id ≡ Some x) × (get_or logs.tablets id x ≡ x)) ⊎
+    ((length logs.tablets ≤ id) × (slice_get logs.tablets id ≡ None))
     → 1 ≤ slice_index (counts_of logs) id
 parent_counts logs id valid within has (inl (t, small, there, here)) =
     let tablet = tablet_of logs id t valid there in
@@ -169,7 +189,8 @@ feed_of logs valid =
       fit = well.headers;
       each = length-map logs.tablets _ ∙ sym (length-map logs.tablets _);
       small = λ id. let least = count_small logs.tablets id in let most = well.records in omega arith;
-      parents = λ id within has. parent_counts logs id valid (omega (arith, within, length-map logs.tablets (λ (t : Tablet). t.header))) has (slice_get_cases logs.tablets id).1;
+      parents = λ id within has. parent_counts logs id valid (omega (arith, within, length-map logs.tablets (λ (t : Tablet). t.header))) has
+          (slice_get_cases logs.tablets id).1;
       told = record { valid = valid; headers_are = refl; counts_are = refl };
     }
 
@@ -178,9 +199,11 @@ kept : (logs : Logs) (id : ℕ) (t : Tablet) (from max : ℕ) → IsTrue (is_val
 kept logs id t from max valid there first =
     let tablet = tablet_of logs id t valid there in
     let pair = children (headers_of logs.tablets) id in
-    let whole : keep_from t.header pair (length t.records) 1 t.records ≡ true = keeps_all t.header pair (length t.records) 1 t.records (omega arith) tablet.fit tablet.end in
+    let whole : keep_from t.header pair (length t.records) 1 t.records ≡ true =
+    keeps_all t.header pair (length t.records) 1 t.records (omega arith) tablet.fit tablet.end in
     let on : 1 + (from - 1) ≡ from = omega arith in
-    let rest = subst (λ n. keep_from t.header pair (length t.records) n (drop (from - 1) t.records) ≡ true) on (keep_from-drop t.header pair (length t.records) 1 (from - 1) t.records whole) in
+    let rest = subst (λ n. keep_from t.header pair (length t.records) n (drop (from - 1) t.records) ≡ true) on
+    (keep_from-drop t.header pair (length t.records) 1 (from - 1) t.records whole) in
     let front = keep_from-take t.header pair (length t.records) from max (drop (from - 1) t.records) rest in
     rw tablet.header (subst (λ n. keep_from t.header pair n from (fetched t.records from max) ≡ true) (sym tablet.count) front)
 
@@ -189,9 +212,11 @@ pub kept_at : (logs : Logs) (id from max : ℕ) → IsTrue (is_valid logs) → i
     → KeepHeader (headers_of logs.tablets) (counts_of logs) id from (fetched (records logs id) from max)
 kept_at logs id from max valid within first = go (slice_get_cases logs.tablets id).1
   where
-    go : ((x : Tablet) × (id < length logs.tablets) × (slice_get logs.tablets id ≡ Some x) × (get_or logs.tablets id x ≡ x)) ⊎ ((length logs.tablets ≤ id) × (slice_get logs.tablets id ≡ None))
+    go : ((x : Tablet) × (id < length logs.tablets) × (slice_get logs.tablets id ≡ Some x) × (get_or logs.tablets id x ≡ x)) ⊎
+        ((length logs.tablets ≤ id) × (slice_get logs.tablets id ≡ None))
         → KeepHeader (headers_of logs.tablets) (counts_of logs) id from (fetched (records logs id) from max)
     go (inl (t, small, there, here)) =
         let same : records logs id ≡ t.records = ap (λ (o : Option Tablet). option_map_or (λ (t : Tablet). t.records) o []) there in
-        subst (λ rs. KeepHeader (headers_of logs.tablets) (counts_of logs) id from (fetched rs from max)) (sym same) (kept logs id t from max valid there first)
+        subst (λ rs. KeepHeader (headers_of logs.tablets) (counts_of logs) id from (fetched rs from max)) (sym same)
+        (kept logs id t from max valid there first)
     go (inr (past, none)) = absurd (omega arith)

@@ -5,7 +5,8 @@
 --                       children, which are `pair`
 --     KeepHeader headers counts id from records      the records from the number `from` on keep the header of the tablet
 --     IsFeed headers counts logs      what holds of each feed's headers, of its numbers of records, and of its logs where it tells them
-use Rattle.std.specs.Prelude.{◌≡◌, ℕ, ◌+◌, ◌-◌, ◌^◌, ◌<◌, ◌≤◌, ◌==◌, ◌&&◌, Bool, true, min, List, [], ◌∷◌, length, map, take, drop, slice_get, slice_index, Option, is_some, IsSome, IfSome, IsTrue}
+use Rattle.std.specs.Prelude.{◌≡◌, ℕ, ◌+◌, ◌-◌, ◌^◌, ◌<◌, ◌≤◌, ◌==◌, ◌&&◌, Bool, true, min, List, [], ◌∷◌, length, map, take, drop}
+use Rattle.std.specs.Prelude.{slice_get, slice_index, Option, is_some, IsSome, IfSome, IsTrue}
 use Rattle.std.specs.Bool.{beq}
 use Rattle.xc_record.specs.declared.record.Header.{Header}
 use Rattle.xc_record.specs.declared.record.Kind.{Kind}
@@ -27,7 +28,8 @@ kind_keeps header pair ends kind = beq (is_split kind) ends && keeps_header head
 -- the records from this number on, of `count` in all, keep the header
 abbrev pub keep_from : Header → Option (Header × Header) → ℕ → ℕ → List Record → Bool
 keep_from header pair count number [] = true
-keep_from header pair count number (r ∷ rs) = kind_keeps header pair (number == count && is_some pair) r.kind && keep_from header pair count (number + 1) rs
+keep_from header pair count number (r ∷ rs) =
+    kind_keeps header pair (number == count && is_some pair) r.kind && keep_from header pair count (number + 1) rs
 
 abbrev pub KeepHeader : List Header → List ℕ → ℕ → ℕ → List Record → Type 0
 KeepHeader headers counts id from records =

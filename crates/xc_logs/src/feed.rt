@@ -31,16 +31,18 @@ pub trait Feed {
     /// How often it has failed. A count of 64 bits ends at its greatest number.
     ghost faults: { Self → ℕ };
 
-    /// Gives the records of a tablet from the number `from` on, at most `max` of them: none exactly past the end. They are
-    /// those of the logs, where these are told. `Failed` comes only where the count of faults rose, and with any other
-    /// answer the count is as before.
+    /// Gives the records of a tablet from the number `from` on, at most `max` of them: none exactly past the end. They
+    /// are those of the logs, where these are told. `Failed` comes only where the count of faults rose, and with any
+    /// other answer the count is as before.
     fn fetch(&mut self, alloc: Global, id: u32, from: u64, max: u64) -> Result<Records, FeedFail>
         requires tablet { id < length (headers self.old) }
         requires from_first { 1 ≤ from }
         requires some { 1 ≤ max }
-        ensures count { IfOk result (λ given. length given ≡ fetched_count (slice_index (counts self.old) id) from max) }
+        ensures count { IfOk result (λ given. length given
+            ≡ fetched_count (slice_index (counts self.old) id) from max) }
         ensures keep { IfOk result (λ given. KeepHeader (headers self.old) (counts self.old) id from given) }
-        ensures told { IfOk result (λ given. IfSome (logs self.old) (λ logs. given ≡ fetched (records logs id) from max)) }
+        ensures told { IfOk result (λ given. IfSome (logs self.old) (λ logs. given
+            ≡ fetched (records logs id) from max)) }
         ensures same_headers { headers self.new ≡ headers self.old }
         ensures same_counts { counts self.new ≡ counts self.old }
         ensures same_logs { logs self.new ≡ logs self.old }
@@ -48,6 +50,7 @@ pub trait Feed {
         ensures failed { IsErrOf result FeedFail.Failed → Rose (faults self.old) (faults self.new) }
         ensures quiet { ¬ IsErrOf result FeedFail.Failed → faults self.new ≡ faults self.old };
 
-    /// There are at most 64 headers, which fit, a tablet has at most 2^20 records, one with children has some, and the logs agree with both.
+    /// There are at most 64 headers, which fit, a tablet has at most 2^20 records, one with children has some, and the
+    /// logs agree with both.
     ghost shape: { (feed : Self) → IsFeed (headers feed) (counts feed) (logs feed) };
 }

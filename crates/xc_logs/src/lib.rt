@@ -66,6 +66,11 @@ mod tests {
         assert!(rt; logs.children(1).is_none());
         assert!(rt; logs.root_of(40000) == 0);
         assert!(rt; logs.header(2).lo == 32768);
+        let Ok(headers) = logs.headers(rt.alloc()) else {
+            panic!(rt; "memory is left");
+        };
+        let last = headers.last().map(|header| header.lo);
+        assert!(rt; headers.len() == 3 && last == Some(32768));
         assert!(rt; logs.len(0) == 2);
         for (id, number, want) in [
             (0, 0, None),

@@ -1,11 +1,14 @@
-ghost use Rattle.std.specs.Prelude.{◌≡◌, ◌≤◌, ◌<◌, length, slice_get, Some, IsTrue, IfNone, option_copied, false};
+ghost use Rattle.std.specs.Prelude.{◌≡◌, ◌≤◌, ◌<◌, length, slice_get, Some, IsTrue, IfNone, IfOk, option_copied, true};
+ghost use Rattle.std.specs.Prelude.{false};
 ghost use Rattle.std.specs.List.{list_any};
 ghost use Rattle.xc_logs.specs.LogSet.{ids_of, child_ids, IsRootOf, record_at};
 ghost use Rattle.xc_record.specs.Accepted.{records};
-ghost use Rattle.xc_record.specs.Headers.{children, is_child_of};
+ghost use Rattle.xc_record.specs.Headers.{are_headers, children, is_child_of};
 ghost use Rattle.xc_record.specs.Valid.{is_valid, headers_of};
 
+use std::alloc::Global;
 use std::marker::Model;
+use xc_base::NoMemory;
 use xc_record::{Header, Logs, Record, Tablet};
 
 /// Well-formed logs, to be asked by the numbers of tablets and records.
@@ -58,6 +61,20 @@ impl LogSet {
         &self.tablets()[id as usize].header
     }
 
+    /// Copies of the headers of all tablets, in the order of their numbers. `NoMemory` where memory is out.
+    pub fn headers(&self, alloc: Global) -> Result<Vec<Header>, NoMemory>
+        ensures headers { IfOk result (λ copies. copies.items ≡ headers_of self.now.tablets) }
+        ensures fit { IfOk result (λ copies. are_headers copies.items ≡ true) }
+    {
+        let mut copies = Vec::new(alloc);
+        for tablet in self.tablets() {
+            if copies.push(tablet.header).is_err() {
+                return Err(NoMemory);
+            }
+        }
+        Ok(copies)
+    }
+
     /// The records of a tablet, to be walked in the order of their numbers.
     pub fn records(&self, id: u32) -> &[Record]
         requires { id < length self.now.tablets }
@@ -74,7 +91,8 @@ impl LogSet {
         self.records(id).len() as u64
     }
 
-    /// The tablets that a tablet was split into, the left one first: None exactly where no header names it as its parent.
+    /// The tablets that a tablet was split into, the left one first: None exactly where no header names it as its
+    /// parent.
     pub fn children(&self, id: u32) -> Option<(u32, u32)>
         ensures children { result ≡ child_ids self.now id }
         ensures none { IfNone result (list_any (is_child_of id) (headers_of self.now.tablets) ≡ false) }

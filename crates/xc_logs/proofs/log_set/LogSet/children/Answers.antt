@@ -5,5 +5,6 @@ use Rattle.xc_logs.proofs.ValidFacts.{valid_parts}
 use Rattle.xc_logs.proofs.log_set.LogSet.children.Goals as goal
 
 pub returns-clause-none : goal.returns-clause-none
-returns-clause-none c = none_named c.args.id (headers_of c.args.self.now.tablets) (children (headers_of c.args.self.now.tablets) c.args.id) _
+returns-clause-none c =
+    none_named c.args.id (headers_of c.args.self.now.tablets) (children (headers_of c.args.self.now.tablets) c.args.id) _
     (pairs _ c.args.id (valid_parts _ c.tablets.ensures.valid).fit) (rw c.tablets.ensures.tablets at c.child_ids.ensures)

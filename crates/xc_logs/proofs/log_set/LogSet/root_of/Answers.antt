@@ -30,7 +30,8 @@ returns-then-holds c =
     let items = c.tablets-tablet-items.result.now in
     let item = c.tablet-item.result in
     let stands : slice_get (headers_of items) c.loop-i.i ≡ Some item.header =
-    get_of_headers items c.loop-i.i ∙ ap (option_map (λ (t : Tablet). t.header)) (slice_get_read items _ c.loop-i.i item refl c.loop-i-test.true c.tablet-item.is) in
+    get_of_headers items c.loop-i.i
+    ∙ ap (option_map (λ (t : Tablet). t.header)) (slice_get_read items _ c.loop-i.i item refl c.loop-i-test.true c.tablet-item.is) in
     record {
       header = item.header;
       stands = subst (λ ts. slice_get (headers_of ts) c.loop-i.i ≡ Some item.header) c.tablets-tablet-items.ensures.tablets stands;
@@ -39,11 +40,17 @@ returns-then-holds c =
     }
 
 pub loop-i-preserved : goal.loop-i-preserved
-loop-i-preserved c = root_behind c.args.hash c.tablets-tablet-items.result.now c.loop-i.i c.tablet-item.result c.loop-i-test.true c.tablet-item.is
-    (λ root held. elim c.else-is_none.branch [ else-is_none-via-then-is_none+else-holds w ↦ both_ways _ (sym w.if-holds.ensures) held | else-is_none-via-else-is_none w ↦ both_ways _ (ap is_some root) w.if-is_none.ensures ])
+loop-i-preserved c =
+    root_behind c.args.hash c.tablets-tablet-items.result.now c.loop-i.i c.tablet-item.result c.loop-i-test.true c.tablet-item.is
+    (λ root held. elim c.else-is_none.branch [
+      | else-is_none-via-then-is_none+else-holds w ↦ both_ways _ (sym w.if-holds.ensures) held
+      | else-is_none-via-else-is_none w ↦
+          both_ways _ (ap is_some root) w.if-is_none.ensures
+    ])
     c.loop-i.invariant
 
 pub returns : goal.returns
 returns c =
-    let none : drop c.loop-i.i c.tablets-tablet-items.result.now ≡ [] = drop_all c.loop-i.i c.tablets-tablet-items.result.now c.loop-i-test.false in
+    let none : drop c.loop-i.i c.tablets-tablet-items.result.now ≡ [] =
+    drop_all c.loop-i.i c.tablets-tablet-items.result.now c.loop-i-test.false in
     absurd (no_root_in_none c.args.hash (subst (λ ts. HasRoot c.args.hash (headers_of ts)) none c.loop-i.invariant))

@@ -1,0 +1,10 @@
+pub mod Fronts
+pub mod ReportLaws
+pub mod WordLists
+pub mod StepLaws
+pub mod AllowedLaws
+pub mod RunLaws
+pub mod SpelledWords
+pub mod SpelledRun
+pub mod ReadBack
+mod WorkedScripts

@@ -1,0 +1,7 @@
+pub mod Kinds
+pub mod Words
+pub mod ScriptText
+pub mod Allowed
+pub mod Spelled
+pub mod Lines
+pub mod Parts

@@ -1,4 +1,3 @@
 pub mod BatchLaws
 pub mod PollLaws
 pub mod StandLaws
-pub mod Zips

@@ -1,11 +1,11 @@
 -- What a poll makes of a step, whatever the feed tells, and of logs.
-use Rattle.std.proofs.Common.{◌≡◌, ℕ, ◌+◌, ◌-◌, ◌≤◌, ◌^◌, max, true, List, [], ◌∷◌, length, get_or, take, drop, refl, sym, ap, ◌∙◌, subst, arith, ◌⊎◌, ⊎_elim, inl, inr}
+use Rattle.std.proofs.Common.{◌≡◌, ℕ, ◌+◌, ◌-◌, ◌≤◌, ◌^◌, max, List, [], ◌∷◌, length, get_or, take, drop, refl, sym, ap, ◌∙◌, subst, arith}
+use Rattle.std.proofs.Common.{◌⊎◌, ⊎_elim, inl, inr}
 use Rattle.std.specs.Prelude.{Option, Some, None, IfSome, Result, Ok, Err, All, slice_index}
 use Rattle.std.specs.List.{AllZip, AllByRecursion}
 use Rattle.std.specs.Option.{option_map_or}
 use Rattle.std.proofs.lemmas.List.Elements.{All-from_recursion, recursion_from_All}
 use Rattle.xc_record.specs.declared.record.Header.{Header}
-use Rattle.xc_record.specs.declared.record.Record.{Record}
 use Rattle.xc_record.specs.declared.record.Logs.{Logs}
 use Rattle.xc_record.specs.declared.session.PollAnswer.{PollAnswer}
 use Rattle.xc_record.specs.Accepted.{AcceptedTablet, accepted}
@@ -14,19 +14,21 @@ use Rattle.xc_model.proofs.DeliverLaw.{batches-keep}
 use Rattle.xc_tablet.specs.Batch.{CanTake}
 use Rattle.xc_change.specs.declared.batch.NextFail.{NextFail}
 use Rattle.xc_change.specs.declared.batch.Batch.{Batch}
-use Rattle.xc_change.specs.Reader.{ReaderState, FitsFeed, Stays}
+use Rattle.xc_change.specs.Reader.{FitsFeed}
 use Rattle.xc_poller.specs.declared.step.Step.{Step}
 use Rattle.xc_poller.specs.declared.step.Step.TheVariants as step
 use Rattle.xc_logs.specs.Feed.{IsFeed}
-use Rattle.xc_poller.specs.Poller.{PollerState, IsPoller, StandsFor, Rises, done, restarted}
-use Rattle.xc_poller.specs.Polled.{CanPoll, Looked, IsStep, IsStepOf, Took, TookAll, TookFirst, KeepStanding, Moved, Stood, OutOfMemory, IsPolled, IsStopped, answer_of, records_of}
-use Rattle.xc_poller.specs.Delivery.{CanGive, CanGiveBatch, IsIdle, Refused, IsGiven, IsCutOff}
+use Rattle.xc_poller.specs.Poller.{PollerState, IsPoller, StandsFor, Rises}
+use Rattle.xc_poller.specs.Polled.{CanPoll, Looked, IsStep, IsStepOf, Took, TookAll, TookFirst, KeepStanding, Moved, Stood, OutOfMemory}
+use Rattle.xc_poller.specs.Polled.{IsPolled, IsStopped, answer_of}
+use Rattle.xc_poller.specs.Delivery.{CanGive, Refused, IsGiven, IsCutOff}
 use Rattle.xc_poller.proofs.BatchLaws.{Offered, can-take, still-took, still-same}
 use Rattle.xc_poller.proofs.StandLaws.{done-stands, done-rises}
-use Rattle.xc_poller.proofs.Zips.{zip-refl, zip-with, zip-to, zip-first}
+use Rattle.xc_tablet.proofs.Zips.{zip-refl, zip-with, zip-to, zip-first}
 
 -- what is known of a poll before anything is delivered
-pub record Ready (headers : List Header) (counts : List ℕ) (asked : ℕ) (old looked : PollerState) (olds : List TargetTablet) (s : Step) : Type 0 where
+pub record Ready (headers : List Header) (counts : List ℕ) (asked : ℕ) (old looked : PollerState) (olds : List TargetTablet) (s : Step) :
+    Type 0 where
   pub small : slice_index counts old.reader.id ≤ 2 ^ 20
   pub id : old.reader.id ≡ old.header.id
   pub cursor : old.reader.cursor ≤ old.applied
@@ -36,9 +38,19 @@ pub record Ready (headers : List Header) (counts : List ℕ) (asked : ℕ) (old 
   pub step_is : IsStep headers counts asked old looked s
   pub tablets : All (CanPoll headers counts old) olds
 
-offered : (headers : List Header) (counts : List ℕ) (asked : ℕ) (old looked : PollerState) (olds : List TargetTablet) (batch : Batch) → Ready headers counts asked old looked olds (step.Batch batch) → Offered headers counts asked old looked batch
+offered : (headers : List Header) (counts : List ℕ) (asked : ℕ) (old looked : PollerState) (olds : List TargetTablet) (batch : Batch)
+    → Ready headers counts asked old looked olds (step.Batch batch) → Offered headers counts asked old looked batch
 offered headers counts asked old looked olds batch r =
-    record { small = r.small; id = r.id; cursor = r.cursor; started = r.step_is.0; looked_is = r.looked_is; given = r.step_is.1; fits = r.fits }
+    record {
+      small = r.small;
+      id = r.id;
+      cursor = r.cursor;
+      started = r.step_is.0;
+      looked_is = r.looked_is;
+      given = r.step_is.1;
+      fits =
+          r.fits;
+    }
 
 header-same : (old looked : PollerState) → Looked old looked → looked.header ≡ old.header
 header-same old looked l = ap (λ (p : PollerState). p.header) l.is
@@ -46,13 +58,15 @@ header-same old looked l = ap (λ (p : PollerState). p.header) l.is
 id-same : (old looked : PollerState) → Looked old looked → looked.header.id ≡ old.header.id
 id-same old looked l = ap (λ (p : PollerState). p.header.id) l.is
 
-pub can-give : (headers : List Header) (counts : List ℕ) (asked : ℕ) (old looked : PollerState) (olds : List TargetTablet) (s : Step) → Ready headers counts asked old looked olds s → CanGive looked olds s
+pub can-give : (headers : List Header) (counts : List ℕ) (asked : ℕ) (old looked : PollerState) (olds : List TargetTablet) (s : Step)
+    → Ready headers counts asked old looked olds s → CanGive looked olds s
 can-give headers counts asked old looked olds (step.Batch batch) r =
     let o = offered headers counts asked old looked olds batch r in
     record {
       next = o.given.from ∙ ap (λ n. n + 1) (sym r.looked_is.reader.cursor);
       checked = subst (λ n. n + length batch.records ≤ looked.reader.checked) (sym r.looked_is.reader.cursor) o.given.checked;
-      tablets = λ k d low. subst (λ i. CanTake i batch.from batch.records (get_or olds k d)) (sym (id-same old looked r.looked_is)) (can-take headers counts asked old looked batch (get_or olds k d) o (r.tablets k d low));
+      tablets = λ k d low. subst (λ i. CanTake i batch.from batch.records (get_or olds k d)) (sym (id-same old looked r.looked_is))
+          (can-take headers counts asked old looked batch (get_or olds k d) o (r.tablets k d low));
     }
 can-give headers counts asked old looked olds (step.Waits parent) r = tt
 can-give headers counts asked old looked olds step.AtEnd r = tt
@@ -64,7 +78,8 @@ abbrev TookOrStayed : PollerState → PollerState → Batch → TargetTablet →
 TookOrStayed looked new batch x y = Took looked.header.id batch.from batch.records x y ⊎ ((y ≡ x) × (new.applied ≤ looked.applied))
 
 abbrev TabletsCame : PollerState → PollerState → List TargetTablet → List TargetTablet → Step → Type 0
-TabletsCame looked new olds news (step.Batch batch) = AllZip (TookOrStayed looked new batch) olds news × (new.applied ≤ max looked.applied (looked.reader.cursor + length batch.records))
+TabletsCame looked new olds news (step.Batch batch) =
+    AllZip (TookOrStayed looked new batch) olds news × (new.applied ≤ max looked.applied (looked.reader.cursor + length batch.records))
 TabletsCame looked new olds news (step.Waits parent) = (news ≡ olds) × (new.applied ≤ looked.applied)
 TabletsCame looked new olds news step.AtEnd = (news ≡ olds) × (new.applied ≤ looked.applied)
 TabletsCame looked new olds news (step.Halted number kind) = (news ≡ olds) × (new.applied ≤ looked.applied)
@@ -76,7 +91,8 @@ pub record Came (looked new : PollerState) (olds news : List TargetTablet) (s : 
   pub is_open : new.is_open ≡ looked.is_open
   pub tablets : TabletsCame looked new olds news s
 
-idle-came : (looked new : PollerState) (olds news : List TargetTablet) (s : Step) → new ≡ looked → TabletsCame looked new olds news s → Came looked new olds news s
+idle-came : (looked new : PollerState) (olds news : List TargetTablet) (s : Step) → new ≡ looked → TabletsCame looked new olds news s
+    → Came looked new olds news s
 idle-came looked new olds news s e t = record {
   at = looked.reader.cursor;
   reader = ap (λ (p : PollerState). p.reader) e;
@@ -88,11 +104,13 @@ idle-came looked new olds news s e t = record {
 same-applied : (looked new : PollerState) → new ≡ looked → new.applied ≤ looked.applied
 same-applied looked new e = let a = ap (λ (p : PollerState). p.applied) e in omega arith
 
-first-came : (looked new : PollerState) (olds news : List TargetTablet) (batch : Batch) (k : ℕ) → new.applied ≤ looked.applied → TookFirst looked.header.id batch.from batch.records k olds news
+first-came : (looked new : PollerState) (olds news : List TargetTablet) (batch : Batch) (k : ℕ) → new.applied ≤ looked.applied
+    → TookFirst looked.header.id batch.from batch.records k olds news
     → TabletsCame looked new olds news (step.Batch batch)
 first-came looked new olds news batch k low t = (
   zip-with (λ x. Unit {0}) (λ x y. Took looked.header.id batch.from batch.records x y ⊎ (y ≡ x)) (TookOrStayed looked new batch) olds news
-      (λ x y u h. ⊎_elim (λ a. inl a) (λ e. inr (e, low)) h) (each-unit olds) (zip-first (Took looked.header.id batch.from batch.records) k olds news t.first t.rest),
+      (λ x y u h. ⊎_elim (λ a. inl a) (λ e. inr (e, low)) h) (each-unit olds)
+      (zip-first (Took looked.header.id batch.from batch.records) k olds news t.first t.rest),
   omega arith,
 )
   where
@@ -100,17 +118,22 @@ first-came looked new olds news batch k low t = (
     each-unit [] = tt
     each-unit (x ∷ xs) = (tt, each-unit xs)
 
-refused-came : (looked new : PollerState) (olds news : List TargetTablet) (batch : Batch) (e : NextFail) → Refused looked new olds news batch e → Came looked new olds news (step.Batch batch)
-refused-came looked new olds news batch e g = idle-came looked new olds news (step.Batch batch) g.1.0 (first-came looked new olds news batch g.1.1.0 (same-applied looked new g.1.0) g.1.1.1)
+refused-came : (looked new : PollerState) (olds news : List TargetTablet) (batch : Batch) (e : NextFail)
+    → Refused looked new olds news batch e → Came looked new olds news (step.Batch batch)
+refused-came looked new olds news batch e g =
+    idle-came looked new olds news (step.Batch batch) g.1.0
+    (first-came looked new olds news batch g.1.1.0 (same-applied looked new g.1.0) g.1.1.1)
 
-pub given-came : (looked new : PollerState) (olds news : List TargetTablet) (s : Step) (result : Result PollAnswer NextFail) → IsGiven looked new olds news s result → Came looked new olds news s
+pub given-came : (looked new : PollerState) (olds news : List TargetTablet) (s : Step) (result : Result PollAnswer NextFail)
+    → IsGiven looked new olds news s result → Came looked new olds news s
 given-came looked new olds news (step.Batch batch) (Ok answer) g = record {
   at = looked.reader.cursor + length batch.records;
   reader = ap (λ (p : PollerState). p.reader) g.1.0;
   header = ap (λ (p : PollerState). p.header) g.1.0;
   is_open = ap (λ (p : PollerState). p.is_open) g.1.0;
   tablets = (
-    zip-with (λ x. Unit {0}) (Took looked.header.id batch.from batch.records) (TookOrStayed looked new batch) olds news (λ x y u t. inl t) (each-unit olds) g.1.1,
+    zip-with (λ x. Unit {0}) (Took looked.header.id batch.from batch.records) (TookOrStayed looked new batch) olds news (λ x y u t. inl t)
+        (each-unit olds) g.1.1,
     let a = ap (λ (p : PollerState). p.applied) g.1.0 in omega arith,
   );
 }
@@ -119,11 +142,14 @@ given-came looked new olds news (step.Batch batch) (Ok answer) g = record {
     each-unit [] = tt
     each-unit (x ∷ xs) = (tt, each-unit xs)
 given-came looked new olds news (step.Batch batch) (Err e) g = refused-came looked new olds news batch e g
-given-came looked new olds news (step.Waits parent) result g = idle-came looked new olds news (step.Waits parent) g.1.0 (g.1.1, same-applied looked new g.1.0)
+given-came looked new olds news (step.Waits parent) result g =
+    idle-came looked new olds news (step.Waits parent) g.1.0 (g.1.1, same-applied looked new g.1.0)
 given-came looked new olds news step.AtEnd result g = idle-came looked new olds news step.AtEnd g.1.0 (g.1.1, same-applied looked new g.1.0)
-given-came looked new olds news (step.Halted number kind) result g = idle-came looked new olds news (step.Halted number kind) g.1.0 (g.1.1, same-applied looked new g.1.0)
+given-came looked new olds news (step.Halted number kind) result g =
+    idle-came looked new olds news (step.Halted number kind) g.1.0 (g.1.1, same-applied looked new g.1.0)
 
-pub cut-came : (last : ℕ) (looked new : PollerState) (olds news : List TargetTablet) (s : Step) (result : Result PollAnswer NextFail) → IsCutOff last looked new olds news s result → Came looked new olds news s
+pub cut-came : (last : ℕ) (looked new : PollerState) (olds news : List TargetTablet) (s : Step) (result : Result PollAnswer NextFail)
+    → IsCutOff last looked new olds news s result → Came looked new olds news s
 cut-came last looked new olds news (step.Batch batch) (Ok answer) g = record {
   at = looked.acknowledged;
   reader = ap (λ (p : PollerState). p.reader) g.1.0;
@@ -132,20 +158,26 @@ cut-came last looked new olds news (step.Batch batch) (Ok answer) g = record {
   tablets = first-came looked new olds news batch (last + 1) (let a = ap (λ (p : PollerState). p.applied) g.1.0 in omega arith) g.1.1;
 }
 cut-came last looked new olds news (step.Batch batch) (Err e) g = refused-came looked new olds news batch e g
-cut-came last looked new olds news (step.Waits parent) result g = idle-came looked new olds news (step.Waits parent) g.1.0 (g.1.1, same-applied looked new g.1.0)
-cut-came last looked new olds news step.AtEnd result g = idle-came looked new olds news step.AtEnd g.1.0 (g.1.1, same-applied looked new g.1.0)
-cut-came last looked new olds news (step.Halted number kind) result g = idle-came looked new olds news (step.Halted number kind) g.1.0 (g.1.1, same-applied looked new g.1.0)
+cut-came last looked new olds news (step.Waits parent) result g =
+    idle-came looked new olds news (step.Waits parent) g.1.0 (g.1.1, same-applied looked new g.1.0)
+cut-came last looked new olds news step.AtEnd result g =
+    idle-came looked new olds news step.AtEnd g.1.0 (g.1.1, same-applied looked new g.1.0)
+cut-came last looked new olds news (step.Halted number kind) result g =
+    idle-came looked new olds news (step.Halted number kind) g.1.0 (g.1.1, same-applied looked new g.1.0)
 
 -- ---- whatever the feed tells
 
-pub fits-still : (headers : List Header) (counts : List ℕ) (asked : ℕ) (old looked new : PollerState) (olds news : List TargetTablet) (s : Step) → Ready headers counts asked old looked olds s → Came looked new olds news s
+pub fits-still : (headers : List Header) (counts : List ℕ) (asked : ℕ) (old looked new : PollerState) (olds news : List TargetTablet)
+    (s : Step) → Ready headers counts asked old looked olds s → Came looked new olds news s
     → FitsFeed headers counts new.reader
 fits-still headers counts asked old looked new olds news s r c =
     subst (FitsFeed headers counts) (sym c.reader) (record { tablet = r.fits.tablet; within = r.fits.within; split = r.fits.split })
 
-pub tablets-still : (headers : List Header) (counts : List ℕ) (asked : ℕ) (old looked new : PollerState) (olds news : List TargetTablet) (s : Step) → Ready headers counts asked old looked olds s → Came looked new olds news s
+pub tablets-still : (headers : List Header) (counts : List ℕ) (asked : ℕ) (old looked new : PollerState) (olds news : List TargetTablet)
+    (s : Step) → Ready headers counts asked old looked olds s → Came looked new olds news s
     → All (CanPoll headers counts new) news
-tablets-still headers counts asked old looked new olds news s r c = All-from_recursion (CanPoll headers counts new) news (go s r c c.tablets)
+tablets-still headers counts asked old looked new olds news s r c =
+    All-from_recursion (CanPoll headers counts new) news (go s r c c.tablets)
   where
     header : new.header ≡ old.header
     header = c.header ∙ header-same old looked r.looked_is
@@ -164,22 +196,27 @@ tablets-still headers counts asked old looked new olds news s r c = All-from_rec
         let low : new.applied ≤ old.applied = let a = applied in let b = h.1 in omega arith in
         subst (AllByRecursion (CanPoll headers counts new)) (sym h.0)
         (zip-to (CanPoll headers counts old) (λ x y. y ≡ x) (CanPoll headers counts new) olds olds
-        (λ x y p e. subst (CanPoll headers counts new) (sym e) (still-same headers counts old new x p header is_open low)) before (zip-refl (λ x y. y ≡ x) olds (λ x. refl)))
+        (λ x y p e. subst (CanPoll headers counts new) (sym e) (still-same headers counts old new x p header is_open low)) before
+        (zip-refl (λ x y. y ≡ x) olds (λ x. refl)))
 
-    go : (s : Step) → Ready headers counts asked old looked olds s → Came looked new olds news s → TabletsCame looked new olds news s → AllByRecursion (CanPoll headers counts new) news
+    go : (s : Step) → Ready headers counts asked old looked olds s → Came looked new olds news s → TabletsCame looked new olds news s
+        → AllByRecursion (CanPoll headers counts new) news
     go (step.Batch batch) r c t =
         let o = offered headers counts asked old looked olds batch r in
-        let most : new.applied ≤ max old.applied (old.reader.cursor + length batch.records) = let a = applied in let b = t.1 in let d = r.looked_is.reader.cursor in omega arith in
+        let most : new.applied ≤ max old.applied (old.reader.cursor + length batch.records) =
+        let a = applied in let b = t.1 in let d = r.looked_is.reader.cursor in omega arith in
         zip-to (CanPoll headers counts old) (TookOrStayed looked new batch) (CanPoll headers counts new) olds news
         (λ x y p h. ⊎_elim
-        (λ took. still-took headers counts asked old looked new batch x y o p (subst (λ i. Took i batch.from batch.records x y) (id-same old looked r.looked_is) took) header is_open most)
+        (λ took. still-took headers counts asked old looked new batch x y o p
+        (subst (λ i. Took i batch.from batch.records x y) (id-same old looked r.looked_is) took) header is_open most)
         (λ e. let low : new.applied ≤ old.applied = let a = applied in let b = e.1 in omega arith in
         subst (CanPoll headers counts new) (sym e.0) (still-same headers counts old new x p header is_open low)) h) before t.0
     go (step.Waits parent) r c t = same t
     go step.AtEnd r c t = same t
     go (step.Halted number kind) r c t = same t
 
-stood : (headers : List Header) (counts : List ℕ) (asked : ℕ) (old looked new : PollerState) (olds news : List TargetTablet) (s : Step) → Ready headers counts asked old looked olds s → new ≡ looked → news ≡ olds
+stood : (headers : List Header) (counts : List ℕ) (asked : ℕ) (old looked new : PollerState) (olds news : List TargetTablet) (s : Step)
+    → Ready headers counts asked old looked olds s → new ≡ looked → news ≡ olds
     → Stood headers counts asked old new olds news s
 stood headers counts asked old looked new olds news s r e t = record {
   looked = subst (Looked old) (sym e) r.looked_is;
@@ -187,11 +224,14 @@ stood headers counts asked old looked new olds news s r e t = record {
   step = subst (λ p. IsStep headers counts asked old p s) (sym e) r.step_is;
 }
 
-moved : (headers : List Header) (counts : List ℕ) (asked : ℕ) (old looked : PollerState) (olds : List TargetTablet) (batch : Batch) → Ready headers counts asked old looked olds (step.Batch batch) → Moved headers counts asked old looked batch
+moved : (headers : List Header) (counts : List ℕ) (asked : ℕ) (old looked : PollerState) (olds : List TargetTablet) (batch : Batch)
+    → Ready headers counts asked old looked olds (step.Batch batch) → Moved headers counts asked old looked batch
 moved headers counts asked old looked olds batch r = record { started = r.step_is.0; reader = r.looked_is; given = r.step_is.1 }
 
-refused : (headers : List Header) (counts : List ℕ) (asked : ℕ) (old looked new : PollerState) (olds news : List TargetTablet) (batch : Batch) (e : NextFail)
-    → Ready headers counts asked old looked olds (step.Batch batch) → Refused looked new olds news batch e → OutOfMemory headers counts asked old new olds news
+refused : (headers : List Header) (counts : List ℕ) (asked : ℕ) (old looked new : PollerState) (olds news : List TargetTablet)
+    (batch : Batch) (e : NextFail)
+    → Ready headers counts asked old looked olds (step.Batch batch) → Refused looked new olds news batch e
+    → OutOfMemory headers counts asked old new olds news
 refused headers counts asked old looked new olds news batch e r g =
     inr (
       batch,
@@ -204,37 +244,73 @@ refused headers counts asked old looked new olds news batch e r g =
       ),
     )
 
-pub polled : (headers : List Header) (counts : List ℕ) (asked : ℕ) (old looked new : PollerState) (olds news : List TargetTablet) (s : Step) (result : Result PollAnswer NextFail)
-    → Ready headers counts asked old looked olds s → IsGiven looked new olds news s result → IsPolled headers counts asked old new olds news result
+pub polled : (headers : List Header) (counts : List ℕ) (asked : ℕ) (old looked new : PollerState) (olds news : List TargetTablet) (s : Step)
+    (result : Result PollAnswer NextFail)
+    → Ready headers counts asked old looked olds s → IsGiven looked new olds news s result
+    → IsPolled headers counts asked old new olds news result
 polled headers counts asked old looked new olds news (step.Batch batch) (Ok answer) r g =
-    subst (λ a. IsPolled headers counts asked old new olds news (Ok a)) (sym g.0)
-    (looked, (batch, (moved headers counts asked old looked olds batch r, (refl, (g.1.0, subst (λ i. TookAll i batch.from batch.records olds news) (id-same old looked r.looked_is) g.1.1)))))
+    subst (λ a. IsPolled headers counts asked old new olds news (Ok a)) (sym g.0) (
+      looked,
+      (
+        batch,
+        (
+          moved headers counts asked old looked olds batch r,
+          (refl, (g.1.0, subst (λ i. TookAll i batch.from batch.records olds news) (id-same old looked r.looked_is) g.1.1)),
+        ),
+      ),
+    )
 polled headers counts asked old looked new olds news (step.Batch batch) (Err e) r g =
-    subst (λ a. IsPolled headers counts asked old new olds news (Err a)) (sym g.0) (refused headers counts asked old looked new olds news batch e r g)
+    subst (λ a. IsPolled headers counts asked old new olds news (Err a)) (sym g.0)
+    (refused headers counts asked old looked new olds news batch e r g)
 polled headers counts asked old looked new olds news (step.Waits parent) result r g =
-    subst (IsPolled headers counts asked old new olds news) (sym g.0) (stood headers counts asked old looked new olds news (step.Waits parent) r g.1.0 g.1.1)
+    subst (IsPolled headers counts asked old new olds news) (sym g.0)
+    (stood headers counts asked old looked new olds news (step.Waits parent) r g.1.0 g.1.1)
 polled headers counts asked old looked new olds news step.AtEnd result r g =
-    subst (IsPolled headers counts asked old new olds news) (sym g.0) (stood headers counts asked old looked new olds news step.AtEnd r g.1.0 g.1.1)
+    subst (IsPolled headers counts asked old new olds news) (sym g.0)
+    (stood headers counts asked old looked new olds news step.AtEnd r g.1.0 g.1.1)
 polled headers counts asked old looked new olds news (step.Halted number kind) result r g =
-    subst (IsPolled headers counts asked old new olds news) (sym g.0) (stood headers counts asked old looked new olds news (step.Halted number kind) r g.1.0 g.1.1)
+    subst (IsPolled headers counts asked old new olds news) (sym g.0)
+    (stood headers counts asked old looked new olds news (step.Halted number kind) r g.1.0 g.1.1)
 
-pub stopped : (headers : List Header) (counts : List ℕ) (asked last : ℕ) (old looked new : PollerState) (olds news : List TargetTablet) (s : Step) (result : Result PollAnswer NextFail)
-    → Ready headers counts asked old looked olds s → IsCutOff last looked new olds news s result → IsStopped headers counts asked last old new olds news result
+pub stopped : (headers : List Header) (counts : List ℕ) (asked last : ℕ) (old looked new : PollerState) (olds news : List TargetTablet)
+    (s : Step) (result : Result PollAnswer NextFail)
+    → Ready headers counts asked old looked olds s → IsCutOff last looked new olds news s result
+    → IsStopped headers counts asked last old new olds news result
 stopped headers counts asked last old looked new olds news (step.Batch batch) (Ok answer) r g =
-    subst (λ a. IsStopped headers counts asked last old new olds news (Ok a)) (sym g.0)
-    (looked, (batch, (moved headers counts asked old looked olds batch r, (refl, (g.1.0, subst (λ i. TookFirst i batch.from batch.records (last + 1) olds news) (id-same old looked r.looked_is) g.1.1)))))
+    subst (λ a. IsStopped headers counts asked last old new olds news (Ok a)) (sym g.0) (
+      looked,
+      (
+        batch,
+        (
+          moved headers counts asked old looked olds batch r,
+          (
+            refl,
+            (
+              g.1.0,
+              subst (λ i. TookFirst i batch.from batch.records (last + 1) olds news) (id-same old looked r.looked_is)
+                  g.1.1,
+            ),
+          ),
+        ),
+      ),
+    )
 stopped headers counts asked last old looked new olds news (step.Batch batch) (Err e) r g =
-    subst (λ a. IsStopped headers counts asked last old new olds news (Err a)) (sym g.0) (refused headers counts asked old looked new olds news batch e r g)
+    subst (λ a. IsStopped headers counts asked last old new olds news (Err a)) (sym g.0)
+    (refused headers counts asked old looked new olds news batch e r g)
 stopped headers counts asked last old looked new olds news (step.Waits parent) result r g =
-    subst (IsStopped headers counts asked last old new olds news) (sym g.0) (stood headers counts asked old looked new olds news (step.Waits parent) r g.1.0 g.1.1)
+    subst (IsStopped headers counts asked last old new olds news) (sym g.0)
+    (stood headers counts asked old looked new olds news (step.Waits parent) r g.1.0 g.1.1)
 stopped headers counts asked last old looked new olds news step.AtEnd result r g =
-    subst (IsStopped headers counts asked last old new olds news) (sym g.0) (stood headers counts asked old looked new olds news step.AtEnd r g.1.0 g.1.1)
+    subst (IsStopped headers counts asked last old new olds news) (sym g.0)
+    (stood headers counts asked old looked new olds news step.AtEnd r g.1.0 g.1.1)
 stopped headers counts asked last old looked new olds news (step.Halted number kind) result r g =
-    subst (IsStopped headers counts asked last old new olds news) (sym g.0) (stood headers counts asked old looked new olds news (step.Halted number kind) r g.1.0 g.1.1)
+    subst (IsStopped headers counts asked last old new olds news) (sym g.0)
+    (stood headers counts asked old looked new olds news (step.Halted number kind) r g.1.0 g.1.1)
 
 -- ---- where the feed tells its logs
 
-pub answers : (logs : Logs) (b : AcceptedTablet) (asked : ℕ) (old looked new : PollerState) (olds news : List TargetTablet) (s : Step) (answer : PollAnswer)
+pub answers : (logs : Logs) (b : AcceptedTablet) (asked : ℕ) (old looked new : PollerState) (olds news : List TargetTablet) (s : Step)
+    (answer : PollAnswer)
     → IsGiven looked new olds news s (Ok answer) → answer ≡ answer_of s
 answers logs b asked old looked new olds news (step.Batch batch) answer g = g.0
 answers logs b asked old looked new olds news (step.Waits parent) answer g = cc
@@ -243,29 +319,38 @@ answers logs b asked old looked new olds news (step.Halted number kind) answer g
 
 pub unmoved : (logs : Logs) (olds news : List TargetTablet) → news ≡ olds → KeepStanding logs olds news
 unmoved logs olds news e =
-    subst (KeepStanding logs olds) (sym e) (zip-refl (λ x y. (u : ℕ) → TabletStandsFor logs u x → TabletStandsFor logs u y) olds (λ x u stands. stands))
+    subst (KeepStanding logs olds) (sym e)
+    (zip-refl (λ x y. (u : ℕ) → TabletStandsFor logs u x → TabletStandsFor logs u y) olds (λ x u stands. stands))
 
 -- the tablets that were delivered to stand as before
-pub tablets-stand : (logs : Logs) (b : AcceptedTablet) (headers : List Header) (counts : List ℕ) (asked : ℕ) (old looked new : PollerState) (olds news : List TargetTablet) (s : Step)
-    → Ready headers counts asked old looked olds s → StandsFor logs old b → IsStepOf logs b asked old s → Came looked new olds news s → KeepStanding logs olds news
+pub tablets-stand : (logs : Logs) (b : AcceptedTablet) (headers : List Header) (counts : List ℕ) (asked : ℕ) (old looked new : PollerState)
+    (olds news : List TargetTablet) (s : Step)
+    → Ready headers counts asked old looked olds s → StandsFor logs old b → IsStepOf logs b asked old s → Came looked new olds news s
+    → KeepStanding logs olds news
 tablets-stand logs b headers counts asked old looked new olds news (step.Batch batch) r st of c =
     let o = offered headers counts asked old looked olds batch r in
     let from : batch.from - 1 ≡ old.reader.cursor = let e = o.given.from in omega arith in
-    let there : accepted logs old.header.id ≡ b.records = subst (λ i. accepted logs i ≡ b.records) r.id (ap (λ q. option_map_or (λ (d : AcceptedTablet). d.records) q []) st.reads.tablet) in
+    let there : accepted logs old.header.id ≡ b.records =
+    subst (λ i. accepted logs i ≡ b.records) r.id (ap (λ q. option_map_or (λ (d : AcceptedTablet). d.records) q []) st.reads.tablet) in
     let are : batch.records ≡ take (length batch.records) (drop (batch.from - 1) (accepted logs old.header.id)) =
-    of.records_are ∙ ap (λ n. take (length batch.records) (drop n b.records)) (sym from) ∙ ap (λ w. take (length batch.records) (drop (batch.from - 1) w)) (sym there) in
-    zip-with (CanPoll headers counts old) (TookOrStayed looked new batch) (λ x y. (u : ℕ) → TabletStandsFor logs u x → TabletStandsFor logs u y) olds news
+    of.records_are ∙ ap (λ n. take (length batch.records) (drop n b.records)) (sym from)
+    ∙ ap (λ w. take (length batch.records) (drop (batch.from - 1) w)) (sym there) in
+    zip-with (CanPoll headers counts old) (TookOrStayed looked new batch)
+    (λ x y. (u : ℕ) → TabletStandsFor logs u x → TabletStandsFor logs u y) olds news
     (λ x y p h u stands. ⊎_elim
     (λ took. let can = can-take headers counts asked old looked batch x o p in
-    batches-keep logs x y u old.header.id batch.from batch.records stands can.started can.first can.next are (subst (λ i. Took i batch.from batch.records x y) (id-same old looked r.looked_is) took).taken)
+    batches-keep logs x y u old.header.id batch.from batch.records stands can.started can.first can.next are
+    (subst (λ i. Took i batch.from batch.records x y) (id-same old looked r.looked_is) took).taken)
     (λ e. subst (TabletStandsFor logs u) (sym e.0) stands) h)
     (recursion_from_All (CanPoll headers counts old) olds r.tablets) c.tablets.0
 tablets-stand logs b headers counts asked old looked new olds news (step.Waits parent) r st of c = unmoved logs olds news c.tablets.0
 tablets-stand logs b headers counts asked old looked new olds news step.AtEnd r st of c = unmoved logs olds news c.tablets.0
 tablets-stand logs b headers counts asked old looked new olds news (step.Halted number kind) r st of c = unmoved logs olds news c.tablets.0
 
-pub given-stands : (logs : Logs) (b : AcceptedTablet) (headers : List Header) (counts : List ℕ) (asked : ℕ) (old looked new : PollerState) (olds news : List TargetTablet) (s : Step) (result : Result PollAnswer NextFail)
-    → Ready headers counts asked old looked olds s → StandsFor logs looked b → IsStepOf logs b asked old s → IsGiven looked new olds news s result → StandsFor logs new b
+pub given-stands : (logs : Logs) (b : AcceptedTablet) (headers : List Header) (counts : List ℕ) (asked : ℕ) (old looked new : PollerState)
+    (olds news : List TargetTablet) (s : Step) (result : Result PollAnswer NextFail)
+    → Ready headers counts asked old looked olds s → StandsFor logs looked b → IsStepOf logs b asked old s
+    → IsGiven looked new olds news s result → StandsFor logs new b
 given-stands logs b headers counts asked old looked new olds news (step.Batch batch) (Ok answer) r st of g =
     let same = r.looked_is.reader.cursor in
     let applied = ap (λ (p : PollerState). p.applied) r.looked_is.is in
@@ -274,26 +359,36 @@ given-stands logs b headers counts asked old looked new olds news (step.Batch ba
     let more = r.looked_is.reader.checked in
     let given = r.step_is.1.checked in
     subst (λ (p : PollerState). StandsFor logs p b) (sym g.1.0)
-    (done-stands logs looked b batch.records (omega arith) (omega arith) (omega arith) st (of.records_are ∙ ap (λ n. take (length batch.records) (drop n b.records)) (sym same)))
-given-stands logs b headers counts asked old looked new olds news (step.Batch batch) (Err e) r st of g = subst (λ (p : PollerState). StandsFor logs p b) (sym g.1.0) st
-given-stands logs b headers counts asked old looked new olds news (step.Waits parent) result r st of g = subst (λ (p : PollerState). StandsFor logs p b) (sym g.1.0) st
-given-stands logs b headers counts asked old looked new olds news step.AtEnd result r st of g = subst (λ (p : PollerState). StandsFor logs p b) (sym g.1.0) st
-given-stands logs b headers counts asked old looked new olds news (step.Halted number kind) result r st of g = subst (λ (p : PollerState). StandsFor logs p b) (sym g.1.0) st
+    (done-stands logs looked b batch.records (omega arith) (omega arith) (omega arith) st (of.records_are
+    ∙ ap (λ n. take (length batch.records) (drop n b.records)) (sym same)))
+given-stands logs b headers counts asked old looked new olds news (step.Batch batch) (Err e) r st of g =
+    subst (λ (p : PollerState). StandsFor logs p b) (sym g.1.0) st
+given-stands logs b headers counts asked old looked new olds news (step.Waits parent) result r st of g =
+    subst (λ (p : PollerState). StandsFor logs p b) (sym g.1.0) st
+given-stands logs b headers counts asked old looked new olds news step.AtEnd result r st of g =
+    subst (λ (p : PollerState). StandsFor logs p b) (sym g.1.0) st
+given-stands logs b headers counts asked old looked new olds news (step.Halted number kind) result r st of g =
+    subst (λ (p : PollerState). StandsFor logs p b) (sym g.1.0) st
 
-pub cut-stands : (logs : Logs) (b : AcceptedTablet) (last : ℕ) (looked new : PollerState) (olds news : List TargetTablet) (s : Step) (result : Result PollAnswer NextFail)
+pub cut-stands : (logs : Logs) (b : AcceptedTablet) (last : ℕ) (looked new : PollerState) (olds news : List TargetTablet) (s : Step)
+    (result : Result PollAnswer NextFail)
     → StandsFor logs looked b → IsCutOff last looked new olds news s result → StandsFor logs new b
 cut-stands logs b last looked new olds news (step.Batch batch) (Ok answer) st g =
     let r = st.reads in
-    subst (λ (p : PollerState). StandsFor logs p b) (sym g.1.0) (record { reads = record { tablet = r.tablet; reached = r.reached; checked = r.checked; order = r.order }; floor = st.floor })
+    subst (λ (p : PollerState). StandsFor logs p b) (sym g.1.0)
+    (record { reads = record { tablet = r.tablet; reached = r.reached; checked = r.checked; order = r.order }; floor = st.floor })
 cut-stands logs b last looked new olds news (step.Batch batch) (Err e) st g = subst (λ (p : PollerState). StandsFor logs p b) (sym g.1.0) st
 cut-stands logs b last looked new olds news (step.Waits parent) result st g = subst (λ (p : PollerState). StandsFor logs p b) (sym g.1.0) st
 cut-stands logs b last looked new olds news step.AtEnd result st g = subst (λ (p : PollerState). StandsFor logs p b) (sym g.1.0) st
-cut-stands logs b last looked new olds news (step.Halted number kind) result st g = subst (λ (p : PollerState). StandsFor logs p b) (sym g.1.0) st
+cut-stands logs b last looked new olds news (step.Halted number kind) result st g =
+    subst (λ (p : PollerState). StandsFor logs p b) (sym g.1.0) st
 
 -- ---- the premises, as a call has them
 
-pub ready-of : (headers headers' : List Header) (counts counts' : List ℕ) (asked : ℕ) (logs : Option Logs) (old looked : PollerState) (olds : List TargetTablet) (s : Step)
-    → IsFeed headers counts logs → IsPoller old → headers' ≡ headers → counts' ≡ counts → Looked old looked → FitsFeed headers' counts' looked.reader → IsStep headers counts asked old looked s
+pub ready-of : (headers headers' : List Header) (counts counts' : List ℕ) (asked : ℕ) (logs : Option Logs) (old looked : PollerState)
+    (olds : List TargetTablet) (s : Step)
+    → IsFeed headers counts logs → IsPoller old → headers' ≡ headers → counts' ≡ counts → Looked old looked
+    → FitsFeed headers' counts' looked.reader → IsStep headers counts asked old looked s
     → All (CanPoll headers counts old) olds → Ready headers counts asked old looked olds s
 ready-of headers headers' counts counts' asked logs old looked olds s feed is same_headers same_counts look fits steps tablets = record {
   small = feed.small old.reader.id;
@@ -306,7 +401,8 @@ ready-of headers headers' counts counts' asked logs old looked olds s feed is sa
   tablets = tablets;
 }
 
-pub still-at : (headers headers' : List Header) (counts counts' : List ℕ) (new : PollerState) (news : List TargetTablet) → headers' ≡ headers → counts' ≡ counts
+pub still-at : (headers headers' : List Header) (counts counts' : List ℕ) (new : PollerState) (news : List TargetTablet)
+    → headers' ≡ headers → counts' ≡ counts
     → All (CanPoll headers counts new) news → All (CanPoll headers' counts' new) news
 still-at headers headers' counts counts' new news same_headers same_counts h =
     subst (λ hs. All (CanPoll hs counts' new) news) (sym same_headers) (subst (λ cs. All (CanPoll headers cs new) news) (sym same_counts) h)

@@ -1,7 +1,8 @@
 -- What is made of a step of a poller.
 --     CanGive p olds s      the tablets can take in what the step s gives
 --     IsGiven old new olds news s result      each tablet took it in
---     IsCutOff last old new olds news s result      the tablets up to the one of the number `last` did, and the poller went back to its acknowledged place
+--     IsCutOff last old new olds news s result      the tablets up to the one of the number `last` did, and the poller went back to its
+--         acknowledged place
 use Rattle.std.specs.Prelude.{◌≡◌, ℕ, ◌+◌, ◌≤◌, List, length, Result, Ok, Err, All}
 use Rattle.xc_record.specs.declared.session.PollAnswer.{PollAnswer}
 use Rattle.xc_record.specs.declared.session.PollAnswer.TheVariants as poll
@@ -32,11 +33,13 @@ abbrev pub IsIdle : PollerState → PollerState → List TargetTablet → List T
 IsIdle old new olds news s result = (result ≡ Ok (answer_of s)) × ((new ≡ old) × (news ≡ olds))
 
 abbrev pub Refused : PollerState → PollerState → List TargetTablet → List TargetTablet → Batch → NextFail → Type 0
-Refused old new olds news batch e = (e ≡ fail.NoMemory) × ((new ≡ old) × ((k : ℕ) × TookFirst old.header.id batch.from batch.records k olds news))
+Refused old new olds news batch e =
+    (e ≡ fail.NoMemory) × ((new ≡ old) × ((k : ℕ) × TookFirst old.header.id batch.from batch.records k olds news))
 
 abbrev pub IsGiven : PollerState → PollerState → List TargetTablet → List TargetTablet → Step → Result PollAnswer NextFail → Type 0
 IsGiven old new olds news (step.Batch batch) (Ok answer) =
-    (answer ≡ poll.Polled (length batch.records)) × ((new ≡ done batch.records old) × TookAll old.header.id batch.from batch.records olds news)
+    (answer ≡ poll.Polled (length batch.records)) ×
+    ((new ≡ done batch.records old) × TookAll old.header.id batch.from batch.records olds news)
 IsGiven old new olds news (step.Batch batch) (Err e) = Refused old new olds news batch e
 IsGiven old new olds news (step.Waits parent) result = IsIdle old new olds news (step.Waits parent) result
 IsGiven old new olds news step.AtEnd result = IsIdle old new olds news step.AtEnd result
@@ -44,7 +47,8 @@ IsGiven old new olds news (step.Halted number kind) result = IsIdle old new olds
 
 abbrev pub IsCutOff : ℕ → PollerState → PollerState → List TargetTablet → List TargetTablet → Step → Result PollAnswer NextFail → Type 0
 IsCutOff last old new olds news (step.Batch batch) (Ok answer) =
-    (answer ≡ poll.Polled (length batch.records)) × ((new ≡ restarted old) × TookFirst old.header.id batch.from batch.records (last + 1) olds news)
+    (answer ≡ poll.Polled (length batch.records)) ×
+    ((new ≡ restarted old) × TookFirst old.header.id batch.from batch.records (last + 1) olds news)
 IsCutOff last old new olds news (step.Batch batch) (Err e) = Refused old new olds news batch e
 IsCutOff last old new olds news (step.Waits parent) result = IsIdle old new olds news (step.Waits parent) result
 IsCutOff last old new olds news step.AtEnd result = IsIdle old new olds news step.AtEnd result

@@ -1,12 +1,14 @@
 -- What a poll does to a poller and to the target tablets.
---     CanPoll headers counts p x      the target tablet x can take in what the poller p gets from a feed with these headers and numbers of records
+--     CanPoll headers counts p x      the target tablet x can take in what the poller p gets from a feed with these headers and numbers of
+--         records
 --     Looked old new      the reader of the poller looked further, and nothing else changed
 --     IsStep headers counts max old new step      what comes next of a poller, whatever the feed tells
 --     IsStepOf logs b max old step      what comes next of the logs
 --     TookAll id from rs olds news      each tablet took the records in
 --     TookFirst id from rs k olds news      the first k tablets did, and the others are as before
 --     IsPolled headers counts max old new olds news result      what a poll does, whatever the feed tells
---     IsStopped headers counts max last old new olds news result      what a poll does that is cut off after the tablet of the number `last`
+--     IsStopped headers counts max last old new olds news result      what a poll does that is cut off after the tablet of the number
+--         `last`
 --     KeepStanding logs olds news      each tablet stands for the logs as it did before
 use Rattle.std.specs.Prelude.{◌≡◌, ◌⊎◌, ℕ, ◌+◌, ◌≤◌, true, false, List, [], length, take, drop, Some, Result, Ok, Err, is_some, slice_index}
 use Rattle.std.specs.List.{AllZip}
@@ -57,7 +59,8 @@ abbrev pub IsStep : List Header → List ℕ → ℕ → PollerState → PollerS
 IsStep headers counts max old new (step.Batch batch) = (old.is_open ≡ true) × IsBatch headers counts max old.reader new.reader batch
 IsStep headers counts max old new (step.Waits parent) = (old.is_open ≡ false) × ((old.header.parent ≡ Some parent) × (new ≡ old))
 IsStep headers counts max old new step.AtEnd = (old.is_open ≡ true) × IsNext headers counts max old.reader new.reader next.AtEnd
-IsStep headers counts max old new (step.Halted number kind) = (old.is_open ≡ true) × IsNext headers counts max old.reader new.reader (next.Halted number kind)
+IsStep headers counts max old new (step.Halted number kind) =
+    (old.is_open ≡ true) × IsNext headers counts max old.reader new.reader (next.Halted number kind)
 
 -- what a poll answers that delivers as much
 abbrev pub answer_of : Step → PollAnswer
@@ -102,13 +105,15 @@ pub record Moved (headers : List Header) (counts : List ℕ) (max : ℕ) (old lo
   pub given : IsBatch headers counts max old.reader looked.reader batch
 
 -- nothing moved
-pub record Stood (headers : List Header) (counts : List ℕ) (max : ℕ) (old new : PollerState) (olds news : List TargetTablet) (s : Step) : Type 0 where
+pub record Stood (headers : List Header) (counts : List ℕ) (max : ℕ) (old new : PollerState) (olds news : List TargetTablet) (s : Step) :
+    Type 0 where
   pub looked : Looked old new
   pub tablets : news ≡ olds
   pub step : IsStep headers counts max old new s
 
 -- out of memory: the poller is as before, but for its reader, and some tablets may be ahead
-pub record WasRefused (headers : List Header) (counts : List ℕ) (max : ℕ) (old new : PollerState) (olds news : List TargetTablet) (batch : Batch) (k : ℕ) : Type 0 where
+pub record WasRefused (headers : List Header) (counts : List ℕ) (max : ℕ) (old new : PollerState) (olds news : List TargetTablet)
+    (batch : Batch) (k : ℕ) : Type 0 where
   pub moved : Moved headers counts max old new batch
   pub tablets : TookFirst old.header.id batch.from batch.records k olds news
 
@@ -116,23 +121,28 @@ abbrev pub OutOfMemory : List Header → List ℕ → ℕ → PollerState → Po
 OutOfMemory headers counts max old new olds news =
     ((new ≡ old) × (news ≡ olds)) ⊎ ((batch : Batch) × ((k : ℕ) × WasRefused headers counts max old new olds news batch k))
 
-abbrev pub IsPolled : List Header → List ℕ → ℕ → PollerState → PollerState → List TargetTablet → List TargetTablet → Result PollAnswer NextFail → Type 0
+abbrev pub IsPolled : List Header → List ℕ → ℕ → PollerState → PollerState → List TargetTablet → List TargetTablet
+    → Result PollAnswer NextFail → Type 0
 IsPolled headers counts max old new olds news (Ok (poll.Polled k)) =
     (looked : PollerState) × ((batch : Batch) × (Moved headers counts max old looked batch
     × ((k ≡ length batch.records) × ((new ≡ done batch.records looked) × TookAll old.header.id batch.from batch.records olds news))))
 IsPolled headers counts max old new olds news (Ok (poll.Waits parent)) = Stood headers counts max old new olds news (step.Waits parent)
 IsPolled headers counts max old new olds news (Ok poll.AtEnd) = Stood headers counts max old new olds news step.AtEnd
-IsPolled headers counts max old new olds news (Ok (poll.Halted number kind)) = Stood headers counts max old new olds news (step.Halted number kind)
+IsPolled headers counts max old new olds news (Ok (poll.Halted number kind)) =
+    Stood headers counts max old new olds news (step.Halted number kind)
 IsPolled headers counts max old new olds news (Err fail.ReadFault) = (new ≡ old) × (news ≡ olds)
 IsPolled headers counts max old new olds news (Err fail.NoMemory) = OutOfMemory headers counts max old new olds news
 
 -- the applied place stays, and the cursor goes back to the acknowledged one
-abbrev pub IsStopped : List Header → List ℕ → ℕ → ℕ → PollerState → PollerState → List TargetTablet → List TargetTablet → Result PollAnswer NextFail → Type 0
+abbrev pub IsStopped : List Header → List ℕ → ℕ → ℕ → PollerState → PollerState → List TargetTablet → List TargetTablet
+    → Result PollAnswer NextFail → Type 0
 IsStopped headers counts max last old new olds news (Ok (poll.Polled k)) =
     (looked : PollerState) × ((batch : Batch) × (Moved headers counts max old looked batch
     × ((k ≡ length batch.records) × ((new ≡ restarted looked) × TookFirst old.header.id batch.from batch.records (last + 1) olds news))))
-IsStopped headers counts max last old new olds news (Ok (poll.Waits parent)) = Stood headers counts max old new olds news (step.Waits parent)
+IsStopped headers counts max last old new olds news (Ok (poll.Waits parent)) =
+    Stood headers counts max old new olds news (step.Waits parent)
 IsStopped headers counts max last old new olds news (Ok poll.AtEnd) = Stood headers counts max old new olds news step.AtEnd
-IsStopped headers counts max last old new olds news (Ok (poll.Halted number kind)) = Stood headers counts max old new olds news (step.Halted number kind)
+IsStopped headers counts max last old new olds news (Ok (poll.Halted number kind)) =
+    Stood headers counts max old new olds news (step.Halted number kind)
 IsStopped headers counts max last old new olds news (Err fail.ReadFault) = (new ≡ old) × (news ≡ olds)
 IsStopped headers counts max last old new olds news (Err fail.NoMemory) = OutOfMemory headers counts max old new olds news

@@ -1,5 +1,6 @@
 -- A poller of one source tablet.
---     PollerState      its tablet's header, its reader, its acknowledged and its applied place, the last safe value there, whether it is open
+--     PollerState      its tablet's header, its reader, its acknowledged and its applied place, the last safe value there, whether it is
+--         open
 --     position_of p      its position in a session
 --     is_closed p      all accepted records were applied, and the last one is a split
 --     new_poller header      a poller that nothing was asked of yet; one of a child isn't open
@@ -9,7 +10,8 @@
 --     KeepsFeeds old new, Rises old new      what each move keeps
 --     StandsFor logs p b      what p knows of its tablet's records is what the accepted ones of b give
 --     IsPoller p      what holds of it between calls
-use Rattle.std.specs.Prelude.{◌≡◌, ℕ, ◌+◌, ◌-◌, ◌≤◌, max, Bool, true, false, ◌&&◌, ◌==◌, List, length, drop, fold, is_none, IsSome, if◌then◌else◌}
+use Rattle.std.specs.Prelude.{◌≡◌, ℕ, ◌+◌, ◌-◌, ◌≤◌, max, Bool, true, false, ◌&&◌, ◌==◌, List, length, drop, fold, is_none, IsSome}
+use Rattle.std.specs.Prelude.{if◌then◌else◌}
 use Rattle.std.specs.Option.{option_map_or}
 use Rattle.xc_record.specs.declared.record.Header.{Header}
 use Rattle.xc_record.specs.declared.record.Record.{Record}

@@ -1,5 +1,5 @@
 // A delivery to the first target tablets.
-ghost use Rattle.std.specs.Prelude.{◌≤◌, ℕ, length, All, OnOk, OnErr};
+ghost use Rattle.std.specs.Prelude.{◌≡◌, ◌≤◌, ℕ, length, drop, All, OnOk, OnErr};
 ghost use Rattle.xc_tablet.specs.Batch.{CanTake};
 ghost use Rattle.xc_poller.specs.Polled.{TookFirst};
 
@@ -19,6 +19,7 @@ pub(crate) fn deliver_first(
     requires can { All (CanTake id from records.now) tablets.old }
     ensures took { OnOk result (TookFirst id from records.now count tablets.old tablets.new) }
     ensures refused { OnErr result ((k : ℕ) × TookFirst id from records.now k tablets.old tablets.new) }
+    ensures others { drop count tablets.new ≡ drop count tablets.old }
 {
     for i in 0..count {
         let tablet = &mut tablets[i];

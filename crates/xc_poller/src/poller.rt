@@ -309,6 +309,7 @@ impl Poller {
         ensures same_logs { F.logs feed.new ≡ F.logs feed.old }
         ensures later { F.faults feed.old ≤ F.faults feed.new }
     {
+        // The check knows the poller's invariant in a function that reads a field.
         let _ = &self.header;
         let step = self.next_batch(alloc, feed, n)?;
         self.give(step, tablets)
@@ -335,6 +336,7 @@ impl Poller {
         ensures tablets { All (CanPoll (F.headers feed.new) (F.counts feed.new) self.new) tablets.new }
         ensures stopped { IsStopped (F.headers feed.old) (F.counts feed.old) n last self.old self.new tablets.old
             tablets.new result }
+        ensures others { drop (last + 1) tablets.new ≡ drop (last + 1) tablets.old }
 
         // Where it tells logs that the poller stands for.
         ensures answer { IfSome (F.logs feed.old) (λ logs. (b : AcceptedTablet) → StandsFor logs self.old b
@@ -355,6 +357,7 @@ impl Poller {
         ensures same_logs { F.logs feed.new ≡ F.logs feed.old }
         ensures later { F.faults feed.old ≤ F.faults feed.new }
     {
+        // The check knows the poller's invariant in a function that reads a field.
         let _ = &self.header;
         let step = self.next_batch(alloc, feed, n)?;
         self.cut_off(step, tablets, last)
@@ -391,6 +394,7 @@ impl Poller {
         requires can { CanGive self.old tablets.old step }
         requires last { last < length tablets.old }
         ensures cut_off { IsCutOff last self.old self.new tablets.old tablets.new step result }
+        ensures others { drop (last + 1) tablets.new ≡ drop (last + 1) tablets.old }
     {
         match step {
             Step::Batch(batch) => {

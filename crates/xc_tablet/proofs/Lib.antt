@@ -4,3 +4,4 @@ pub mod RoomLaws
 pub mod StateLaws
 pub mod CutLaws
 pub mod TabletLaws
+pub mod Zips

@@ -1,5 +1,6 @@
 -- The room that is left behind a record, and the keys of its operations.
-use Rattle.std.proofs.Common.{◌≡◌, ℕ, ◌+◌, ◌≤◌, Bool, true, false, cond, List, [], ◌∷◌, length, map, Option, refl, ap, sym, ◌∙◌, arith, ⊎_elim, ◌||◌}
+use Rattle.std.proofs.Common.{◌≡◌, ℕ, ◌+◌, ◌≤◌, Bool, true, false, cond, List, [], ◌∷◌, length, map, Option, refl, ap, sym, ◌∙◌, arith}
+use Rattle.std.proofs.Common.{⊎_elim, ◌||◌}
 use Rattle.std.specs.Prelude.{bytes_eq, nat_le}
 use Rattle.std.specs.List.{list_all}
 use Rattle.std.proofs.lemmas.Bool.{cases_Bool, true≢false, and_parts}
@@ -20,28 +21,36 @@ use Rattle.xc_tablet.specs.Room.{Settles, HasRoom, puts_of, holds_of, is_apply, 
 
 -- ---- keys that the header's tablet owns
 
-puts-none : (h : Header) (k : List ℕ) (ops : List Op) → list_all (λ op. holds h (hash_of op.key)) ops ≡ true → holds h (hash_of k) ≡ false → puts k ops ≡ []
+puts-none : (h : Header) (k : List ℕ) (ops : List Op) → list_all (λ op. holds h (hash_of op.key)) ops ≡ true → holds h (hash_of k) ≡ false
+    → puts k ops ≡ []
 puts-none h k [] e out = refl
 puts-none h k (op ∷ ops) e out =
     let p = and_parts (holds h (hash_of op.key)) (list_all (λ (o : Op). holds h (hash_of o.key)) ops) e in
     ap (λ b. cond b (op.value ∷ puts k ops) (puts k ops)) (swapped k op.key p.0 out) ∙ puts-none h k ops p.1 out
   where
     swapped : (k q : List ℕ) → holds h (hash_of q) ≡ true → holds h (hash_of k) ≡ false → bytes_eq k q ≡ false
-    swapped k q i o = ⊎_elim {C = bytes_eq k q ≡ false} (λ t. absurd (true≢false (sym i ∙ ap (λ (z : List ℕ). holds h (hash_of z)) (sym ((bytes_eq-Decides k q).0 t)) ∙ o))) (λ f. f) (cases_Bool (bytes_eq k q))
+    swapped k q i o =
+        ⊎_elim {C = bytes_eq k q ≡ false} (λ t. absurd (true≢false (sym i
+        ∙ ap (λ (z : List ℕ). holds h (hash_of z)) (sym ((bytes_eq-Decides k q).0 t)) ∙ o))) (λ f. f) (cases_Bool (bytes_eq k q))
 
-pub owned : (e : Written → Event) (h : Header) (ops : List Op) (c d : Contents) → ops_keep h ops ≡ true → Changes (λ k x. steps (map e (puts k ops)) x) c d
+pub owned : (e : Written → Event) (h : Header) (ops : List Op) (c d : Contents) → ops_keep h ops ≡ true
+    → Changes (λ k x. steps (map e (puts k ops)) x) c d
     → Changes (λ k x. cond (holds h (hash_of k)) (steps (map e (puts k ops)) x) x) c d
 owned e h ops c d keep ch = record {
   range = ch.range;
-  keys = λ k i. ch.keys k i ∙ ⊎_elim {C = steps (map e (puts k ops)) (kept_in c k) ≡ cond (holds h (hash_of k)) (steps (map e (puts k ops)) (kept_in c k)) (kept_in c k)}
+  keys = λ k i. ch.keys k i
+      ∙ ⊎_elim {C = steps (map e (puts k ops)) (kept_in c k) ≡ cond (holds h (hash_of k)) (steps (map e (puts k ops)) (kept_in c k))
+      (kept_in c k)}
       (λ t. ap (λ b. cond b (steps (map e (puts k ops)) (kept_in c k)) (kept_in c k)) (sym t))
-      (λ f. ap (λ vs. steps (map e vs) (kept_in c k)) (puts-none h k ops (and_parts (nat_le (length ops) 64) (list_all (λ (o : Op). holds h (hash_of o.key)) ops) keep).1 f)
+      (λ f. ap (λ vs. steps (map e vs) (kept_in c k))
+      (puts-none h k ops (and_parts (nat_le (length ops) 64) (list_all (λ (o : Op). holds h (hash_of o.key)) ops) keep).1 f)
       ∙ ap (λ b. cond b (steps (map e (puts k ops)) (kept_in c k)) (kept_in c k)) (sym f))
       (cases_Bool (holds h (hash_of k)));
   is = ch.is;
 }
 
-pub keys-of_header : (h : Header) (pair : Option (Header × Header)) (kind : Kind) → keeps_header h pair kind ≡ true → keys_keep h kind ≡ true
+pub keys-of_header : (h : Header) (pair : Option (Header × Header)) (kind : Kind) → keeps_header h pair kind ≡ true
+    → keys_keep h kind ≡ true
 keys-of_header h pair (kind.Write ops) e = e
 keys-of_header h pair (kind.Intent txn sub ops) e = e
 keys-of_header h pair (kind.Apply txn commit without) e = refl
@@ -68,7 +77,8 @@ apply-more r rs e = ap (λ b. b || has_apply rs) e
 
 -- behind a record that is no apply, which added so much at most, and left so many waiting
 pub room-behind : (r : Record) (rs : List Record) (c d : Contents) → (d.lo ≡ c.lo) × (d.hi ≡ c.hi) → is_apply r.kind ≡ false
-    → c.versions.spare ≤ d.versions.spare + puts_of c.lo c.hi r.kind → c.held.spare ≤ d.held.spare + holds_of c.lo c.hi r.kind → length d.held.held ≤ length c.held.held + holds_of c.lo c.hi r.kind
+    → c.versions.spare ≤ d.versions.spare + puts_of c.lo c.hi r.kind → c.held.spare ≤ d.held.spare + holds_of c.lo c.hi r.kind
+    → length d.held.held ≤ length c.held.held + holds_of c.lo c.hi r.kind
     → HasRoom (r ∷ rs) c → HasRoom rs d
 room-behind r rs c d range none versions held waits room =
     let a = same-puts c d rs range in
@@ -82,7 +92,8 @@ room-behind r rs c d range none versions held waits room =
     }
 
 -- behind an apply
-pub room-applied : (r : Record) (rs : List Record) (c d : Contents) → (d.lo ≡ c.lo) × (d.hi ≡ c.hi) → is_apply r.kind ≡ true → Settles c d → HasRoom (r ∷ rs) c → HasRoom rs d
+pub room-applied : (r : Record) (rs : List Record) (c d : Contents) → (d.lo ≡ c.lo) × (d.hi ≡ c.hi) → is_apply r.kind ≡ true → Settles c d
+    → HasRoom (r ∷ rs) c → HasRoom rs d
 room-applied r rs c d range is settles room =
     let a = same-puts c d rs range in
     let b = same-holds c d rs range in

@@ -1,5 +1,6 @@
 -- What a tablet is seen as, after one more record.
-use Rattle.std.proofs.Common.{◌≡◌, ℕ, zero, suc, ◌+◌, ◌*◌, ◌^◌, ◌<◌, ◌≤◌, Bool, true, false, cond, List, [], ◌∷◌, ◌++◌, length, Option, Some, None, refl, ap, sym, ◌∙◌, arith, subst, ⊎_elim, ◌&&◌, ◌==◌, sum}
+use Rattle.std.proofs.Common.{◌≡◌, ℕ, zero, suc, ◌+◌, ◌*◌, ◌^◌, ◌<◌, ◌≤◌, Bool, true, false, cond, List, [], ◌∷◌, ◌++◌, length, Option}
+use Rattle.std.proofs.Common.{Some, None, refl, ap, sym, ◌∙◌, arith, subst, ⊎_elim, ◌&&◌, ◌==◌, sum}
 use Rattle.std.specs.Prelude.{nat_le, slice_get, slice_index, slice_index_or, slice_set}
 use Rattle.std.specs.List.{list_all}
 use Rattle.std.specs.Option.{option_map_or}
@@ -34,7 +35,8 @@ use Rattle.xc_tablet.specs.State.{seen, IsState, Ready, names_children}
 
 -- ---- words
 
-pub names-of_header : (h : Header) (pair : Option (Header × Header)) (kind : Kind) → keeps_header h pair kind ≡ true → names_children pair kind ≡ true
+pub names-of_header : (h : Header) (pair : Option (Header × Header)) (kind : Kind) → keeps_header h pair kind ≡ true
+    → names_children pair kind ≡ true
 names-of_header h pair (kind.Write ops) e = refl
 names-of_header h pair (kind.Intent txn sub ops) e = refl
 names-of_header h pair (kind.Apply txn commit without) e = refl
@@ -43,8 +45,12 @@ names-of_header h pair (kind.Safe value) e = refl
 names-of_header h pair (kind.Split at left right) e = e
 
 pub few-of_header : (h : Header) (pair : Option (Header × Header)) (kind : Kind) → keeps_header h pair kind ≡ true → ops_in kind ≤ 64
-few-of_header h pair (kind.Write ops) e = let p : nat_le (length ops) 64 ≡ true = (and_parts (nat_le (length ops) 64) (list_all (λ op. holds h (hash_of op.key)) ops) e).0 in grind (arith, nat_tests)
-few-of_header h pair (kind.Intent txn sub ops) e = let p : nat_le (length ops) 64 ≡ true = (and_parts (nat_le (length ops) 64) (list_all (λ op. holds h (hash_of op.key)) ops) e).0 in grind (arith, nat_tests)
+few-of_header h pair (kind.Write ops) e =
+    let p : nat_le (length ops) 64 ≡ true =
+    (and_parts (nat_le (length ops) 64) (list_all (λ op. holds h (hash_of op.key)) ops) e).0 in grind (arith, nat_tests)
+few-of_header h pair (kind.Intent txn sub ops) e =
+    let p : nat_le (length ops) 64 ≡ true =
+    (and_parts (nat_le (length ops) 64) (list_all (λ op. holds h (hash_of op.key)) ops) e).0 in grind (arith, nat_tests)
 few-of_header h pair (kind.Apply txn commit without) e = omega arith
 few-of_header h pair (kind.Abort txn) e = omega arith
 few-of_header h pair (kind.Safe value) e = omega arith
@@ -52,15 +58,19 @@ few-of_header h pair (kind.Split at left right) e = omega arith
 
 -- ---- a split
 
-pub split-named : (f : Floors) (s at left right : ℕ) → split_fits (children f.headers s) at left right ≡ true → split_at s f ≡ split_into s left right f
+pub split-named : (f : Floors) (s at left right : ℕ) → split_fits (children f.headers s) at left right ≡ true
+    → split_at s f ≡ split_into s left right f
 split-named f s at left right e = go (children f.headers s) e
   where
-    go : (pair : Option (Header × Header)) → split_fits pair at left right ≡ true → option_map_or (λ pair. split_into s pair.0.id pair.1.id f) pair f ≡ split_into s left right f
+    go : (pair : Option (Header × Header)) → split_fits pair at left right ≡ true
+        → option_map_or (λ pair. split_into s pair.0.id pair.1.id f) pair f ≡ split_into s left right f
     go None e = absurd (true≢false (sym e))
     go (Some pair) e =
         let p = (and_parts (at == pair.1.lo) ((left == pair.0.id) && (right == pair.1.id)) e).1 in
-        let l : left ≡ pair.0.id = let t : (left == pair.0.id) ≡ true = (and_parts (left == pair.0.id) (right == pair.1.id) p).0 in grind (arith, nat_tests) in
-        let r : right ≡ pair.1.id = let t : (right == pair.1.id) ≡ true = (and_parts (left == pair.0.id) (right == pair.1.id) p).1 in grind (arith, nat_tests) in
+        let l : left ≡ pair.0.id =
+        let t : (left == pair.0.id) ≡ true = (and_parts (left == pair.0.id) (right == pair.1.id) p).0 in grind (arith, nat_tests) in
+        let r : right ≡ pair.1.id =
+        let t : (right == pair.1.id) ≡ true = (and_parts (left == pair.0.id) (right == pair.1.id) p).1 in grind (arith, nat_tests) in
         ap (λ l. split_into s l pair.1.id f) (sym l) ∙ ap (λ r. split_into s left r f) (sym r)
 
 -- ---- headers and closed tablets
@@ -99,7 +109,8 @@ set-true (x ∷ xs) (suc i) (suc p) e = set-true xs i p e
 split-started : (f : Floors) (s left right : ℕ) → has_started f s ≡ true → has_started (split_into s left right f) s ≡ true
 split-started f s left right e = go (slice_get f.headers s) e
   where
-    parent : (p : Option ℕ) → option_map_or (has_closed f) p true ≡ true → option_map_or (has_closed (split_into s left right f)) p true ≡ true
+    parent : (p : Option ℕ) → option_map_or (has_closed f) p true ≡ true
+        → option_map_or (has_closed (split_into s left right f)) p true ≡ true
     parent None e = refl
     parent (Some p) e = set-true f.closed s p e
 
@@ -147,7 +158,8 @@ sum-small (x ∷ xs) h = let a = sum_by-cons (λ (y : ℕ). y) x xs in let b = s
 
 few-headers : (hs : List Header) → are_headers hs ≡ true → length hs ≤ 64
 unfolding are_headers
-few-headers hs e = let p : nat_le (length hs) 64 ≡ true = (and_parts (nat_le (length hs) 64) (headers_fit hs) e).0 in grind (arith, nat_tests)
+few-headers hs e =
+    let p : nat_le (length hs) 64 ≡ true = (and_parts (nat_le (length hs) 64) (headers_fit hs) e).0 in grind (arith, nat_tests)
 
 -- the counter and what waits are far below 2^64
 pub few-at_all : (s : State) → IsState s → s.contents.next + length s.contents.held.held ≤ 4294967296
@@ -174,12 +186,15 @@ each-seen P (x ∷ xs) h = (h.0, each-seen P xs h.1)
 pub seen-within : (s : State) → IsContents s.contents → KeepsWithin (seen s)
 seen-within s is = record { versions = each-seen (λ k. has_key s.contents k ≡ true) s.contents.versions.items is.versions; held = is.held }
 
-pub taken-in : (id : ℕ) (h : Header) (r : Record) (s t : State) → slice_get s.floor.headers id ≡ Some h → After id h r s t → TakesIn id r (seen s) (seen t)
+pub taken-in : (id : ℕ) (h : Header) (r : Record) (s t : State) → slice_get s.floor.headers id ≡ Some h → After id h r s t
+    → TakesIn id r (seen s) (seen t)
 taken-in id h r s t header a = record {
   range = a.contents.range;
   places = a.places;
   floors = a.floor;
-  keys = λ k i. a.contents.keys k i ∙ ap (λ b. cond b (steps (record_events k r) (kept_in s.contents k)) (kept_in s.contents k)) (sym (ap (λ o. option_map_or (λ (h : Header). holds h (hash_of k)) o false) header));
+  keys = λ k i. a.contents.keys k i
+      ∙ ap (λ b. cond b (steps (record_events k r) (kept_in s.contents k)) (kept_in s.contents k))
+      (sym (ap (λ o. option_map_or (λ (h : Header). holds h (hash_of k)) o false) header));
   within = seen-within t a.contents.is;
 }
 
@@ -191,10 +206,12 @@ module _ (id : ℕ) (h : Header) (r : Record) (rs : List Record) (s t : State) (
   headers-same = ap (λ (f : Floors). f.headers) a.floor ∙ headers-after id r.kind s.floor
 
   pub keep-first : keeps_header h (children s.floor.headers id) r.kind ≡ true
-  keep-first = (and_parts (keeps_header h (children s.floor.headers id) r.kind) (list_all (λ (r : Record). keeps_header h (children s.floor.headers id) r.kind) rs) ready.keep).0
+  keep-first = (and_parts (keeps_header h (children s.floor.headers id) r.kind)
+      (list_all (λ (r : Record). keeps_header h (children s.floor.headers id) r.kind) rs) ready.keep).0
 
   keep-rest : list_all (λ r. keeps_header h (children s.floor.headers id) r.kind) rs ≡ true
-  keep-rest = (and_parts (keeps_header h (children s.floor.headers id) r.kind) (list_all (λ (r : Record). keeps_header h (children s.floor.headers id) r.kind) rs) ready.keep).1
+  keep-rest = (and_parts (keeps_header h (children s.floor.headers id) r.kind)
+      (list_all (λ (r : Record). keeps_header h (children s.floor.headers id) r.kind) rs) ready.keep).1
 
   place-now : slice_index t.places.items id ≡ slice_index s.places.items id + 1
   place-now = ap (λ ps. slice_index ps id) a.places ∙ index-set s.places.items id (slice_index s.places.items id + 1) id-within
@@ -203,10 +220,15 @@ module _ (id : ℕ) (h : Header) (r : Record) (rs : List Record) (s t : State) (
   state-after = record {
     contents = a.contents.is;
     headers = ap are_headers headers-same ∙ ready.is.headers;
-    count = ap length a.places ∙ length-set s.places.items id (slice_index s.places.items id + 1) ∙ ready.is.count ∙ ap length (sym headers-same);
-    closed = ap (λ (f : Floors). length f.closed) a.floor ∙ closed-length id r.kind s.floor ∙ ready.is.closed ∙ ap length (sym headers-same);
-    small = subst (Each (λ p. p ≤ 2 ^ 20)) (sym a.places) (each-set (λ p. p ≤ 2 ^ 20) s.places.items id (slice_index s.places.items id + 1) (let x = ready.short in omega arith) ready.is.small);
-    few = (let x = ap sum a.places in let y = sum-set s.places.items id (slice_index s.places.items id + 1) id-within in let z = few-of_header h (children s.floor.headers id) r.kind keep-first in let w = ready.is.few in let v = a.next in omega arith);
+    count = ap length a.places ∙ length-set s.places.items id (slice_index s.places.items id + 1) ∙ ready.is.count
+        ∙ ap length (sym headers-same);
+    closed = ap (λ (f : Floors). length f.closed) a.floor ∙ closed-length id r.kind s.floor ∙ ready.is.closed
+        ∙ ap length (sym headers-same);
+    small = subst (Each (λ p. p ≤ 2 ^ 20)) (sym a.places)
+        (each-set (λ p. p ≤ 2 ^ 20) s.places.items id (slice_index s.places.items id + 1) (let x = ready.short in omega arith)
+        ready.is.small);
+    few = (let x = ap sum a.places in let y = sum-set s.places.items id (slice_index s.places.items id + 1) id-within in let z =
+        few-of_header h (children s.floor.headers id) r.kind keep-first in let w = ready.is.few in let v = a.next in omega arith);
   }
 
   open-rest : has_closed t.floor id ≡ true → length rs ≡ 0
@@ -220,7 +242,8 @@ module _ (id : ℕ) (h : Header) (r : Record) (rs : List Record) (s t : State) (
 
       other : is_split r.kind ≡ false → length rs ≡ 0
       other q =
-          let same : has_closed t.floor id ≡ has_closed s.floor id = ap (λ f. has_closed f id) a.floor ∙ ap (λ bs. slice_index_or bs id false) (closed-after id r.kind s.floor q) in
+          let same : has_closed t.floor id ≡ has_closed s.floor id =
+          ap (λ f. has_closed f id) a.floor ∙ ap (λ bs. slice_index_or bs id false) (closed-after id r.kind s.floor q) in
           let n = ready.open_still (sym same ∙ e) in
           omega arith
 
@@ -243,14 +266,19 @@ ready-first id h r rs s ready = record {
   header = ready.header;
   started = ready.started;
   open_still = λ e. let n = ready.open_still e in omega arith;
-  keep = ap (λ b. b && true) (and_parts (keeps_header h (children s.floor.headers id) r.kind) (list_all (λ (r : Record). keeps_header h (children s.floor.headers id) r.kind) rs) ready.keep).0;
+  keep = ap (λ b. b && true)
+      (and_parts (keeps_header h (children s.floor.headers id) r.kind)
+      (list_all (λ (r : Record). keeps_header h (children s.floor.headers id) r.kind) rs) ready.keep).0;
   ends = elim (is_split r.kind) as (λ b. (cond b true true && true) ≡ true) [ true ↦ refl | false ↦ refl ];
   short = (let x = ready.short in omega arith);
   room = room-first r rs s.contents ready.room;
 }
 
-pub kept-first : (id : ℕ) (h : Header) (r : Record) (rs : List Record) (s : State) → Ready id h (r ∷ rs) s → keeps_header h (children s.floor.headers id) r.kind ≡ true
-kept-first id h r rs s ready = (and_parts (keeps_header h (children s.floor.headers id) r.kind) (list_all (λ (r : Record). keeps_header h (children s.floor.headers id) r.kind) rs) ready.keep).0
+pub kept-first : (id : ℕ) (h : Header) (r : Record) (rs : List Record) (s : State) → Ready id h (r ∷ rs) s
+    → keeps_header h (children s.floor.headers id) r.kind ≡ true
+kept-first id h r rs s ready =
+    (and_parts (keeps_header h (children s.floor.headers id) r.kind)
+    (list_all (λ (r : Record). keeps_header h (children s.floor.headers id) r.kind) rs) ready.keep).0
 
 pub place-within : (id : ℕ) (h : Header) (rs : List Record) (s : State) → Ready id h rs s → id < length s.places.items
 place-within id h rs s ready = let x = header-within id h rs s ready in let y = ready.is.count in omega arith
@@ -267,10 +295,13 @@ take-first rs i r h e = take_more rs i r h ∙ ap (λ q. take i rs ++ q ∷ []) 
 
 pub alike-is : (c d : Contents) → Alike c d → IsContents c → IsContents d
 alike-is c d a is = record {
-  versions = subst (Each (λ v. has_key d v.key ≡ true)) (sym a.versions) (Each-weaker (λ v. has_key c v.key ≡ true) (λ v. has_key d v.key ≡ true) (λ v h. same v.key h) c.versions.items is.versions);
-  held = subst (Each (λ w. has_key d w.key ≡ true)) (sym a.held) (Each-weaker (λ w. has_key c w.key ≡ true) (λ w. has_key d w.key ≡ true) (λ w h. same w.key h) c.held.held is.held);
+  versions = subst (Each (λ v. has_key d v.key ≡ true)) (sym a.versions)
+      (Each-weaker (λ v. has_key c v.key ≡ true) (λ v. has_key d v.key ≡ true) (λ v h. same v.key h) c.versions.items is.versions);
+  held = subst (Each (λ w. has_key d w.key ≡ true)) (sym a.held)
+      (Each-weaker (λ w. has_key c w.key ≡ true) (λ w. has_key d w.key ≡ true) (λ w h. same w.key h) c.held.held is.held);
   ordered = subst InOrder (sym a.versions) is.ordered;
-  counted = subst (Each (λ v. v.place < d.next)) (sym a.versions) (subst (λ n. Each (λ v. v.place < n) c.versions.items) (sym a.next) is.counted);
+  counted = subst (Each (λ v. v.place < d.next)) (sym a.versions)
+      (subst (λ n. Each (λ v. v.place < n) c.versions.items) (sym a.next) is.counted);
 }
   where
     same : (q : List ℕ) → has_key c q ≡ true → has_key d q ≡ true
@@ -309,10 +340,13 @@ ends-drop rs zero e = e
 ends-drop [] (suc n) e = e
 ends-drop (r ∷ rs) (suc n) e = ends-drop rs n (and_parts (cond (is_split r.kind) (length rs == 0) true) (splits_end rs) e).1
 
-keep-all : (headers : List Header) (id : ℕ) (h : Header) (rs : List Record) → slice_get headers id ≡ Some h → records_keep headers id rs ≡ true → list_all (λ r. keeps_header h (children headers id) r.kind) rs ≡ true
-keep-all headers id h rs e k = sym (ap (λ o. option_map_or (λ (h : Header). list_all (λ (r : Record). keeps_header h (children headers id) r.kind) rs) o false) e) ∙ k
+keep-all : (headers : List Header) (id : ℕ) (h : Header) (rs : List Record) → slice_get headers id ≡ Some h
+    → records_keep headers id rs ≡ true → list_all (λ r. keeps_header h (children headers id) r.kind) rs ≡ true
+keep-all headers id h rs e k =
+    sym (ap (λ o. option_map_or (λ (h : Header). list_all (λ (r : Record). keeps_header h (children headers id) r.kind) rs) o false) e) ∙ k
 
-small-all : (h : Header) (pair : Option (Header × Header)) (rs : List Record) → list_all (λ r. keeps_header h pair r.kind) rs ≡ true → list_all (λ r. nat_le (ops_in r.kind) 64) rs ≡ true
+small-all : (h : Header) (pair : Option (Header × Header)) (rs : List Record) → list_all (λ r. keeps_header h pair r.kind) rs ≡ true
+    → list_all (λ r. nat_le (ops_in r.kind) 64) rs ≡ true
 small-all h pair [] e = refl
 small-all h pair (r ∷ rs) e =
     let p = and_parts (keeps_header h pair r.kind) (list_all (λ (r : Record). keeps_header h pair r.kind) rs) e in
@@ -320,9 +354,11 @@ small-all h pair (r ∷ rs) e =
     let one : nat_le (ops_in r.kind) 64 ≡ true = grind (arith, nat_tests) in
     ap (λ b. b && list_all (λ (r : Record). nat_le (ops_in r.kind) 64) rs) one ∙ small-all h pair rs p.1
 
-module _ (id from : ℕ) (h : Header) (rs : List Record) (s : State) (is : IsState s) (can : CanTake id from rs (seen s)) (header : slice_get s.floor.headers id ≡ Some h) where
+module _ (id from : ℕ) (h : Header) (rs : List Record) (s : State) (is : IsState s) (can : CanTake id from rs (seen s))
+    (header : slice_get s.floor.headers id ≡ Some h) where
   keep-past : list_all (λ r. keeps_header h (children s.floor.headers id) r.kind) (past (slice_index s.places.items id) from rs) ≡ true
-  keep-past = all-drop (λ (r : Record). keeps_header h (children s.floor.headers id) r.kind) rs (slice_index s.places.items id + 1 - from) (keep-all s.floor.headers id h rs header can.keep)
+  keep-past = all-drop (λ (r : Record). keeps_header h (children s.floor.headers id) r.kind) rs (slice_index s.places.items id + 1 - from)
+      (keep-all s.floor.headers id h rs header can.keep)
 
   pub small-past : list_all (λ r. nat_le (ops_in r.kind) 64) (past (slice_index s.places.items id) from rs) ≡ true
   small-past = small-all h (children s.floor.headers id) (past (slice_index s.places.items id) from rs) keep-past
@@ -333,7 +369,8 @@ module _ (id from : ℕ) (h : Header) (rs : List Record) (s : State) (is : IsSta
   pub few-past : length (past (slice_index s.places.items id) from rs) ≤ 2 ^ 20
   few-past = let a = past-length in let b = can.short in let c = can.next in let d = can.first in omega arith
 
-  pub ready-past : (d : Contents) → Alike s.contents d → HasRoom (past (slice_index s.places.items id) from rs) d → Ready id h (past (slice_index s.places.items id) from rs) (record s { contents = d })
+  pub ready-past : (d : Contents) → Alike s.contents d → HasRoom (past (slice_index s.places.items id) from rs) d
+      → Ready id h (past (slice_index s.places.items id) from rs) (record s { contents = d })
   ready-past d a room = record {
     is = alike-state s d a is;
     header = header;
@@ -348,10 +385,12 @@ module _ (id from : ℕ) (h : Header) (rs : List Record) (s : State) (is : IsSta
       place-small : slice_index s.places.items id ≤ 2 ^ 20
       place-small = each-index (λ p. p ≤ 2 ^ 20) (omega arith) s.places.items id is.small
 
-pub past-is : (s : State) (id from : ℕ) (h : Header) (rs here : List Record) (place : ℕ) → IsState s → slice_get s.floor.headers id ≡ Some h → place ≡ get_or s.places.items id place → here ≡ past place from rs
+pub past-is : (s : State) (id from : ℕ) (h : Header) (rs here : List Record) (place : ℕ) → IsState s
+    → slice_get s.floor.headers id ≡ Some h → place ≡ get_or s.places.items id place → here ≡ past place from rs
     → here ≡ past (slice_index s.places.items id) from rs
 past-is s id from h rs here place is header read e =
-    e ∙ ap (λ p. past p from rs) (get_or_read s.places.items id place (let a = get-within s.floor.headers id h header in let b = is.count in omega arith) read 0)
+    e ∙ ap (λ p. past p from rs)
+    (get_or_read s.places.items id place (let a = get-within s.floor.headers id h header in let b = is.count in omega arith) read 0)
 
 -- ---- a new tablet
 
@@ -359,12 +398,14 @@ each-none : (n : ℕ) → Each (λ p. p ≤ 2 ^ 20) (replicate n 0)
 each-none zero = tt
 each-none (suc n) = (omega arith, each-none n)
 
-pub new-state : (s : State) (headers : List Header) → are_headers headers ≡ true → s.floor ≡ new_floors headers → s.places.items ≡ replicate (length headers) 0 → IsContents s.contents → s.contents.next ≡ 0 → s.contents.held.held ≡ [] → IsState s
+pub new-state : (s : State) (headers : List Header) → are_headers headers ≡ true → s.floor ≡ new_floors headers
+    → s.places.items ≡ replicate (length headers) 0 → IsContents s.contents → s.contents.next ≡ 0 → s.contents.held.held ≡ [] → IsState s
 new-state s headers e floor places is next held = record {
   contents = is;
   headers = ap (λ (f : Floors). are_headers f.headers) floor ∙ e;
   count = ap length places ∙ length-replicate (length headers) 0 ∙ ap (λ (f : Floors). length f.headers) (sym floor);
-  closed = ap (λ (f : Floors). length f.closed) floor ∙ length-replicate (length headers) false ∙ ap (λ (f : Floors). length f.headers) (sym floor);
+  closed = ap (λ (f : Floors). length f.closed) floor ∙ length-replicate (length headers) false
+      ∙ ap (λ (f : Floors). length f.headers) (sym floor);
   small = subst (Each (λ p. p ≤ 2 ^ 20)) (sym places) (each-none (length headers));
   few = (let x = ap length held in omega arith);
 }

@@ -1,5 +1,6 @@
 -- What holds of a tablet for logs, by the laws of the model.
-use Rattle.std.proofs.Common.{◌≡◌, ℕ, ◌+◌, ◌-◌, ◌≤◌, ◌<◌, true, false, List, length, take, drop, Option, Some, None, Result, Ok, Err, refl, ap, sym, ◌∙◌, arith, subst}
+use Rattle.std.proofs.Common.{◌≡◌, ℕ, ◌+◌, ◌-◌, ◌≤◌, ◌<◌, true, false, List, length, take, drop, Option, Some, None, Result, Ok, Err, refl}
+use Rattle.std.proofs.Common.{ap, sym, ◌∙◌, arith, subst}
 use Rattle.std.specs.Prelude.{OnOk, IfOk, slice_get, slice_index}
 use Rattle.std.specs.Option.{option_map_or}
 use Rattle.std.proofs.lemmas.Bool.{true≢false}
@@ -27,14 +28,19 @@ started-within f id e = go (slice_get f.headers id) refl e
     go None e h = absurd (true≢false (sym h))
     go (Some h) e _ = slice_get_within f.headers id h e
 
-pub batch-moves : (id from : ℕ) (rs : List Record) (x y : TargetTablet) → 1 ≤ from → from ≤ slice_index x.places id + 1 → has_started x.floors id ≡ true → length x.places ≡ length x.floors.headers → TakesBatch id from rs x y → BatchTaken id from rs x y
-batch-moves id from rs x y first next started count takes = batches-move id from rs x y first next (let a = started-within x.floors id started in omega arith) takes
+pub batch-moves : (id from : ℕ) (rs : List Record) (x y : TargetTablet) → 1 ≤ from → from ≤ slice_index x.places id + 1
+    → has_started x.floors id ≡ true → length x.places ≡ length x.floors.headers → TakesBatch id from rs x y → BatchTaken id from rs x y
+batch-moves id from rs x y first next started count takes =
+    batches-move id from rs x y first next (let a = started-within x.floors id started in omega arith) takes
 
-pub batch-stands : (id from : ℕ) (rs : List Record) (x y : TargetTablet) → 1 ≤ from → from ≤ slice_index x.places id + 1 → has_started x.floors id ≡ true → TakesBatch id from rs x y
+pub batch-stands : (id from : ℕ) (rs : List Record) (x y : TargetTablet) → 1 ≤ from → from ≤ slice_index x.places id + 1
+    → has_started x.floors id ≡ true → TakesBatch id from rs x y
     → (logs : Logs) (u : ℕ) → StandsFor logs u x → rs ≡ take (length rs) (drop (from - 1) (accepted logs id)) → StandsFor logs u y
-batch-stands id from rs x y first next started takes logs u stands accepted = batches-keep logs x y u id from rs stands started first next accepted takes
+batch-stands id from rs x y first next started takes logs u stands accepted =
+    batches-keep logs x y u id from rs stands started first next accepted takes
 
-pub new-tablet_stands : (lo hi : ℕ) (headers : List Header) (x : TargetTablet) → x ≡ new_tablet lo hi headers → (logs : Logs) → is_valid logs ≡ true → headers_of logs.tablets ≡ headers → StandsFor logs 0 x
+pub new-tablet_stands : (lo hi : ℕ) (headers : List Header) (x : TargetTablet) → x ≡ new_tablet lo hi headers → (logs : Logs)
+    → is_valid logs ≡ true → headers_of logs.tablets ≡ headers → StandsFor logs 0 x
 new-tablet_stands lo hi headers x e logs valid same =
     subst (StandsFor logs 0) (ap (new_tablet lo hi) same ∙ sym e) (new-stands logs lo hi valid)
 

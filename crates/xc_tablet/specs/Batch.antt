@@ -3,7 +3,8 @@
 --     records_keep headers id rs      the records keep the header of the source tablet id
 --     CanTake id from rs x      the records rs of the source tablet id, from the number `from` on, can be taken in
 --     FitsFeed headers counts x      x is of a feed with these headers and numbers of records, and is not ahead of it
-use Rattle.std.specs.Prelude.{◌≡◌, ℕ, ◌+◌, ◌-◌, ◌^◌, ◌<◌, ◌≤◌, ◌↔◌, Bool, true, false, ◌&&◌, ◌==◌, List, [], ◌∷◌, length, slice_get, slice_index, if◌then◌else◌, IsSome, IsTrue}
+use Rattle.std.specs.Prelude.{◌≡◌, ℕ, ◌+◌, ◌-◌, ◌^◌, ◌<◌, ◌≤◌, ◌↔◌, Bool, true, false, ◌&&◌, ◌==◌, List, [], ◌∷◌, length, slice_get}
+use Rattle.std.specs.Prelude.{slice_index, if◌then◌else◌, IsSome, IsTrue}
 use Rattle.std.specs.List.{list_all}
 use Rattle.std.specs.Option.{option_map_or}
 use Rattle.xc_record.specs.declared.record.Header.{Header}
@@ -19,7 +20,8 @@ splits_end [] = true
 splits_end (r ∷ rs) = (if is_split r.kind then length rs == 0 else true) && splits_end rs
 
 abbrev pub records_keep : List Header → ℕ → List Record → Bool
-records_keep headers id rs = option_map_or (λ h. list_all (λ r. keeps_header h (children headers id) r.kind) rs) (slice_get headers id) false
+records_keep headers id rs =
+    option_map_or (λ h. list_all (λ r. keeps_header h (children headers id) r.kind) rs) (slice_get headers id) false
 
 pub record CanTake (id from : ℕ) (rs : List Record) (x : TargetTablet) : Type 0 where
   pub first : 1 ≤ from
@@ -37,4 +39,5 @@ pub record FitsFeed (headers : List Header) (counts : List ℕ) (x : TargetTable
   pub same : x.floors.headers ≡ headers
   pub within : (s : ℕ) → slice_index x.places s ≤ slice_index counts s
   -- of a tablet with children all records were taken in exactly where it is closed here
-  pub ends : (s : ℕ) → s < length headers → IsSome (children headers s) → IsTrue (has_closed x.floors s) ↔ (slice_index x.places s ≡ slice_index counts s)
+  pub ends : (s : ℕ) → s < length headers → IsSome (children headers s)
+      → IsTrue (has_closed x.floors s) ↔ (slice_index x.places s ≡ slice_index counts s)

@@ -5,7 +5,8 @@
 --     Alike c d      d keeps what c keeps, with more room at most
 --     Changes f c d      d is c with f done to what is kept at each key of the range
 --     put_events time ops, hold_events txn sub time ops      what operations do at a key, of a write and of an intent
---     LeavesAlike txn commit without lo hi c d      an apply of what waits still at the hashes from lo to hi gives the same after c and after d
+--     LeavesAlike txn commit without lo hi c d      an apply of what waits still at the hashes from lo to hi gives the same after c and
+--         after d
 --     keys_keep header kind      a record's keys are of the tablet with this header
 use Rattle.std.specs.Prelude.{◌≡◌, ℕ, ◌<◌, Bool, true, ◌&&◌, nat_le, List, map, filter}
 use Rattle.std.specs.List.{AllByRecursion}
@@ -58,7 +59,8 @@ hold_events txn sub time ops k x = steps (map (λ v. Hold txn sub time v) (puts 
 -- what an apply leaves at the key of what is kept in c
 abbrev pub applied : ℕ → ℕ → List ℕ → ℕ → ℕ → Contents → List ℕ → Kept
 applied txn commit without lo hi c k = record {
-  versions = add_all commit (filter (is_kept without) (waiting_at k (filter (is_part txn lo hi) c.held.held))) (stored_at k c.versions.items);
+  versions = add_all commit (filter (is_kept without) (waiting_at k (filter (is_part txn lo hi) c.held.held)))
+      (stored_at k c.versions.items);
   held = waiting_at k (filter (is_rest txn lo hi) c.held.held);
 }
 

@@ -1,5 +1,6 @@
 // What a target tablet keeps of the keys of its range: their versions, and the operations that wait.
-ghost use Rattle.std.specs.Prelude.{◌≡◌, ◌≤◌, ◌<◌, ◌+◌, ◌^◌, ℕ, true, false, List, [], ◌∷◌, length, if◌then◌else◌, None, nat_le, OnOk};
+ghost use Rattle.std.specs.Prelude.{◌≡◌, ◌≤◌, ◌<◌, ◌+◌, ◌^◌, ℕ, true, false, List, [], ◌∷◌, length, if◌then◌else◌};
+ghost use Rattle.std.specs.Prelude.{None, nat_le, OnOk};
 ghost use Rattle.std.specs.List.{find, list_all};
 ghost use Rattle.xc_record.specs.declared.record.Record.{Record};
 ghost use Rattle.xc_record.specs.Hash.{hash_of, holds};
@@ -7,7 +8,8 @@ ghost use Rattle.xc_record.specs.Path.{Apply, Abort, record_events};
 ghost use Rattle.xc_record.specs.Kept.{step, steps};
 ghost use Rattle.xc_record.specs.Valid.{ops_in};
 ghost use Rattle.xc_intents.specs.HeldOps.{is_part};
-ghost use Rattle.xc_tablet.specs.Contents.{in_hashes, has_key, kept_in, IsContents, Alike, Changes, put_events, hold_events, LeavesAlike, keys_keep};
+ghost use Rattle.xc_tablet.specs.Contents.{in_hashes, has_key, kept_in, IsContents, Alike, Changes, put_events};
+ghost use Rattle.xc_tablet.specs.Contents.{hold_events, LeavesAlike, keys_keep};
 ghost use Rattle.xc_tablet.specs.Room.{count_in, Adds, Settles, HasRoom};
 
 use crate::room::Room;
@@ -159,7 +161,8 @@ impl Contents {
         requires keep { keys_keep header.now item.now.kind ≡ true }
         requires room { HasRoom (item.now ∷ []) self.old }
         requires next { self.old.next + length self.old.held.held + ops_in item.now.kind < 2 ^ 64 }
-        ensures changes { Changes (λ k x. if holds header.now (hash_of k) then steps (record_events k item.now) x else x)
+        ensures changes { Changes
+            (λ k x. if holds header.now (hash_of k) then steps (record_events k item.now) x else x)
             self.old self.new }
         ensures room { (rs : List Record) → HasRoom (item.now ∷ rs) self.old → HasRoom rs self.new }
         ensures next { self.new.next + length self.new.held.held

@@ -1,5 +1,6 @@
 // A target tablet's parts, and how records are taken in.
-ghost use Rattle.std.specs.Prelude.{◌≡◌, ◌≤◌, ◌<◌, ◌+◌, ◌-◌, ◌^◌, ◌*◌, ℕ, true, false, List, [], ◌∷◌, length, sum, Some, slice_get, slice_index, IfOk, OnOk, OnErr, nat_le, is_ok};
+ghost use Rattle.std.specs.Prelude.{◌≡◌, ◌≤◌, ◌<◌, ◌+◌, ◌-◌, ◌^◌, ◌*◌, ℕ, true, false, List, [], ◌∷◌, length, sum};
+ghost use Rattle.std.specs.Prelude.{Some, slice_get, slice_index, IfOk, OnOk, OnErr, nat_le, is_ok};
 ghost use Rattle.std.specs.List.{list_all};
 ghost use Rattle.xc_record.specs.declared.record.Record.{Record};
 ghost use Rattle.xc_record.specs.Headers.{are_headers, children};

@@ -1,5 +1,6 @@
 // A target tablet.
-ghost use Rattle.std.specs.Prelude.{◌≡◌, ◌≤◌, ◌<◌, ◌+◌, ◌-◌, ◌^◌, ℕ, true, None, max, take, drop, length, slice_index, option_copied, IfOk, OnOk, OnErr, List};
+ghost use Rattle.std.specs.Prelude.{◌≡◌, ◌≤◌, ◌<◌, ◌+◌, ◌-◌, ◌^◌, ℕ, true, None, max, take, drop, length, slice_index};
+ghost use Rattle.std.specs.Prelude.{option_copied, IfOk, OnOk, OnErr, List};
 ghost use Rattle.std.specs.Ordering.{nat_cmp};
 ghost use Rattle.std.specs.Cmp.Lexicographic.{slice_cmp};
 ghost use Rattle.std.specs.FinMap.Entries.{where_key};
@@ -12,7 +13,8 @@ ghost use Rattle.xc_record.specs.Rows.{row, rows};
 ghost use Rattle.xc_record.specs.Valid.{is_valid, headers_of};
 ghost use Rattle.xc_model.specs.Floors.{has_closed, has_started, least_kept};
 ghost use Rattle.xc_model.specs.Laws.{BatchTaken};
-ghost use Rattle.xc_model.specs.Stands.{in_range, kept_at, rows_shown, StandsFor, covers, new_tablet, KeepsFrom, restore, RestoredTo, TakesBatch};
+ghost use Rattle.xc_model.specs.Stands.{in_range, kept_at, rows_shown, StandsFor, covers, new_tablet, KeepsFrom};
+ghost use Rattle.xc_model.specs.Stands.{restore, RestoredTo, TakesBatch};
 ghost use Rattle.xc_tablet.specs.Batch.{records_keep, splits_end};
 
 use crate::state::State;
@@ -82,7 +84,8 @@ impl TargetTablet {
         ensures moved { OnOk result (BatchTaken id from records.now self.old self.new) }
         // Where these are accepted records of logs, the tablet stands for the logs as before.
         ensures stands { OnOk result ((logs : Logs) (u : ℕ) → StandsFor logs u self.old
-            → records.now ≡ take (length records.now) (drop (from - 1) (accepted logs id)) → StandsFor logs u self.new) }
+            → records.now ≡ take (length records.now) (drop (from - 1) (accepted logs id))
+            → StandsFor logs u self.new) }
         ensures out_of_memory { OnErr result (self.new ≡ self.old) }
     {
         self.state.deliver(id, from, records)

@@ -7,3 +7,7 @@ pub mod PollLaws
 pub mod PollFacts
 pub mod PollFits
 pub mod PollSteps
+pub mod ScanLaws
+pub mod CursorLaws
+pub mod DrainLaws
+pub mod PassLaws

@@ -15,8 +15,10 @@ pub least-end : (m : ℕ) → m ≤ 2 ^ 62 → min m (least_open []) ≡ m
 least-end m h = omega arith
 
 -- a poller that counts, and one that doesn't
-pub least-counts : (m : ℕ) (p : PollerState) (ps : List PollerState) → is_low p ≡ true → min (min m p.floor) (least_open ps) ≡ min m (least_open (p ∷ ps))
+pub least-counts : (m : ℕ) (p : PollerState) (ps : List PollerState) → is_low p ≡ true
+    → min (min m p.floor) (least_open ps) ≡ min m (least_open (p ∷ ps))
 least-counts m p ps e = rw e (omega arith)
 
-pub least-passes : (m : ℕ) (p : PollerState) (ps : List PollerState) → is_low p ≡ false → min m (least_open ps) ≡ min m (least_open (p ∷ ps))
+pub least-passes : (m : ℕ) (p : PollerState) (ps : List PollerState) → is_low p ≡ false
+    → min m (least_open ps) ≡ min m (least_open (p ∷ ps))
 least-passes m p ps e = rw e refl

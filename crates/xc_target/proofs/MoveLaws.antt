@@ -1,5 +1,6 @@
 -- What a target keeps of a session where one poller changed, or its tablets did.
-use Rattle.std.proofs.Common.{◌≡◌, ◌≢◌, ℕ, zero, suc, ◌≤◌, List, [], ◌∷◌, map, length, max, Option, Some, None, refl, ap, sym, ◌∙◌, subst, arith, ⊎_elim}
+use Rattle.std.proofs.Common.{◌≡◌, ◌≢◌, ℕ, zero, suc, ◌≤◌, List, [], ◌∷◌, map, length, max, Option, Some, None, refl, ap, sym, ◌∙◌, subst}
+use Rattle.std.proofs.Common.{arith, ⊎_elim}
 use Rattle.std.specs.Prelude.{slice_get, slice_index, slice_set}
 use Rattle.std.specs.List.{AllZip}
 use Rattle.std.proofs.lemmas.Bool.{cases_eq}
@@ -21,7 +22,7 @@ use Rattle.xc_model.proofs.FloorLaw.{safe-rises}
 use Rattle.xc_model.proofs.KeepLaws.{cutoffs-keep}
 use Rattle.xc_poller.specs.Poller.{PollerState, position_of, confirmed, restarted}
 use Rattle.xc_poller.specs.Polled.{CanPoll}
-use Rattle.xc_poller.proofs.Zips.{zip-to}
+use Rattle.xc_tablet.proofs.Zips.{zip-to}
 use Rattle.xc_change.specs.Reader.{FitsFeed as ReaderFits}
 use Rattle.xc_target.specs.Target.{TargetState, headers_of_pollers, FitsFeed}
 use Rattle.xc_target.specs.Stands.{IsAhead, WasAhead, AreKept, Polls, StandsForSession}
@@ -30,7 +31,8 @@ use Rattle.xc_target.proofs.SessionLaws.{place-is, position-is}
 
 -- ---- lists
 
-pub each-put : {A : Type 0} (P : A → Type 0) (xs : List A) (i : ℕ) (p q : A) → slice_get xs i ≡ Some p → (P p → P q) → Each P xs → Each P (slice_set xs i q)
+pub each-put : {A : Type 0} (P : A → Type 0) (xs : List A) (i : ℕ) (p q : A) → slice_get xs i ≡ Some p → (P p → P q) → Each P xs
+    → Each P (slice_set xs i q)
 each-put P [] i p q e f h = h
 each-put P (x ∷ xs) zero p q e f h = (f (subst P (same_Some x p e) h.0), h.1)
 each-put P (x ∷ xs) (suc i) p q e f h = (h.0, each-put P xs i p q e f h.1)
@@ -47,7 +49,8 @@ get-set-there (x ∷ xs) zero (suc j) q n = refl
 get-set-there (x ∷ xs) (suc i) zero q n = refl
 get-set-there (x ∷ xs) (suc i) (suc j) q n = get-set-there xs i j q (λ e. n (ap (λ (k : ℕ). suc k) e))
 
-pub headers-put : (ps : List PollerState) (i : ℕ) (p q : PollerState) → slice_get ps i ≡ Some p → q.header ≡ p.header → headers_of_pollers (slice_set ps i q) ≡ headers_of_pollers ps
+pub headers-put : (ps : List PollerState) (i : ℕ) (p q : PollerState) → slice_get ps i ≡ Some p → q.header ≡ p.header
+    → headers_of_pollers (slice_set ps i q) ≡ headers_of_pollers ps
 headers-put [] i p q e f = refl
 headers-put (x ∷ xs) zero p q e f = let h : q.header ≡ x.header = f ∙ ap (λ (p : PollerState). p.header) (sym (same_Some x p e)) in cc
 headers-put (x ∷ xs) (suc i) p q e f = ap (λ hs. x.header ∷ hs) (headers-put xs i p q e f)
@@ -55,7 +58,8 @@ headers-put (x ∷ xs) (suc i) p q e f = ap (λ hs. x.header ∷ hs) (headers-pu
 -- ---- the session's numbers
 
 -- what is kept of tablets and pollers speaks of the session's places and cutoff alone
-pub ahead-same : (logs : Logs) (m n : Session) (x : TargetTablet) → n.cutoff ≡ m.cutoff → places_of n ≡ places_of m → IsAhead logs m x → IsAhead logs n x
+pub ahead-same : (logs : Logs) (m n : Session) (x : TargetTablet) → n.cutoff ≡ m.cutoff → places_of n ≡ places_of m → IsAhead logs m x
+    → IsAhead logs n x
 ahead-same logs m n x c e a = record {
   stands = subst (λ (u : ℕ). TabletStandsFor logs u x) (sym c) a.stands;
   places = λ s. subst (λ (w : List ℕ). slice_index w s ≤ slice_index x.places s) (sym e) (a.places s);
@@ -65,7 +69,8 @@ pub each-to : {A : Type 0} (P Q : A → Type 0) → ((x : A) → P x → Q x) �
 each-to P Q f [] h = tt
 each-to P Q f (x ∷ xs) h = (f x h.0, each-to P Q f xs h.1)
 
-pub polls-same : (logs : Logs) (m n : Session) (b : AcceptedTablet) (p : PollerState) → places_of n ≡ places_of m → Polls logs m b p → Polls logs n b p
+pub polls-same : (logs : Logs) (m n : Session) (b : AcceptedTablet) (p : PollerState) → places_of n ≡ places_of m → Polls logs m b p
+    → Polls logs n b p
 polls-same logs m n b p e h = record {
   header = h.header;
   opened = h.opened ∙ ap (λ (w : List ℕ). is_started logs w b.header.parent) (sym e);
@@ -76,8 +81,10 @@ polls-same logs m n b p e h = record {
 
 -- ---- one poller
 
-module _ (logs : Logs) (m : Session) (t : TargetState) (id : ℕ) (p q : PollerState) (st : StandsForSession logs m t) (open_ : t.closed ≡ None) (at : slice_get t.pollers id ≡ Some p)
-    (place : q.applied ≡ p.applied) (kept : (b : AcceptedTablet) → accepted_tablet logs id ≡ Some b → Polls logs m b p → Polls logs m b q) where
+module _ (logs : Logs) (m : Session) (t : TargetState) (id : ℕ) (p q : PollerState) (st : StandsForSession logs m t)
+    (open_ : t.closed ≡ None) (at : slice_get t.pollers id ≡ Some p)
+    (place : q.applied ≡ p.applied)
+    (kept : (b : AcceptedTablet) → accepted_tablet logs id ≡ Some b → Polls logs m b p → Polls logs m b q) where
   abbrev put : TargetState
   put = record t { pollers = slice_set t.pollers id q }
 
@@ -91,13 +98,15 @@ module _ (logs : Logs) (m : Session) (t : TargetState) (id : ℕ) (p q : PollerS
   still-open : m.closed ≡ None
   still-open = sym st.closed ∙ open_
 
-  poller-kept : (s : ℕ) (b : AcceptedTablet) (r : PollerState) → accepted_tablet logs s ≡ Some b → slice_get (slice_set t.pollers id q) s ≡ Some r → Polls logs m b r
+  poller-kept : (s : ℕ) (b : AcceptedTablet) (r : PollerState) → accepted_tablet logs s ≡ Some b
+      → slice_get (slice_set t.pollers id q) s ≡ Some r → Polls logs m b r
   poller-kept s b r e there =
       ⊎_elim
       (λ same.
       let here : slice_get (slice_set t.pollers id q) id ≡ Some r = ap (slice_get (slice_set t.pollers id q)) (sym same) ∙ there in
       let is : q ≡ r = same_Some q r (sym (get-set-here t.pollers id p q at) ∙ here) in
-      subst (Polls logs m b) is (kept b (ap (accepted_tablet logs) (sym same) ∙ e) (st.pollers s b p e (ap (slice_get t.pollers) same ∙ at))))
+      subst (Polls logs m b) is
+      (kept b (ap (accepted_tablet logs) (sym same) ∙ e) (st.pollers s b p e (ap (slice_get t.pollers) same ∙ at))))
       (λ n. st.pollers s b r e (sym (get-set-there t.pollers id s q n) ∙ there)) (cases_eq s id)
 
   pub poller-moved : Made logs m moved_to put
@@ -115,7 +124,8 @@ module _ (logs : Logs) (m : Session) (t : TargetState) (id : ℕ) (p q : PollerS
     where
       tablets : AreKept logs moved_to m.closed t.tablets
       tablets = subst (λ o. AreKept logs moved_to o t.tablets) (sym still-open)
-          (each-to (IsAhead logs m) (IsAhead logs moved_to) (λ x a. ahead-same logs m moved_to x refl places a) t.tablets (subst (λ o. AreKept logs m o t.tablets) still-open st.tablets))
+          (each-to (IsAhead logs m) (IsAhead logs moved_to) (λ x a. ahead-same logs m moved_to x refl places a) t.tablets
+          (subst (λ o. AreKept logs m o t.tablets) still-open st.tablets))
 
 -- ---- acknowledged, and restarted
 
@@ -134,49 +144,66 @@ restarted-polls logs m b p h = record {
   opened = h.opened;
   waits = λ w. ap restarted (h.waits w);
   found = h.found;
-  stands = λ o. let s = h.stands o in let r = s.reads in record { reads = record { tablet = r.tablet; reached = r.reached; checked = r.checked; order = r.order }; floor = s.floor };
+  stands = λ o. let s = h.stands o in let r = s.reads in
+      record { reads = record { tablet = r.tablet; reached = r.reached; checked = r.checked; order = r.order }; floor = s.floor };
 }
 
-module _ (logs : Logs) (m : Session) (t : TargetState) (id : ℕ) (p q : PollerState) (st : StandsForSession logs m t) (open_ : t.closed ≡ None) (at : slice_get t.pollers id ≡ Some p) where
-  pub is-acknowledged : (place : ℕ) → place ≡ p.reader.cursor → q ≡ confirmed p → (place ≡ (position m id).cursor) × Made logs m (with_position id (acknowledge (position m id)) m) (record t { pollers = slice_set t.pollers id q })
+module _ (logs : Logs) (m : Session) (t : TargetState) (id : ℕ) (p q : PollerState) (st : StandsForSession logs m t)
+    (open_ : t.closed ≡ None) (at : slice_get t.pollers id ≡ Some p) where
+  pub is-acknowledged : (place : ℕ) → place ≡ p.reader.cursor → q ≡ confirmed p
+      → (place ≡ (position m id).cursor) × Made logs m (with_position id (acknowledge (position m id)) m)
+      (record t { pollers = slice_set t.pollers id q })
   is-acknowledged place e f =
       let here = position-is t.pollers m id p st.positions at in
-      let made = poller-moved logs m t id p q st open_ at (ap (λ (p : PollerState). p.applied) f) (λ b e h. subst (Polls logs m b) (sym f) (confirmed-polls logs m b p h)) in (
+      let made = poller-moved logs m t id p q st open_ at (ap (λ (p : PollerState). p.applied) f)
+      (λ b e h. subst (Polls logs m b) (sym f) (confirmed-polls logs m b p h)) in (
         e ∙ ap (λ (p : Position). p.cursor) (sym here),
-        subst (λ (w : Position). Made logs m (with_position id w m) (record t { pollers = slice_set t.pollers id q })) (ap position_of f ∙ ap acknowledge (sym here)) made,
+        subst (λ (w : Position). Made logs m (with_position id w m) (record t { pollers = slice_set t.pollers id q }))
+            (ap position_of f ∙ ap acknowledge (sym here)) made,
       )
 
-  pub is-restarted : (place : ℕ) → place ≡ p.acknowledged → q ≡ restarted p → (place ≡ (position m id).acknowledged) × Made logs m (with_position id (set_back (position m id)) m) (record t { pollers = slice_set t.pollers id q })
+  pub is-restarted : (place : ℕ) → place ≡ p.acknowledged → q ≡ restarted p
+      → (place ≡ (position m id).acknowledged) × Made logs m (with_position id (set_back (position m id)) m)
+      (record t { pollers = slice_set t.pollers id q })
   is-restarted place e f =
       let here = position-is t.pollers m id p st.positions at in
-      let made = poller-moved logs m t id p q st open_ at (ap (λ (p : PollerState). p.applied) f) (λ b e h. subst (Polls logs m b) (sym f) (restarted-polls logs m b p h)) in (
+      let made = poller-moved logs m t id p q st open_ at (ap (λ (p : PollerState). p.applied) f)
+      (λ b e h. subst (Polls logs m b) (sym f) (restarted-polls logs m b p h)) in (
         e ∙ ap (λ (p : Position). p.acknowledged) (sym here),
-        subst (λ (w : Position). Made logs m (with_position id w m) (record t { pollers = slice_set t.pollers id q })) (ap position_of f ∙ ap set_back (sym here)) made,
+        subst (λ (w : Position). Made logs m (with_position id w m) (record t { pollers = slice_set t.pollers id q }))
+            (ap position_of f ∙ ap set_back (sym here)) made,
       )
 
 -- ---- feeds
 
-pub same-can : (headers : List Header) (counts : List ℕ) (p q : PollerState) (x : TargetTablet) → q.header ≡ p.header → q.applied ≡ p.applied → q.is_open ≡ p.is_open → CanPoll headers counts p x → CanPoll headers counts q x
+pub same-can : (headers : List Header) (counts : List ℕ) (p q : PollerState) (x : TargetTablet) → q.header ≡ p.header
+    → q.applied ≡ p.applied → q.is_open ≡ p.is_open → CanPoll headers counts p x → CanPoll headers counts q x
 same-can headers counts p q x h a o c = record {
   fits = c.fits;
   flags = c.flags;
   childless = c.childless;
-  applied = subst (λ (n : ℕ). n ≤ slice_index x.places q.header.id) (sym a) (subst (λ (w : Header). p.applied ≤ slice_index x.places w.id) (sym h) c.applied);
+  applied = subst (λ (n : ℕ). n ≤ slice_index x.places q.header.id) (sym a)
+      (subst (λ (w : Header). p.applied ≤ slice_index x.places w.id) (sym h) c.applied);
   started = λ is. ap (λ (w : Header). has_started x.floors w.id) h ∙ c.started (sym o ∙ is);
 }
 
-pub fits-put : (headers : List Header) (counts : List ℕ) (t : TargetState) (id : ℕ) (p q : PollerState) → slice_get t.pollers id ≡ Some p → q.header ≡ p.header → q.applied ≡ p.applied → q.is_open ≡ p.is_open
-    → q.reader.id ≡ p.reader.id → (ReaderFits headers counts p.reader → ReaderFits headers counts q.reader) → FitsFeed headers counts t → FitsFeed headers counts (record t { pollers = slice_set t.pollers id q })
+pub fits-put : (headers : List Header) (counts : List ℕ) (t : TargetState) (id : ℕ) (p q : PollerState) → slice_get t.pollers id ≡ Some p
+    → q.header ≡ p.header → q.applied ≡ p.applied → q.is_open ≡ p.is_open
+    → q.reader.id ≡ p.reader.id → (ReaderFits headers counts p.reader → ReaderFits headers counts q.reader) → FitsFeed headers counts t
+    → FitsFeed headers counts (record t { pollers = slice_set t.pollers id q })
 fits-put headers counts t id p q at h a o n r f = record {
   headers_are = headers-put t.pollers id p q at h ∙ f.headers_are;
-  numbers = each-put (λ (p : PollerState). p.reader.id ≡ p.header.id) t.pollers id p q at (λ e. n ∙ e ∙ ap (λ (w : Header). w.id) (sym h)) f.numbers;
+  numbers = each-put (λ (p : PollerState). p.reader.id ≡ p.header.id) t.pollers id p q at
+      (λ e. n ∙ e ∙ ap (λ (w : Header). w.id) (sym h)) f.numbers;
   readers = each-put (λ (p : PollerState). ReaderFits headers counts p.reader) t.pollers id p q at r f.readers;
-  tablets = each-to (λ x. Each (λ p. CanPoll headers counts p x) t.pollers) (λ x. Each (λ p. CanPoll headers counts p x) (slice_set t.pollers id q))
+  tablets = each-to (λ x. Each (λ p. CanPoll headers counts p x) t.pollers)
+      (λ x. Each (λ p. CanPoll headers counts p x) (slice_set t.pollers id q))
       (λ x w. each-put (λ p. CanPoll headers counts p x) t.pollers id p q at (same-can headers counts p q x h a o) w) t.tablets f.tablets;
 }
 
 -- what a tablet keeps of its floors and places
-can-kept : (headers : List Header) (counts : List ℕ) (p : PollerState) (x : TargetTablet) (vs : List KeyVersion) (hs : List KeyWaiting) → CanPoll headers counts p x → CanPoll headers counts p (record x { versions = vs; held = hs })
+can-kept : (headers : List Header) (counts : List ℕ) (p : PollerState) (x : TargetTablet) (vs : List KeyVersion) (hs : List KeyWaiting)
+    → CanPoll headers counts p x → CanPoll headers counts p (record x { versions = vs; held = hs })
 can-kept headers counts p x vs hs c = let f = c.fits in record {
   fits = record { same = f.same; within = f.within; ends = f.ends };
   flags = c.flags;
@@ -197,7 +224,8 @@ keeps-thins w x y k = (y.versions, (x.held, k.rest))
 pub restore-thins : (t : ℕ) (x y : TargetTablet) → y ≡ restore t x → Thins x y
 restore-thins t x y e = ((restore t x).versions, ([], e))
 
-pub ranges-thin : (R : TargetTablet → TargetTablet → Type 0) → ((x y : TargetTablet) → R x y → Thins x y) → (xs ys : List TargetTablet) → AllZip R xs ys → map range_of ys ≡ map range_of xs
+pub ranges-thin : (R : TargetTablet → TargetTablet → Type 0) → ((x y : TargetTablet) → R x y → Thins x y) → (xs ys : List TargetTablet)
+    → AllZip R xs ys → map range_of ys ≡ map range_of xs
 ranges-thin R f [] [] z = refl
 ranges-thin R f [] (y ∷ ys) z = absurd z
 ranges-thin R f (x ∷ xs) [] z = absurd z
@@ -210,15 +238,20 @@ ranges-thin R f (x ∷ xs) (y ∷ ys) z =
 pub length-thin : (R : TargetTablet → TargetTablet → Type 0) (xs ys : List TargetTablet) → AllZip R xs ys → length ys ≡ length xs
 length-thin R xs ys z = sym (length_all_zip R xs ys z)
 
-pub fits-thin : (headers : List Header) (counts : List ℕ) (t : TargetState) (R : TargetTablet → TargetTablet → Type 0) → ((x y : TargetTablet) → R x y → Thins x y) → (ys : List TargetTablet) (w : ℕ) (o : Option ℕ)
-    → AllZip R t.tablets ys → FitsFeed headers counts t → FitsFeed headers counts (record { tablets = ys; pollers = t.pollers; cutoff = w; closed = o })
+pub fits-thin : (headers : List Header) (counts : List ℕ) (t : TargetState) (R : TargetTablet → TargetTablet → Type 0)
+    → ((x y : TargetTablet) → R x y → Thins x y) → (ys : List TargetTablet) (w : ℕ) (o : Option ℕ)
+    → AllZip R t.tablets ys → FitsFeed headers counts t → FitsFeed headers counts
+    (record { tablets = ys; pollers = t.pollers; cutoff = w; closed = o })
 fits-thin headers counts t R thin ys w o z f = record {
   headers_are = f.headers_are;
   numbers = f.numbers;
   readers = f.readers;
-  tablets = zip-to (λ x. Each (λ p. CanPoll headers counts p x) t.pollers) R (λ x. Each (λ p. CanPoll headers counts p x) t.pollers) t.tablets ys
+  tablets = zip-to (λ x. Each (λ p. CanPoll headers counts p x) t.pollers) R
+      (λ x. Each (λ p. CanPoll headers counts p x) t.pollers) t.tablets ys
       (λ x y h r. let e = thin x y r in
-      each-to (λ p. CanPoll headers counts p x) (λ p. CanPoll headers counts p y) (λ p c. subst (λ (z : TargetTablet). CanPoll headers counts p z) (sym e.1.1) (can-kept headers counts p x e.0 e.1.0 c)) t.pollers h)
+      each-to (λ p. CanPoll headers counts p x) (λ p. CanPoll headers counts p y)
+      (λ p c. subst (λ (z : TargetTablet). CanPoll headers counts p z) (sym e.1.1)
+      (can-kept headers counts p x e.0 e.1.0 c)) t.pollers h)
       f.tablets z;
 }
 
@@ -226,7 +259,8 @@ fits-thin headers counts t R thin ys w o z f = record {
 pub covers-safe : (logs : Logs) (m : Session) (x : TargetTablet) → IsAhead logs m x → safe_now logs m ≤ covers logs x
 covers-safe logs m x a = safe-rises logs (places_of m) x.places a.stands.places a.places
 
-module _ (logs : Logs) (m : Session) (t : TargetState) (is : IsSession logs m) (st : StandsForSession logs m t) (open_ : t.closed ≡ None) where
+module _ (logs : Logs) (m : Session) (t : TargetState) (is : IsSession logs m) (st : StandsForSession logs m t)
+    (open_ : t.closed ≡ None) where
   abbrev not-closed : m.closed ≡ None
   not-closed = sym st.closed ∙ open_
 
@@ -237,7 +271,8 @@ module _ (logs : Logs) (m : Session) (t : TargetState) (is : IsSession logs m) (
   stays-open = record { still_open = sym st.closed ∙ open_; stands = st }
 
   pub is-pruned : (u w : ℕ) (ys : List TargetTablet) → u ≤ safe_now logs m → w ≡ max t.cutoff u → AllZip (KeepsFrom w) t.tablets ys
-      → (w ≡ max m.cutoff u) × Made logs m (record m { cutoff = max m.cutoff u }) (record { tablets = ys; pollers = t.pollers; cutoff = w; closed = t.closed })
+      → (w ≡ max m.cutoff u) × Made logs m (record m { cutoff = max m.cutoff u })
+      (record { tablets = ys; pollers = t.pollers; cutoff = w; closed = t.closed })
   is-pruned u w ys low e z =
       let same : w ≡ max m.cutoff u = e ∙ ap (λ v. max v u) st.cutoff in
       let n : Session = record m { cutoff = max m.cutoff u } in (
@@ -256,7 +291,8 @@ module _ (logs : Logs) (m : Session) (t : TargetState) (is : IsSession logs m) (
         },
       )
     where
-      one : w ≡ max m.cutoff u → (x y : TargetTablet) → IsAhead logs m x → KeepsFrom w x y → IsAhead logs (record m { cutoff = max m.cutoff u }) y
+      one : w ≡ max m.cutoff u → (x y : TargetTablet) → IsAhead logs m x → KeepsFrom w x y
+          → IsAhead logs (record m { cutoff = max m.cutoff u }) y
       one same x y a k =
           let c = covers-safe logs m x a in
           let before = is.cutoff in
@@ -269,7 +305,8 @@ module _ (logs : Logs) (m : Session) (t : TargetState) (is : IsSession logs m) (
           }
 
   pub is-closed : (at : ℕ) (ys : List TargetTablet) → at ≡ safe_now logs m → AllZip (λ x y. y ≡ restore at x) t.tablets ys
-      → (at ≡ safe_now logs m) × Made logs m (record m { closed = Some at }) (record { tablets = ys; pollers = t.pollers; cutoff = t.cutoff; closed = Some at })
+      → (at ≡ safe_now logs m) × Made logs m (record m { closed = Some at })
+      (record { tablets = ys; pollers = t.pollers; cutoff = t.cutoff; closed = Some at })
   is-closed at ys e z =
       let n : Session = record m { closed = Some at } in (
         e,

@@ -1,5 +1,6 @@
 -- What a target shows are the rows of the logs.
-use Rattle.std.proofs.Common.{◌≡◌, ℕ, ◌+◌, ◌*◌, ◌%◌, ◌<◌, ◌≤◌, true, false, ◌&&◌, cond, List, [], ◌∷◌, map, Option, Some, None, ap, ◌∙◌, arith, ⊎_elim}
+use Rattle.std.proofs.Common.{◌≡◌, ℕ, ◌+◌, ◌*◌, ◌%◌, ◌<◌, ◌≤◌, true, false, ◌&&◌, cond, List, [], ◌∷◌, map, Option, Some, None, ap, ◌∙◌}
+use Rattle.std.proofs.Common.{arith, ⊎_elim}
 use Rattle.std.specs.Prelude.{nat_le, MatchOption}
 use Rattle.std.proofs.lemmas.Bool.{cases_lt}
 use Rattle.std.proofs.lemmas.Bool.Decides.{nat_tests}
@@ -31,26 +32,32 @@ abbrev pub Shows : Logs → ℕ → TargetTablet → Type 0
 Shows logs v x = (k : List ℕ) → in_range x k ≡ true → read v (kept_at x k) ≡ row logs v k
 
 -- the key is in the range of one of the tablets
-shown-from : (logs : Logs) (v lo : ℕ) (xs : List TargetTablet) (k : List ℕ) → Follows lo 65536 (map range_of xs) → Each (Shows logs v) xs → lo ≤ hash_of k → shown_at v k xs ≡ row logs v k
+shown-from : (logs : Logs) (v lo : ℕ) (xs : List TargetTablet) (k : List ℕ) → Follows lo 65536 (map range_of xs) → Each (Shows logs v) xs
+    → lo ≤ hash_of k → shown_at v k xs ≡ row logs v k
 shown-from logs v lo [] k f h b = let e : lo ≡ 65536 = f in let l : hash_of k < 65536 = hash-below k in absurd (omega arith)
 shown-from logs v lo (x ∷ xs) k f h b =
     let low : x.lo ≡ lo = f.0 in
     ⊎_elim
     (λ above.
-    let out : in_range x k ≡ false = (let e : (nat_le x.lo (hash_of k) && nat_le (hash_of k) x.hi) ≡ false = grind (arith, nat_tests) in e) in
+    let out : in_range x k ≡ false =
+    (let e : (nat_le x.lo (hash_of k) && nat_le (hash_of k) x.hi) ≡ false = grind (arith, nat_tests) in e) in
     ap (λ o. cond o (read v (kept_at x k)) (shown_at v k xs)) out ∙ shown-from logs v (x.hi + 1) xs k f.1.1 h.1 (omega arith))
     (λ here.
-    let inside : in_range x k ≡ true = (let e : (nat_le x.lo (hash_of k) && nat_le (hash_of k) x.hi) ≡ true = grind (arith, nat_tests) in e) in
+    let inside : in_range x k ≡ true =
+    (let e : (nat_le x.lo (hash_of k) && nat_le (hash_of k) x.hi) ≡ true = grind (arith, nat_tests) in e) in
     ap (λ o. cond o (read v (kept_at x k)) (shown_at v k xs)) inside ∙ h.0 k inside)
     (cases_lt x.hi (hash_of k))
 
-module _ (logs : Logs) (m : Session) (t : TargetState) (is : IsSession logs m) (st : StandsForSession logs m t) (agree : disagreement logs ≡ None) (v : ℕ) (low : m.cutoff ≤ v) (high : v ≤ safe_now logs m) where
+module _ (logs : Logs) (m : Session) (t : TargetState) (is : IsSession logs m) (st : StandsForSession logs m t)
+    (agree : disagreement logs ≡ None) (v : ℕ) (low : m.cutoff ≤ v) (high : v ≤ safe_now logs m) where
   each-shows : Each (Shows logs v) t.tablets
   each-shows = go m.closed st.tablets is.closed
     where
       go : (o : Option ℕ) → AreKept logs m o t.tablets → MatchOption o (Unit {0}) (λ t. t ≡ safe_now logs m) → Each (Shows logs v) t.tablets
-      go None h e = each-to (IsAhead logs m) (Shows logs v) (λ x a k q. let c = covers-safe logs m x a in reads-show-rows logs x m.cutoff v k a.stands agree low (omega arith) q) t.tablets h
-      go (Some at) h e = each-to (WasAhead logs m at) (Shows logs v) (λ x a k q. (restored-show logs x a.before m.cutoff at v a.restored agree low (omega arith)).0 k q) t.tablets h
+      go None h e = each-to (IsAhead logs m) (Shows logs v)
+          (λ x a k q. let c = covers-safe logs m x a in reads-show-rows logs x m.cutoff v k a.stands agree low (omega arith) q) t.tablets h
+      go (Some at) h e = each-to (WasAhead logs m at) (Shows logs v)
+          (λ x a k q. (restored-show logs x a.before m.cutoff at v a.restored agree low (omega arith)).0 k q) t.tablets h
 
   pub shows-row : IsPartition (map range_of t.tablets) → (k : List ℕ) → shown_at v k t.tablets ≡ row logs v k
   shows-row p k = shown-from logs v 0 t.tablets k p each-shows (omega arith)

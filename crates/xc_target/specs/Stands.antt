@@ -41,5 +41,6 @@ pub record StandsForSession (logs : Logs) (m : Session) (t : TargetState) : Type
   pub cutoff : t.cutoff ≡ m.cutoff
   pub closed : t.closed ≡ m.closed
   pub positions : map position_of t.pollers ≡ m.positions
-  pub pollers : (s : ℕ) (b : AcceptedTablet) (p : PollerState) → accepted_tablet logs s ≡ Some b → slice_get t.pollers s ≡ Some p → Polls logs m b p
+  pub pollers : (s : ℕ) (b : AcceptedTablet) (p : PollerState) → accepted_tablet logs s ≡ Some b → slice_get t.pollers s ≡ Some p
+      → Polls logs m b p
   pub tablets : AreKept logs m m.closed t.tablets

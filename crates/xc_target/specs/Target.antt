@@ -6,6 +6,7 @@
 --     opened_by parent p      p after its parent opened it; Opens parent p q      q is p after that, and fits each feed that p fits
 --     new_target headers bounds      a target that nothing was asked of yet
 --     IsTarget t      what holds between calls
+--     of_parts parts      the target that is made of these parts
 --     FitsFeed headers counts t      the target can poll a feed with these headers and numbers of records
 use Rattle.std.specs.Prelude.{◌≡◌, ℕ, Bool, ◌&&◌, not, List, [], ◌∷◌, map, filter, Option, None, if◌then◌else◌}
 use Rattle.std.specs.List.{AllByRecursion}
@@ -19,6 +20,7 @@ use Rattle.xc_record.specs.Lists.{least}
 use Rattle.xc_model.specs.Rows.{range_of}
 use Rattle.xc_model.specs.Stands.{TargetTablet, in_range, kept_at, new_tablet}
 use Rattle.xc_change.specs.Reader.{FitsFeed as ReaderFits}
+use Rattle.xc_poller.specs.declared.parts.Parts.{Parts}
 use Rattle.xc_poller.specs.Poller.{PollerState, is_closed, new_poller, opened}
 use Rattle.xc_poller.specs.Polled.{CanPoll}
 
@@ -64,13 +66,17 @@ opened_by parent p = if is_child_of parent.header.id p.header then opened parent
 
 pub record Opens (parent p q : PollerState) : Type 0 where
   pub is : q ≡ opened_by parent p
-  pub fits : (headers : List Header) (counts : List ℕ) (logs : Option Logs) → IsFeed headers counts logs → ReaderFits headers counts p.reader → ReaderFits headers counts q.reader
+  pub fits : (headers : List Header) (counts : List ℕ) (logs : Option Logs) → IsFeed headers counts logs
+      → ReaderFits headers counts p.reader → ReaderFits headers counts q.reader
 
 -- ---- between calls
 
 pub record IsTarget (t : TargetState) : Type 0 where
   -- the tablets share out all hashes
   pub ranges : IsPartition (map range_of t.tablets)
+
+abbrev pub of_parts : Parts → TargetState
+of_parts parts = record { tablets = parts.tablets; pollers = parts.pollers; cutoff = parts.cutoff; closed = parts.closed }
 
 pub record FitsFeed (headers : List Header) (counts : List ℕ) (t : TargetState) : Type 0 where
   pub headers_are : headers_of_pollers t.pollers ≡ headers

@@ -1,4 +1,9 @@
 // What a target answers.
+ghost use Rattle.std.specs.Prelude.{◌≡◌};
+ghost use Rattle.xc_target.specs.Answers.{fail_of};
+
+use xc_poller::NextFail;
+use xc_record::Break;
 
 /// The session is closed, and the call changed nothing.
 #[derive(Clone, Copy, PartialEq, Eq, Debug)]
@@ -34,6 +39,27 @@ pub enum TargetFail {
     ReadFault,
     /// Memory was refused. The numbers of the session are as before; some target tablets may be ahead, as after a stop.
     NoMemory,
+}
+
+// A poller's failure, as the target tells it.
+pub(crate) fn failed(fail: NextFail) -> TargetFail
+    ensures { result ≡ fail_of fail }
+{
+    match fail {
+        NextFail::ReadFault => TargetFail::ReadFault,
+        NextFail::NoMemory => TargetFail::NoMemory,
+    }
+}
+
+/// A source tablet whose log has a break of the order rules.
+#[derive(Clone, Copy, PartialEq, Eq, Debug)]
+pub struct Halt {
+    /// The number of the tablet.
+    pub id: u32,
+    /// The number of the first record that isn't accepted, counted from 1.
+    pub number: u64,
+    /// The order rule that it breaks.
+    pub kind: Break,
 }
 
 /// The numbers of one source tablet.

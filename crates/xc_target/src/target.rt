@@ -1,5 +1,6 @@
 // The target of a replication session.
-ghost use Rattle.std.specs.Prelude.{◌≡◌, ◌<◌, ◌≤◌, ℕ, true, Option, None, Some, Err, length, List, option_copied, IfOk, IfErr, IfSome, IsErrOf};
+ghost use Rattle.std.specs.Prelude.{◌≡◌, ◌<◌, ◌≤◌, ◌+◌, ℕ, true, map, drop, Option, None, Some, Err, length, List};
+ghost use Rattle.std.specs.Prelude.{option_copied, IfOk, IfErr, IfSome, IsErrOf};
 ghost use Rattle.xc_base.specs.Causes.{Rose};
 ghost use Rattle.xc_record.specs.Bounds.{are_bounds};
 ghost use Rattle.xc_record.specs.Headers.{are_headers};
@@ -7,27 +8,33 @@ ghost use Rattle.xc_record.specs.Valid.{is_valid, headers_of};
 ghost use Rattle.xc_logs.specs.Feed.{IsFeed};
 ghost use Rattle.xc_record.specs.declared.record.Logs.{Logs};
 ghost use Rattle.xc_record.specs.declared.record.Header.{Header as HeaderOf};
+ghost use Rattle.xc_model.specs.Rows.{range_of};
 ghost use Rattle.xc_record.specs.Agreement.{disagreement};
-ghost use Rattle.xc_record.specs.Rows.{row};
+ghost use Rattle.xc_record.specs.Rows.{row, rows};
 ghost use Rattle.xc_record.specs.Session.{Session, IsSession, position, safe_now, start};
-ghost use Rattle.xc_target.specs.Target.{new_target, FitsFeed};
+ghost use Rattle.xc_record.specs.Step.{drained};
+ghost use Rattle.xc_target.specs.Target.{new_target, of_parts, IsTarget, FitsFeed};
 ghost use Rattle.xc_target.specs.Stands.{StandsForSession};
-ghost use Rattle.xc_target.specs.Answers.{IsAcknowledged, IsRestarted, IsNotReadable, IsPruned, IsClosed, IsPolled};
+ghost use Rattle.xc_target.specs.Answers.{Made, IsAcknowledged, IsRestarted, IsNotReadable, IsPruned, IsClosed};
+ghost use Rattle.xc_target.specs.Answers.{IsPolled, IsStopped, MovesOn, halts, IsDrainFail};
 
-use crate::answers::{Closed, NotReadable, PruneFail, SessionLine, TargetFail};
+use crate::answers::{Closed, Halt, NotReadable, PruneFail, SessionLine, TargetFail, failed};
+use crate::draining::drain_tablet;
 use crate::looks::{least_open, shown};
 use crate::opening::{new_pollers, new_tablets, open_children};
 use crate::pruning::{keep_all_from, restore_all};
+use crate::scanning::rows_of_all;
 use std::alloc::Global;
 use std::marker::Model;
 use xc_base::{Key, NoMemory, Value};
 use xc_logs::Feed;
-use xc_poller::{NextFail, PollAnswer, Poller};
+use xc_poller::{Parts, PollAnswer, Poller, Pollers, Targets};
 use xc_record::Header;
 use xc_tablet::TargetTablet;
+use xc_versions::Rows;
 
-/// The target of a replication session: its tablets, and one poller for each source tablet. A source tablet is named by its
-/// number; each call that takes one has the condition that there is one of this number.
+/// The target of a replication session: its tablets, and one poller for each source tablet. A source tablet is named by
+/// its number; each call that takes one has the condition that there is one of this number.
 #[derive(Drop, Debug)]
 pub struct Target {
     tablets: Vec<TargetTablet>,
@@ -41,21 +48,33 @@ impl Model for Target {
 
     ghost Value = { TargetState };
 
-    ghost view = { λ t. record { tablets = t.tablets.items; pollers = t.pollers.items; cutoff = t.cutoff; closed = t.closed } };
+    ghost view = { λ t. record {
+      tablets = t.tablets.items;
+      pollers = t.pollers.items;
+      cutoff = t.cutoff;
+      closed = t.closed;
+    } };
 
-    ghost invariant = { λ t. IsTarget (record { tablets = t.tablets.items; pollers = t.pollers.items; cutoff = t.cutoff; closed = t.closed }) };
+    ghost invariant = { λ t. IsTarget (record {
+      tablets = t.tablets.items;
+      pollers = t.pollers.items;
+      cutoff = t.cutoff;
+      closed = t.closed;
+    }) };
 }
 
 impl Target {
-    /// A target for the source tablets with these headers, whose own tablets begin at these hashes. `NoMemory` where memory is
-    /// out. It keeps the allocator for its growth.
+    /// A target for the source tablets with these headers, whose own tablets begin at these hashes. `NoMemory` where
+    /// memory is out. It keeps the allocator for its growth.
     pub fn new(alloc: Global, headers: &[Header], bounds: &[u16]) -> Result<Target, NoMemory>
         requires headers { are_headers headers.now ≡ true }
         requires bounds { are_bounds bounds.now ≡ true }
         ensures new { IfOk result (λ t. t ≡ new_target headers.now bounds.now) }
         // It stands for the session that nothing was asked of yet, of all logs with these headers.
-        ensures stands { IfOk result (λ t. (logs : Logs) → is_valid logs ≡ true → headers_of logs.tablets ≡ headers.now → StandsForSession logs (start logs) t) }
-        ensures fits { IfOk result (λ t. (counts : List ℕ) (logs : Option Logs) → IsFeed headers.now counts logs → FitsFeed headers.now counts t) }
+        ensures stands { IfOk result (λ t. (logs : Logs) → is_valid logs ≡ true
+            → headers_of logs.tablets ≡ headers.now → StandsForSession logs (start logs) t) }
+        ensures fits { IfOk result (λ t. (counts : List ℕ) (logs : Option Logs)
+            → IsFeed headers.now counts logs → FitsFeed headers.now counts t) }
     {
         let tablets = new_tablets(alloc, headers, bounds)?;
         let pollers = new_pollers(alloc, headers)?;
@@ -67,11 +86,38 @@ impl Target {
         })
     }
 
-    /// Polls the source tablet: at most `n` of the records after its cursor go to every target tablet. It answers how many, or
-    /// why there are none. When a poll closes a source tablet, its children are opened.
+    /// A target of the parts of a session, whose tablets share out all hashes. It takes no memory. It stands for the
+    /// sessions, and fits the feeds, that a target with these tablets, pollers and times does.
+    pub fn from_parts(parts: Parts) -> Target
+        requires { IsTarget (of_parts parts) }
+        ensures { result ≡ of_parts parts }
+    {
+        Target {
+            tablets: parts.tablets.into_vec(),
+            pollers: parts.pollers.into_vec(),
+            cutoff: parts.cutoff,
+            closed: parts.closed,
+        }
+    }
+
+    /// What the session is made of, as `from_parts` takes it. It takes no memory.
+    pub fn into_parts(self) -> Parts
+        ensures parts { of_parts result ≡ self }
+        ensures target { IsTarget (of_parts result) }
+    {
+        Parts {
+            tablets: Targets::from_vec(self.tablets),
+            pollers: Pollers::from_vec(self.pollers),
+            cutoff: self.cutoff,
+            closed: self.closed,
+        }
+    }
+
+    /// Polls the source tablet: at most `n` of the records after its cursor go to every target tablet. It answers how
+    /// many, or why there are none. When a poll closes a source tablet, its children are opened.
     ///
-    /// `Closed` exactly where the session is; `ReadFault` only where the feed's count of faults rose. After an error the
-    /// session is as before; where memory is out, some target tablets may be ahead.
+    /// `Closed` exactly where the session is; `ReadFault` only where the feed's count of faults rose. After an error
+    /// the session is as before; where memory is out, some target tablets may be ahead.
     pub fn poll<F: Feed>(
         &mut self,
         alloc: Global,
@@ -83,10 +129,17 @@ impl Target {
         requires some { 1 ≤ n }
         requires fits { FitsFeed (F.headers feed.old) (F.counts feed.old) self.old }
         ensures fits { FitsFeed (F.headers feed.new) (F.counts feed.new) self.new }
-        ensures step { IfSome (F.logs feed.old) (λ logs. (m : Session) → IsSession logs m → StandsForSession logs m self.old → IsPolled logs m id n self.new result) }
+        ensures ranges { map range_of self.new.tablets ≡ map range_of self.old.tablets }
+        ensures step { IfSome (F.logs feed.old) (λ logs. (m : Session) → IsSession logs m
+            → StandsForSession logs m self.old → IsPolled logs m id n self.new result) }
+
+        // Whatever the feed tells, a poll that delivers moves on.
+        ensures moves { IfOk result (MovesOn (F.counts feed.old) id self.old self.new) }
+        ensures same_closed { self.new.closed ≡ self.old.closed }
 
         // Closed exactly where the session is.
-        ensures refused { (t : ℕ) → self.old.closed ≡ Some t → (result ≡ Err (TargetFail.Closed t)) × (self.new ≡ self.old) }
+        ensures refused { (t : ℕ) → self.old.closed ≡ Some t
+            → (result ≡ Err (TargetFail.Closed t)) × (self.new ≡ self.old) }
         ensures refusal { (t : ℕ) → IsErrOf result (TargetFail.Closed t) → self.old.closed ≡ Some t }
 
         // A read fault has its cause in the feed.
@@ -105,11 +158,7 @@ impl Target {
         let poller = &mut self.pollers[id as usize];
         let polled = poller.poll(alloc, feed, n, &mut self.tablets);
         let after = *poller;
-        let answer = match polled {
-            Ok(answer) => answer,
-            Err(NextFail::ReadFault) => return Err(TargetFail::ReadFault),
-            Err(NextFail::NoMemory) => return Err(TargetFail::NoMemory),
-        };
+        let answer = polled.map_err(failed)?;
         let PollAnswer::Polled(count) = answer else {
             return Ok(answer);
         };
@@ -119,11 +168,127 @@ impl Target {
         Ok(PollAnswer::Polled(count))
     }
 
+    /// A poll of the source tablet that is cut off: at most `n` of the records after its cursor go to the target
+    /// tablets 0 to `last` alone. Its place stays, and its cursor goes back to the acknowledged place. It answers how
+    /// many records it would have delivered, or why there are none. It fails as `poll` does.
+    pub fn stopped_poll<F: Feed>(
+        &mut self,
+        alloc: Global,
+        feed: &mut F,
+        id: u32,
+        n: u64,
+        last: usize,
+    ) -> Result<PollAnswer, TargetFail>
+        requires known { id < length self.old.pollers }
+        requires some { 1 ≤ n }
+        requires last { last < length self.old.tablets }
+        requires fits { FitsFeed (F.headers feed.old) (F.counts feed.old) self.old }
+        ensures fits { FitsFeed (F.headers feed.new) (F.counts feed.new) self.new }
+        ensures ranges { map range_of self.new.tablets ≡ map range_of self.old.tablets }
+        ensures step { IfSome (F.logs feed.old) (λ logs. (m : Session) → IsSession logs m
+            → StandsForSession logs m self.old → IsStopped logs m id n self.new result) }
+
+        // Whatever the feed tells, nothing goes to the tablets past `last`.
+        ensures others { drop (last + 1) self.new.tablets ≡ drop (last + 1) self.old.tablets }
+        ensures same_closed { self.new.closed ≡ self.old.closed }
+
+        // Closed exactly where the session is.
+        ensures refused { (t : ℕ) → self.old.closed ≡ Some t
+            → (result ≡ Err (TargetFail.Closed t)) × (self.new ≡ self.old) }
+        ensures refusal { (t : ℕ) → IsErrOf result (TargetFail.Closed t) → self.old.closed ≡ Some t }
+
+        // A read fault has its cause in the feed.
+        ensures read_fault { IsErrOf result TargetFail.ReadFault → Rose (F.faults feed.old) (F.faults feed.new) }
+        ensures quiet { ¬ IsErrOf result TargetFail.ReadFault → F.faults feed.new ≡ F.faults feed.old }
+
+        // What each call of a feed keeps.
+        ensures same_headers { F.headers feed.new ≡ F.headers feed.old }
+        ensures same_counts { F.counts feed.new ≡ F.counts feed.old }
+        ensures same_logs { F.logs feed.new ≡ F.logs feed.old }
+        ensures later { F.faults feed.old ≤ F.faults feed.new }
+    {
+        if let Some(t) = self.closed {
+            return Err(TargetFail::Closed(t));
+        }
+        let poller = &mut self.pollers[id as usize];
+        let stopped = poller.stopped_poll(alloc, feed, n, &mut self.tablets, last);
+        stopped.map_err(failed)
+    }
+
+    /// Polls each source tablet, 64 records at a time, until it is at its end, at a break of the order rules, or waits
+    /// for a parent that doesn't close. It answers the breaks, by number of tablet.
+    ///
+    /// `Closed` exactly where the session is; `ReadFault` only where the feed's count of faults rose. After a read
+    /// fault, or where memory is out, the polls made so far stand.
+    pub fn drain<F: Feed>(&mut self, alloc: Global, feed: &mut F) -> Result<Vec<Halt>, TargetFail>
+        requires fits { FitsFeed (F.headers feed.old) (F.counts feed.old) self.old }
+        ensures fits { FitsFeed (F.headers feed.new) (F.counts feed.new) self.new }
+        ensures ranges { map range_of self.new.tablets ≡ map range_of self.old.tablets }
+        ensures drained { IfSome (F.logs feed.old) (λ logs. (m : Session) → IsSession logs m
+            → StandsForSession logs m self.old
+            → IfOk result (λ found. (found.items ≡ halts logs) × Made logs m (drained logs m) self.new)) }
+        ensures failed { IfSome (F.logs feed.old) (λ logs. (m : Session) → IsSession logs m
+            → StandsForSession logs m self.old → IfErr result (IsDrainFail logs m self.new)) }
+
+        // Closed exactly where the session is.
+        ensures refused { (t : ℕ) → self.old.closed ≡ Some t
+            → IsErrOf result (TargetFail.Closed t) × (self.new ≡ self.old) }
+        ensures refusal { (t : ℕ) → IsErrOf result (TargetFail.Closed t) → self.old.closed ≡ Some t }
+
+        // A read fault has its cause in the feed.
+        ensures read_fault { IsErrOf result TargetFail.ReadFault → Rose (F.faults feed.old) (F.faults feed.new) }
+        ensures quiet { ¬ IsErrOf result TargetFail.ReadFault → F.faults feed.new ≡ F.faults feed.old }
+
+        // What each call of a feed keeps.
+        ensures same_headers { F.headers feed.new ≡ F.headers feed.old }
+        ensures same_counts { F.counts feed.new ≡ F.counts feed.old }
+        ensures same_logs { F.logs feed.new ≡ F.logs feed.old }
+        ensures later { F.faults feed.old ≤ F.faults feed.new }
+    {
+        if let Some(t) = self.closed {
+            return Err(TargetFail::Closed(t));
+        }
+        let mut halts = Vec::new(alloc);
+        for id in 0..self.pollers.len() as u32 {
+            if let Some(halt) = drain_tablet(self, alloc, feed, id)? {
+                if halts.push(halt).is_err() {
+                    return Err(TargetFail::NoMemory);
+                }
+            }
+        }
+        Ok(halts)
+    }
+
+    /// How many target tablets there are.
+    #[inline]
+    pub fn tablets(&self) -> usize
+        ensures { result ≡ length self.now.tablets }
+    {
+        self.tablets.len()
+    }
+
+    /// How many source tablets there are.
+    #[inline]
+    pub fn sources(&self) -> usize
+        ensures { result ≡ length self.now.pollers }
+    {
+        self.pollers.len()
+    }
+
+    /// All rows at the safe time, in byte order of keys. `NoMemory` where memory is out.
+    pub fn scan(&self, alloc: Global) -> Result<Rows, NoMemory>
+        ensures { (logs : Logs) (m : Session) → IsSession logs m → StandsForSession logs m self.now
+            → disagreement logs ≡ None → IfOk result (λ found. found ≡ rows logs (safe_now logs m)) }
+    {
+        rows_of_all(alloc, &self.tablets, least_open(&self.pollers))
+    }
+
     /// How many records of the source tablet were delivered, and where polls begin.
     pub fn session(&self, id: u32) -> SessionLine
         requires { id < length self.now.pollers }
         ensures { (logs : Logs) (m : Session) → StandsForSession logs m self.now
-            → record { place = result.place; cursor = result.cursor; acknowledged = result.acknowledged } ≡ position m id }
+            → record { place = result.place; cursor = result.cursor; acknowledged = result.acknowledged }
+            ≡ position m id }
     {
         let poller = &self.pollers[id as usize];
         SessionLine {
@@ -154,8 +319,11 @@ impl Target {
     /// Polls of the source tablet begin at its cursor after a restart from now on. The cursor is answered.
     pub fn acknowledge(&mut self, id: u32) -> Result<u64, Closed>
         requires { id < length self.old.pollers }
-        ensures step { (logs : Logs) (m : Session) → IsSession logs m → StandsForSession logs m self.old → IsAcknowledged logs m id self.new result }
-        ensures fits { (headers : List HeaderOf) (counts : List ℕ) → FitsFeed headers counts self.old → FitsFeed headers counts self.new }
+        ensures step { (logs : Logs) (m : Session) → IsSession logs m → StandsForSession logs m self.old
+            → IsAcknowledged logs m id self.new result }
+        ensures fits { (headers : List HeaderOf) (counts : List ℕ) → FitsFeed headers counts self.old
+            → FitsFeed headers counts self.new }
+        ensures ranges { map range_of self.new.tablets ≡ map range_of self.old.tablets }
     {
         if let Some(t) = self.closed {
             return Err(Closed { t });
@@ -167,8 +335,11 @@ impl Target {
     /// Polls of the source tablet begin at its acknowledged place, which is answered. What was delivered stays so.
     pub fn restart(&mut self, id: u32) -> Result<u64, Closed>
         requires { id < length self.old.pollers }
-        ensures step { (logs : Logs) (m : Session) → IsSession logs m → StandsForSession logs m self.old → IsRestarted logs m id self.new result }
-        ensures fits { (headers : List HeaderOf) (counts : List ℕ) → FitsFeed headers counts self.old → FitsFeed headers counts self.new }
+        ensures step { (logs : Logs) (m : Session) → IsSession logs m → StandsForSession logs m self.old
+            → IsRestarted logs m id self.new result }
+        ensures fits { (headers : List HeaderOf) (counts : List ℕ) → FitsFeed headers counts self.old
+            → FitsFeed headers counts self.new }
+        ensures ranges { map range_of self.new.tablets ≡ map range_of self.old.tablets }
     {
         if let Some(t) = self.closed {
             return Err(Closed { t });
@@ -179,25 +350,30 @@ impl Target {
 
     /// The safe time: up to it all that the source committed was delivered to every tablet.
     pub fn safe(&self) -> u64
-        ensures { (logs : Logs) (m : Session) → IsSession logs m → StandsForSession logs m self.now → result ≡ safe_now logs m }
+        ensures { (logs : Logs) (m : Session) → IsSession logs m → StandsForSession logs m self.now
+            → result ≡ safe_now logs m }
     {
         least_open(&self.pollers)
     }
 
     /// The value of the key at the safe time: None where it has none.
     pub fn read(&self, key: &Key) -> Option<&Value>
-        ensures { (logs : Logs) (m : Session) → IsSession logs m → StandsForSession logs m self.now → disagreement logs ≡ None
+        ensures { (logs : Logs) (m : Session) → IsSession logs m → StandsForSession logs m self.now
+            → disagreement logs ≡ None
             → option_copied result ≡ row logs (safe_now logs m) key.now }
     {
         shown(&self.tablets, key, least_open(&self.pollers))
     }
 
-    /// The value of the key at the hybrid time `u`: Ahead exactly where it is later than the safe time, else Pruned exactly
-    /// where it is before the cutoff.
+    /// The value of the key at the hybrid time `u`: Ahead exactly where it is later than the safe time, else Pruned
+    /// exactly where it is before the cutoff.
     pub fn read_at(&self, u: u64, key: &Key) -> Result<Option<&Value>, NotReadable>
-        ensures shows { (logs : Logs) (m : Session) → IsSession logs m → StandsForSession logs m self.now → disagreement logs ≡ None
-            → IfOk result (λ value. (m.cutoff ≤ u) × ((u ≤ safe_now logs m) × (option_copied value ≡ row logs u key.now))) }
-        ensures refuses { (logs : Logs) (m : Session) → IsSession logs m → StandsForSession logs m self.now → IfErr result (IsNotReadable logs m u) }
+        ensures shows { (logs : Logs) (m : Session) → IsSession logs m → StandsForSession logs m self.now
+            → disagreement logs ≡ None
+            → IfOk result (λ value. (m.cutoff ≤ u)
+            × ((u ≤ safe_now logs m) × (option_copied value ≡ row logs u key.now))) }
+        ensures refuses { (logs : Logs) (m : Session) → IsSession logs m → StandsForSession logs m self.now
+            → IfErr result (IsNotReadable logs m u) }
     {
         let safe = least_open(&self.pollers);
         if u > safe {
@@ -211,11 +387,15 @@ impl Target {
         Ok(shown(&self.tablets, key, u))
     }
 
-    /// Lets go the history before the hybrid time `u`, and answers the cutoff: the greater of it and the old one. Closed
-    /// exactly where the session is, else Ahead exactly where `u` is later than the safe time. An error changes nothing.
+    /// Lets go the history before the hybrid time `u`, and answers the cutoff: the greater of it and the old one.
+    /// Closed exactly where the session is, else Ahead exactly where `u` is later than the safe time. An error changes
+    /// nothing.
     pub fn prune(&mut self, u: u64) -> Result<u64, PruneFail>
-        ensures step { (logs : Logs) (m : Session) → IsSession logs m → StandsForSession logs m self.old → IsPruned logs m u self.new result }
-        ensures fits { (headers : List HeaderOf) (counts : List ℕ) → FitsFeed headers counts self.old → FitsFeed headers counts self.new }
+        ensures step { (logs : Logs) (m : Session) → IsSession logs m → StandsForSession logs m self.old
+            → IsPruned logs m u self.new result }
+        ensures fits { (headers : List HeaderOf) (counts : List ℕ) → FitsFeed headers counts self.old
+            → FitsFeed headers counts self.new }
+        ensures ranges { map range_of self.new.tablets ≡ map range_of self.old.tablets }
     {
         if let Some(t) = self.closed {
             return Err(PruneFail::Closed(t));
@@ -230,10 +410,14 @@ impl Target {
         Ok(cutoff)
     }
 
-    /// Restores each tablet to the safe time, which is answered, and closes the session at it. Reads go on at this time.
+    /// Restores each tablet to the safe time, which is answered, and closes the session at it. Reads go on at this
+    /// time.
     pub fn failover(&mut self) -> Result<u64, Closed>
-        ensures step { (logs : Logs) (m : Session) → IsSession logs m → StandsForSession logs m self.old → IsClosed logs m self.new result }
-        ensures fits { (headers : List HeaderOf) (counts : List ℕ) → FitsFeed headers counts self.old → FitsFeed headers counts self.new }
+        ensures step { (logs : Logs) (m : Session) → IsSession logs m → StandsForSession logs m self.old
+            → IsClosed logs m self.new result }
+        ensures fits { (headers : List HeaderOf) (counts : List ℕ) → FitsFeed headers counts self.old
+            → FitsFeed headers counts self.new }
+        ensures ranges { map range_of self.new.tablets ≡ map range_of self.old.tablets }
     {
         if let Some(t) = self.closed {
             return Err(Closed { t });

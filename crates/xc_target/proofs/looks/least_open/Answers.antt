@@ -13,4 +13,5 @@ loop-poller-init c = record {
 pub returns : goal.returns
 returns c =
     let none = at_drop_all least_open c.args.pollers.now c.loop-poller.poller-index (omega arith) in
-    sym (least-end c.loop-poller.least c.loop-poller.invariant.within) ∙ ap (min c.loop-poller.least) (sym none) ∙ c.loop-poller.invariant.so_far
+    sym (least-end c.loop-poller.least c.loop-poller.invariant.within) ∙ ap (min c.loop-poller.least) (sym none)
+    ∙ c.loop-poller.invariant.so_far

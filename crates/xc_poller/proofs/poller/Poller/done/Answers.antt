@@ -6,16 +6,52 @@ use Rattle.xc_poller.proofs.poller.Poller.done.Goals as goal
 pub returns-clause-stands : goal.returns-clause-stands
 returns-clause-stands c logs b st is =
     let rs = c.args.batch.now.records in
-    let p : PollerState = record { header = c.self.inside.header; reader = c.self.inside.reader; acknowledged = c.self.inside.acknowledged; applied = c.self.inside.applied; floor = c.self.inside.floor; is_open = c.self.inside.is_open } in
+    let p : PollerState =
+    record {
+      header = c.self.inside.header;
+      reader = c.self.inside.reader;
+      acknowledged = c.self.inside.acknowledged;
+      applied =
+          c.self.inside.applied;
+      floor = c.self.inside.floor;
+      is_open = c.self.inside.is_open;
+    } in
     let stood : StandsFor logs p b = subst (λ (q : PollerState). StandsFor logs q b) (sym c.self.view_is) st in
-    let within : p.reader.cursor + length rs ≤ p.reader.checked = subst (λ (q : PollerState). q.reader.cursor + length rs ≤ q.reader.checked) (sym c.self.view_is) c.requires.checked in
-    let records_are : rs ≡ take (length rs) (drop p.reader.cursor b.records) = subst (λ (q : PollerState). rs ≡ take (length rs) (drop q.reader.cursor b.records)) (sym c.self.view_is) is in
-    rw (c.move_to.ensures, c.max-self-inside.ensures, c.raised-self-inside.ensures, c.min.ensures, c.as_slice-records.ensures, c.cursor-from.ensures, last-part (p.applied - p.reader.cursor) rs)
+    let within : p.reader.cursor + length rs ≤ p.reader.checked =
+    subst (λ (q : PollerState). q.reader.cursor + length rs ≤ q.reader.checked) (sym c.self.view_is) c.requires.checked in
+    let records_are : rs ≡ take (length rs) (drop p.reader.cursor b.records) =
+    subst (λ (q : PollerState). rs ≡ take (length rs) (drop q.reader.cursor b.records)) (sym c.self.view_is) is in
+    rw (
+      c.move_to.ensures,
+      c.max-self-inside.ensures,
+      c.raised-self-inside.ensures,
+      c.min.ensures,
+      c.as_slice-records.ensures,
+      c.cursor-from.ensures,
+      last-part (p.applied - p.reader.cursor) rs,
+    )
     (done-stands logs p b rs c.self.invariant.cursor c.self.invariant.applied within stood records_are)
 
 pub returns-clause-rises : goal.returns-clause-rises
 returns-clause-rises c =
     let rs = c.args.batch.now.records in
-    let p : PollerState = record { header = c.self.inside.header; reader = c.self.inside.reader; acknowledged = c.self.inside.acknowledged; applied = c.self.inside.applied; floor = c.self.inside.floor; is_open = c.self.inside.is_open } in
-    rw (c.move_to.ensures, c.max-self-inside.ensures, c.raised-self-inside.ensures, c.min.ensures, c.as_slice-records.ensures, c.cursor-from.ensures, last-part (p.applied - p.reader.cursor) rs)
+    let p : PollerState =
+    record {
+      header = c.self.inside.header;
+      reader = c.self.inside.reader;
+      acknowledged = c.self.inside.acknowledged;
+      applied =
+          c.self.inside.applied;
+      floor = c.self.inside.floor;
+      is_open = c.self.inside.is_open;
+    } in
+    rw (
+      c.move_to.ensures,
+      c.max-self-inside.ensures,
+      c.raised-self-inside.ensures,
+      c.min.ensures,
+      c.as_slice-records.ensures,
+      c.cursor-from.ensures,
+      last-part (p.applied - p.reader.cursor) rs,
+    )
     (subst (λ (q : PollerState). Rises q (done rs p)) c.self.view_is (done-rises rs p))

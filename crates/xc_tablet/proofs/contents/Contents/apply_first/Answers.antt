@@ -21,7 +21,8 @@ none-left : (c : goal.In_default) → c.take_first.new.self.held ≡ c.args.self
 none-left c = c.in_default.ensures.left ∙ without_first-none (is_part c.args.txn c.args.lo c.args.hi) c.args.self.now.held.held (none c)
 
 pub returns-in_default-clause-left : goal.returns-in_default-clause-left
-returns-in_default-clause-left c = alike-same c.args.txn c.args.commit c.args.without.now c.args.lo c.args.hi c.args.self.now _ c.requires.is refl (none-left c)
+returns-in_default-clause-left c =
+    alike-same c.args.txn c.args.commit c.args.without.now c.args.lo c.args.hi c.args.self.now _ c.requires.is refl (none-left c)
 
 pub returns-in_default-clause-settles : goal.returns-in_default-clause-settles
 returns-in_default-clause-settles c =
@@ -32,24 +33,30 @@ returns-in_default-clause-settles c =
 pub returns-in_default-clause-done : goal.returns-in_default-clause-done
 returns-in_default-clause-done c = λ _. ap (find (is_part c.args.txn c.args.lo c.args.hi)) (none-left c) ∙ none c
 
-fewer : (txn lo hi : ℕ) (s : Contents) (new : HeldOps) (h : Held) → Some h ≡ option_map given (find (is_part txn lo hi) s.held.held) → new.held ≡ without_first (is_part txn lo hi) s.held.held → length new.held + 1 ≡ length s.held.held
-fewer txn lo hi s new h e left = let f = found _ h (sym e) in ap (λ hs. length hs + 1) left ∙ length-without_first (is_part txn lo hi) s.held.held f.0 f.1.0
+fewer : (txn lo hi : ℕ) (s : Contents) (new : HeldOps) (h : Held) → Some h ≡ option_map given (find (is_part txn lo hi) s.held.held)
+    → new.held ≡ without_first (is_part txn lo hi) s.held.held → length new.held + 1 ≡ length s.held.held
+fewer txn lo hi s new h e left =
+    let f = found _ h (sym e) in ap (λ hs. length hs + 1) left ∙ length-without_first (is_part txn lo hi) s.held.held f.0 f.1.0
 
 pub returns-then-contains-clause-left : goal.returns-then-contains-clause-left
 returns-then-contains-clause-left c =
     let f = found _ c.in-Some.held (sym c.in-Some.ensures.taken) in
-    let e : has f.0.sub c.args.without.now ≡ true = ap (λ (h : Held). has h.sub c.args.without.now) f.1.1 ∙ sym c.contains.ensures ∙ c.if-contains.true in
-    taken-dropped c.args.txn c.args.commit c.args.without.now c.args.lo c.args.hi c.args.self.now _ f.0 c.requires.is f.1.0 c.in-Some.ensures.left e refl
+    let e : has f.0.sub c.args.without.now ≡ true =
+    ap (λ (h : Held). has h.sub c.args.without.now) f.1.1 ∙ sym c.contains.ensures ∙ c.if-contains.true in
+    taken-dropped c.args.txn c.args.commit c.args.without.now c.args.lo c.args.hi c.args.self.now _ f.0 c.requires.is f.1.0
+    c.in-Some.ensures.left e refl
 
 pub returns-then-contains-clause-settles : goal.returns-then-contains-clause-settles
 returns-then-contains-clause-settles c =
-    let less = fewer c.args.txn c.args.lo c.args.hi c.args.self.now c.take_first.new.self c.in-Some.held c.in-Some.ensures.taken c.in-Some.ensures.left in
+    let less = fewer c.args.txn c.args.lo c.args.hi c.args.self.now c.take_first.new.self c.in-Some.held c.in-Some.ensures.taken
+    c.in-Some.ensures.left in
     let room = c.in-Some.ensures.room in
     record { next = omega arith; fewer = omega arith; versions = omega arith; held = room }
 
 pub returns-then-contains-clause-one : goal.returns-then-contains-clause-one
 returns-then-contains-clause-one c = λ _.
-    let less = fewer c.args.txn c.args.lo c.args.hi c.args.self.now c.take_first.new.self c.in-Some.held c.in-Some.ensures.taken c.in-Some.ensures.left in
+    let less = fewer c.args.txn c.args.lo c.args.hi c.args.self.now c.take_first.new.self c.in-Some.held c.in-Some.ensures.taken
+    c.in-Some.ensures.left in
     omega arith
 
 pub add-requires-clause-fresh : goal.add-requires-clause-fresh
@@ -62,23 +69,28 @@ pub returns-clause-left : goal.returns-clause-left
 returns-clause-left c =
     let s = c.args.self.now in
     let f = found _ c.in-Some.held (sym c.in-Some.ensures.taken) in
-    let e : has f.0.sub c.args.without.now ≡ false = ap (λ (h : Held). has h.sub c.args.without.now) f.1.1 ∙ sym c.contains.ensures ∙ c.if-contains.false in
-    taken-kept c.args.txn c.args.commit c.args.without.now c.args.lo c.args.hi s _ f.0 c.requires.is f.1.0 c.in-Some.ensures.left e (record {
+    let e : has f.0.sub c.args.without.now ≡ false =
+    ap (λ (h : Held). has h.sub c.args.without.now) f.1.1 ∙ sym c.contains.ensures ∙ c.if-contains.false in
+    taken-kept c.args.txn c.args.commit c.args.without.now c.args.lo c.args.hi s _ f.0 c.requires.is f.1.0 c.in-Some.ensures.left e
+    (record {
       range = (refl, refl);
       inside = taken-inside c.args.txn c.args.lo c.args.hi s f.0 c.requires.is f.1.0;
       at = refl;
-      items = c.add.ensures.items ∙ ap (λ (h : Held). with_version (stored h.op.key c.args.commit c.args.txn s.next h.op.value) s.versions.items) (sym f.1.1);
+      items = c.add.ensures.items
+          ∙ ap (λ (h : Held). with_version (stored h.op.key c.args.commit c.args.txn s.next h.op.value) s.versions.items) (sym f.1.1);
       next = refl;
     })
 
 pub returns-clause-settles : goal.returns-clause-settles
 returns-clause-settles c =
-    let less = fewer c.args.txn c.args.lo c.args.hi c.args.self.now c.take_first.new.self c.in-Some.held c.in-Some.ensures.taken c.in-Some.ensures.left in
+    let less = fewer c.args.txn c.args.lo c.args.hi c.args.self.now c.take_first.new.self c.in-Some.held c.in-Some.ensures.taken
+    c.in-Some.ensures.left in
     let room = c.in-Some.ensures.room in
     let more = c.add.ensures.spare in
     record { next = omega arith; fewer = omega arith; versions = omega arith; held = room }
 
 pub returns-clause-one : goal.returns-clause-one
 returns-clause-one c = λ _.
-    let less = fewer c.args.txn c.args.lo c.args.hi c.args.self.now c.take_first.new.self c.in-Some.held c.in-Some.ensures.taken c.in-Some.ensures.left in
+    let less = fewer c.args.txn c.args.lo c.args.hi c.args.self.now c.take_first.new.self c.in-Some.held c.in-Some.ensures.taken
+    c.in-Some.ensures.left in
     omega arith

@@ -12,4 +12,5 @@ returns-then-has-clause-changes c = λ time.
     (c.hold.ensures.held ∙ ap (λ (op : Op). s.held.held ++ held_op c.args.txn c.args.sub op ∷ []) c.get.ensures)
 
 pub returns-else-has-clause-changes : goal.returns-else-has-clause-changes
-returns-else-has-clause-changes c = λ time. outside (Hold c.args.txn c.args.sub time) c.args.self.now c.args.op.now c.requires.is (sym c.has.ensures ∙ c.if-has.false)
+returns-else-has-clause-changes c =
+    λ time. outside (Hold c.args.txn c.args.sub time) c.args.self.now c.args.op.now c.requires.is (sym c.has.ensures ∙ c.if-has.false)

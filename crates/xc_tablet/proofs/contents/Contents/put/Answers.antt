@@ -18,10 +18,12 @@ returns-then-has-clause-changes c =
       range = (refl, refl);
       inside = sym c.has.ensures ∙ c.if-has.true;
       at = refl;
-      items = c.add.ensures.items ∙ ap (λ (key : List ℕ). with_version (stored key c.args.time 0 s.next c.value.result) s.versions.items) c.key.ensures
+      items = c.add.ensures.items
+          ∙ ap (λ (key : List ℕ). with_version (stored key c.args.time 0 s.next c.value.result) s.versions.items) c.key.ensures
           ∙ ap (λ (value : Written). with_version (stored c.args.op.now.key c.args.time 0 s.next value) s.versions.items) c.value.ensures;
       next = refl;
     }) refl
 
 pub returns-else-has-clause-changes : goal.returns-else-has-clause-changes
-returns-else-has-clause-changes c = outside (Put c.args.time) c.args.self.now c.args.op.now c.requires.is (sym c.has.ensures ∙ c.if-has.false)
+returns-else-has-clause-changes c =
+    outside (Put c.args.time) c.args.self.now c.args.op.now c.requires.is (sym c.has.ensures ∙ c.if-has.false)

@@ -9,8 +9,10 @@ loop-op-preserved c =
     let s = c.args.self.now in
     let ops = c.args.ops.now in
     let d = c.loop-op.self in
-    let left : Left (Put c.args.time) ops (c.in-Some.op ∷ c.next.new.self) s d = subst (λ (rest : List Op). Left (Put c.args.time) ops rest s d) c.in-Some.ensures.steps c.loop-op.invariant.left in
-    let adds : AddsLeft ops (c.in-Some.op ∷ c.next.new.self) s d = subst (λ (rest : List Op). AddsLeft ops rest s d) c.in-Some.ensures.steps c.loop-op.invariant.adds in
+    let left : Left (Put c.args.time) ops (c.in-Some.op ∷ c.next.new.self) s d =
+    subst (λ (rest : List Op). Left (Put c.args.time) ops rest s d) c.in-Some.ensures.steps c.loop-op.invariant.left in
+    let adds : AddsLeft ops (c.in-Some.op ∷ c.next.new.self) s d =
+    subst (λ (rest : List Op). AddsLeft ops rest s d) c.in-Some.ensures.steps c.loop-op.invariant.adds in
     record {
       left = left-more (Put c.args.time) ops c.in-Some.op c.next.new.self s d _ left c.put.ensures.changes;
       adds = adds-more ops c.in-Some.op c.next.new.self s d _ left.range adds c.put.ensures.adds;

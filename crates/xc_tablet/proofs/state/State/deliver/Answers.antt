@@ -13,8 +13,10 @@ pub make_room-requires-clause-small : goal.make_room-requires-clause-small
 make_room-requires-clause-small c =
     let s = c.args.self.now in
     let h = c.header-header.result in
-    let e = past-is s c.args.id c.args.from h c.args.records.now c.past-past.result.now c.index.result.now c.requires.is c.header-header.ensures c.index.ensures c.past-past.ensures in
-    subst (λ (rs : List Record). list_all (λ r. nat_le (ops_in r.kind) 64) rs ≡ true) (sym e) (small-past c.args.id c.args.from h c.args.records.now s c.requires.is c.requires.can c.header-header.ensures)
+    let e = past-is s c.args.id c.args.from h c.args.records.now c.past-past.result.now c.index.result.now c.requires.is
+    c.header-header.ensures c.index.ensures c.past-past.ensures in
+    subst (λ (rs : List Record). list_all (λ r. nat_le (ops_in r.kind) 64) rs ≡ true) (sym e)
+    (small-past c.args.id c.args.from h c.args.records.now s c.requires.is c.requires.can c.header-header.ensures)
 
 pub make_room-requires-clause-waits : goal.make_room-requires-clause-waits
 make_room-requires-clause-waits c = omega (arith, few-at_all c.args.self.now c.requires.is)
@@ -27,14 +29,18 @@ take_all-requires c =
     let s = c.args.self.now in
     let h = c.header-header.result in
     let d = c.make_room.new.self in
-    let e = past-is s c.args.id c.args.from h c.args.records.now c.past-past.result.now c.index.result.now c.requires.is c.header-header.ensures c.index.ensures c.past-past.ensures in
+    let e = past-is s c.args.id c.args.from h c.args.records.now c.past-past.result.now c.index.result.now c.requires.is
+    c.header-header.ensures c.index.ensures c.past-past.ensures in
     subst (λ (rs : List Record). Ready c.args.id h rs (record s { contents = d })) (sym e)
-    (ready-past c.args.id c.args.from h c.args.records.now s c.requires.is c.requires.can c.header-header.ensures d c.make_room.ensures.alike (subst (λ (rs : List Record). HasRoom rs d) e c.in_ok-make_room.ensures.room))
+    (ready-past c.args.id c.args.from h c.args.records.now s c.requires.is c.requires.can c.header-header.ensures d
+    c.make_room.ensures.alike (subst (λ (rs : List Record). HasRoom rs d) e c.in_ok-make_room.ensures.room))
 
 pub returns-clause-taken : goal.returns-clause-taken
 returns-clause-taken c =
     let s = c.args.self.now in
     let h = c.header-header.result in
-    let e = past-is s c.args.id c.args.from h c.args.records.now c.past-past.result.now c.index.result.now c.requires.is c.header-header.ensures c.index.ensures c.past-past.ensures in
+    let e = past-is s c.args.id c.args.from h c.args.records.now c.past-past.result.now c.index.result.now c.requires.is
+    c.header-header.ensures c.index.ensures c.past-past.ensures in
     subst (λ (rs : List Record). TakesAll c.args.id rs (seen s) (seen c.take_all.new.self)) e
-    (subst (λ (x : TargetTablet). TakesAll c.args.id c.past-past.result.now x (seen c.take_all.new.self)) (alike-seen s c.make_room.new.self c.make_room.ensures.alike) c.take_all.ensures.taken)
+    (subst (λ (x : TargetTablet). TakesAll c.args.id c.past-past.result.now x (seen c.take_all.new.self))
+    (alike-seen s c.make_room.new.self c.make_room.ensures.alike) c.take_all.ensures.taken)

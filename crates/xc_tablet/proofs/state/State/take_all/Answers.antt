@@ -12,7 +12,8 @@ take_in-requires c =
     let i = c.loop-item.item-index in
     let r = c.item-item.result in
     ready-first c.args.id c.args.header.now r (drop (i + 1) rs) c.loop-item.self
-    (subst (λ (q : List Record). Ready c.args.id c.args.header.now q c.loop-item.self) (drop-first rs i r c.loop-item-test.true c.item-item.is) c.loop-item.invariant.ready)
+    (subst (λ (q : List Record). Ready c.args.id c.args.header.now q c.loop-item.self)
+    (drop-first rs i r c.loop-item-test.true c.item-item.is) c.loop-item.invariant.ready)
 
 pub loop-item-preserved : goal.loop-item-preserved
 loop-item-preserved c =
@@ -21,7 +22,10 @@ loop-item-preserved c =
     let r = c.item-item.result in
     record {
       ready = c.take_in.ensures.ready (drop (i + 1) rs)
-          (subst (λ (q : List Record). Ready c.args.id c.args.header.now q c.loop-item.self) (drop-first rs i r c.loop-item-test.true c.item-item.is) c.loop-item.invariant.ready);
-      taken = subst (λ (q : List Record). TakesAll c.args.id q (seen c.args.self.now) (seen c.take_in.new.self)) (sym (take-first rs i r c.loop-item-test.true c.item-item.is))
-          (batches-grow c.args.id (take i rs) r (seen c.args.self.now) (seen c.loop-item.self) (seen c.take_in.new.self) c.loop-item.invariant.taken c.take_in.ensures.taken);
+          (subst (λ (q : List Record). Ready c.args.id c.args.header.now q c.loop-item.self)
+          (drop-first rs i r c.loop-item-test.true c.item-item.is) c.loop-item.invariant.ready);
+      taken = subst (λ (q : List Record). TakesAll c.args.id q (seen c.args.self.now) (seen c.take_in.new.self))
+          (sym (take-first rs i r c.loop-item-test.true c.item-item.is))
+          (batches-grow c.args.id (take i rs) r (seen c.args.self.now) (seen c.loop-item.self) (seen c.take_in.new.self)
+          c.loop-item.invariant.taken c.take_in.ensures.taken);
     }

@@ -10,9 +10,11 @@ invariant_of-self c = kept-state c.self.inside.state c.keep_from.new.self c.args
 
 pub returns : goal.returns
 returns c =
-    let keeps = subst (λ (x : TargetTablet). KeepsFrom c.args.cutoff x (seen (with_versions c.self.inside.state c.keep_from.new.self))) c.self.view_is
+    let keeps = subst (λ (x : TargetTablet). KeepsFrom c.args.cutoff x (seen (with_versions c.self.inside.state c.keep_from.new.self)))
+    c.self.view_is
     (kept-keeps c.self.inside.state c.keep_from.new.self c.args.cutoff c.self.invariant c.keep_from.ensures.items) in
     record {
       kept = keeps;
-      stands = λ logs u stands covered. cutoffs-keep logs c.args.self.now (seen (with_versions c.self.inside.state c.keep_from.new.self)) u c.args.cutoff stands covered keeps;
+      stands = λ logs u stands covered. cutoffs-keep logs c.args.self.now (seen (with_versions c.self.inside.state c.keep_from.new.self)) u
+          c.args.cutoff stands covered keeps;
     }

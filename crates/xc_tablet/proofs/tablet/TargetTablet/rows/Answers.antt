@@ -15,7 +15,9 @@ pub returns-clause-shows : goal.returns-clause-shows
 returns-clause-shows c =
     let x = c.args.self.now in
     if_ok-map (λ (shown : List (List ℕ × List ℕ)). shown ≡ rows_shown c.args.t (seen c.self.inside.state))
-    (λ (shown : List (List ℕ × List ℕ)). (logs : Logs) (u : ℕ) → StandsFor logs u x → disagreement logs ≡ None → u ≤ c.args.t → c.args.t ≤ covers logs x → shown ≡ where_key (slice_cmp nat_cmp) (in_range x) (rows logs c.args.t))
+    (λ (shown : List (List ℕ × List ℕ)). (logs : Logs) (u : ℕ) → StandsFor logs u x → disagreement logs ≡ None → u ≤ c.args.t → c.args.t ≤
+    covers logs x → shown ≡ where_key (slice_cmp nat_cmp) (in_range x) (rows logs c.args.t))
     c.rows.result
-    (λ shown e logs u stands agree from to. e ∙ ap (rows_shown c.args.t) c.self.view_is ∙ reads-show-lists logs x u c.args.t stands agree from to)
+    (λ shown e logs u stands agree from to. e ∙ ap (rows_shown c.args.t) c.self.view_is
+    ∙ reads-show-lists logs x u c.args.t stands agree from to)
     c.rows.ensures.rows

@@ -1,9 +1,10 @@
-use Rattle.std.proofs.Common.{◌≡◌, ◌∙◌, ap, subst, sym, Some}
+use Rattle.std.proofs.Common.{◌≡◌, ◌∙◌, map, ap, subst, sym, Some}
 use Rattle.std.specs.List.{AllZip}
 use Rattle.std.specs.Vec.{with_items}
 use Rattle.std.proofs.lemmas.List.{with_items_is}
 use Rattle.xc_record.specs.Bounds.{IsPartition}
 use Rattle.xc_record.specs.Session.{safe_now}
+use Rattle.xc_model.specs.Rows.{range_of}
 use Rattle.xc_model.specs.Stands.{restore}
 use Rattle.xc_target.specs.Target.{TargetState, least_open, FitsFeed}
 use Rattle.xc_target.specs.Stands.{StandsForSession}
@@ -11,25 +12,53 @@ use Rattle.xc_target.proofs.SessionLaws.{safe-is}
 use Rattle.xc_target.proofs.MoveLaws.{is-closed, ranges-thin, length-thin, fits-thin, restore-thins}
 use Rattle.xc_target.proofs.target.Target.failover.Goals as goal
 
-restored : (c : goal.After-self-2-1) → AllZip (λ x y. y ≡ restore c.least_open-t.result x) c.self.inside.tablets.items (with_items c.self.inside.tablets c.restore_all.new.tablets).items
+restored : (c : goal.After-self-2-1) → AllZip (λ x y. y ≡ restore c.least_open-t.result x) c.self.inside.tablets.items
+    (with_items c.self.inside.tablets c.restore_all.new.tablets).items
 restored c =
-    let z = subst (λ (xs : _). AllZip (λ x y. y ≡ restore c.least_open-t.result x) xs c.restore_all.new.tablets) c.deref_mut.ensures.value c.restore_all.ensures in
+    let z = subst (λ (xs : _). AllZip
+    (λ x y. y ≡ restore c.least_open-t.result x) xs c.restore_all.new.tablets) c.deref_mut.ensures.value c.restore_all.ensures in
     let long = length-thin (λ x y. y ≡ restore c.least_open-t.result x) c.self.inside.tablets.items c.restore_all.new.tablets z in
-    subst (AllZip (λ x y. y ≡ restore c.least_open-t.result x) c.self.inside.tablets.items) (sym (with_items_is c.self.inside.tablets c.restore_all.new.tablets (long ∙ sym c.self.inside.tablets.ok.0))) z
+    subst (AllZip (λ x y. y ≡ restore c.least_open-t.result x) c.self.inside.tablets.items)
+    (sym (with_items_is c.self.inside.tablets c.restore_all.new.tablets (long ∙ sym c.self.inside.tablets.ok.0))) z
 
 pub invariant_of-self : goal.invariant_of-self
 invariant_of-self c = record {
-  ranges = subst IsPartition (sym (ranges-thin (λ x y. y ≡ restore c.least_open-t.result x) (restore-thins c.least_open-t.result) c.self.inside.tablets.items (with_items c.self.inside.tablets c.restore_all.new.tablets).items (restored c))) c.self.invariant.ranges;
+  ranges = subst IsPartition
+      (sym (ranges-thin (λ x y. y ≡ restore c.least_open-t.result x) (restore-thins c.least_open-t.result) c.self.inside.tablets.items
+      (with_items c.self.inside.tablets c.restore_all.new.tablets).items (restored c))) c.self.invariant.ranges;
 }
 
 pub returns-clause-step : goal.returns-clause-step
 returns-clause-step c = λ logs m is st.
-    let t : TargetState = record { tablets = c.self.inside.tablets.items; pollers = c.self.inside.pollers.items; cutoff = c.self.inside.cutoff; closed = c.self.inside.closed } in
-    let safe : c.least_open-t.result ≡ safe_now logs m = c.least_open-t.ensures ∙ ap least_open c.deref.ensures.value ∙ ap (λ (t : TargetState). least_open t.pollers) c.self.view_is ∙ safe-is logs m c.args.self.now is st in
-    is-closed logs m t is (subst (StandsForSession logs m) (sym c.self.view_is) st) c.in_default.is c.least_open-t.result (with_items c.self.inside.tablets c.restore_all.new.tablets).items safe (restored c)
+    let t : TargetState =
+    record {
+      tablets = c.self.inside.tablets.items;
+      pollers = c.self.inside.pollers.items;
+      cutoff = c.self.inside.cutoff;
+      closed =
+          c.self.inside.closed;
+    } in
+    let safe : c.least_open-t.result ≡ safe_now logs m = c.least_open-t.ensures ∙ ap least_open c.deref.ensures.value
+    ∙ ap (λ (t : TargetState). least_open t.pollers) c.self.view_is ∙ safe-is logs m c.args.self.now is st in
+    is-closed logs m t is (subst (StandsForSession logs m) (sym c.self.view_is) st) c.in_default.is c.least_open-t.result
+    (with_items c.self.inside.tablets c.restore_all.new.tablets).items safe (restored c)
 
 pub returns-clause-fits : goal.returns-clause-fits
 returns-clause-fits c = λ headers counts f.
-    let t : TargetState = record { tablets = c.self.inside.tablets.items; pollers = c.self.inside.pollers.items; cutoff = c.self.inside.cutoff; closed = c.self.inside.closed } in
-    fits-thin headers counts t (λ x y. y ≡ restore c.least_open-t.result x) (restore-thins c.least_open-t.result) (with_items c.self.inside.tablets c.restore_all.new.tablets).items c.self.inside.cutoff (Some c.least_open-t.result) (restored c)
+    let t : TargetState =
+    record {
+      tablets = c.self.inside.tablets.items;
+      pollers = c.self.inside.pollers.items;
+      cutoff = c.self.inside.cutoff;
+      closed =
+          c.self.inside.closed;
+    } in
+    fits-thin headers counts t (λ x y. y ≡ restore c.least_open-t.result x) (restore-thins c.least_open-t.result)
+    (with_items c.self.inside.tablets c.restore_all.new.tablets).items c.self.inside.cutoff (Some c.least_open-t.result) (restored c)
     (subst (FitsFeed headers counts) (sym c.self.view_is) f)
+
+pub returns-clause-ranges : goal.returns-clause-ranges
+returns-clause-ranges c =
+    ranges-thin (λ x y. y ≡ restore c.least_open-t.result x) (restore-thins c.least_open-t.result) c.self.inside.tablets.items
+    (with_items c.self.inside.tablets c.restore_all.new.tablets).items (restored c)
+    ∙ ap (λ (t : TargetState). map range_of t.tablets) c.self.view_is

@@ -1,304 +1,239 @@
-use Rattle.std.proofs.Common.{◌≡◌, true, ℕ, ◌<◌, ◌∙◌, List, length, map, get_or, set, take, ap, sym, refl, subst, arith, Option, Some, None, Ok, Err}
-use Rattle.std.specs.Prelude.{slice_get, slice_set}
+-- A poll makes the step of the session that one call of its poller makes; where that closes its tablet, the children are
+-- opened.
+use Rattle.std.proofs.Common.{◌≡◌, ◌∙◌, true, false, map, get_or, ap, sym, refl, subst, ℕ, List, Some, Result, Ok}
+use Rattle.std.specs.Prelude.{slice_get, slice_set, IfSome}
 use Rattle.std.specs.List.{AllZip}
 use Rattle.std.specs.Vec.{with_items, with_item}
-use Rattle.std.proofs.lemmas.List.{with_items_is, length-set}
+use Rattle.std.specs.declared.vec.Vec.{Vec}
+use Rattle.std.proofs.lemmas.List.{with_items_is}
 use Rattle.std.proofs.lemmas.List.Elements.{length_all_zip}
-use Rattle.std.proofs.lemmas.Option.{slice_get_read, IfSome_then}
-use Rattle.xc_record.specs.declared.record.Logs.{Logs}
+use Rattle.std.proofs.lemmas.Option.{IfSome_then}
+use Rattle.std.proofs.lemmas.Result.{err_from_is_err_and}
 use Rattle.xc_record.specs.declared.session.PollAnswer.{PollAnswer}
 use Rattle.xc_record.specs.declared.session.PollAnswer.TheVariants as poll
-use Rattle.xc_record.specs.Bounds.{IsPartition}
 use Rattle.xc_record.specs.Session.{Session, IsSession}
-use Rattle.xc_record.specs.Step.{poll_answer, poll_step}
+use Rattle.xc_record.specs.Bounds.{IsPartition}
 use Rattle.xc_model.specs.Rows.{range_of}
 use Rattle.xc_model.specs.Stands.{TargetTablet}
 use Rattle.xc_poller.specs.Poller.{PollerState, is_closed}
+use Rattle.xc_target.specs.declared.answers.TargetFail.{TargetFail}
 use Rattle.xc_target.specs.Target.{TargetState, headers_of_pollers, FitsFeed, Opens}
-use Rattle.xc_target.proofs.MoveLaws.{get-set-here}
 use Rattle.xc_target.specs.Stands.{StandsForSession}
-use Rattle.xc_target.specs.Answers.{Made}
-use Rattle.xc_target.proofs.PollFacts.{ranges-polled, idle-answer}
-use Rattle.xc_target.proofs.PollFits.{opens-is}
-use Rattle.xc_target.proofs.PollLaws.{after_poll}
-use Rattle.xc_target.proofs.PollSteps.{Called, put_in, make-called, with-result, fits-now, step-polled, step-idle, opens-all, headers-here, step-failed, length-called, fits-called, fits-children, after-open, after-shut}
+use Rattle.xc_target.specs.Answers.{IsPolled, MovesOn}
+use Rattle.xc_target.proofs.CursorLaws.{moves-there, opened-there}
+use Rattle.xc_target.proofs.MoveLaws.{get-set-here}
+use Rattle.xc_target.proofs.PollFacts.{polled-ended}
+use Rattle.xc_target.proofs.PollSteps.{Called, make-called, put_in, with_pollers, told, told-is, told-ok, length-called, same-ranges}
+use Rattle.xc_target.proofs.PollSteps.{ranges-called}
+use Rattle.xc_target.proofs.PollSteps.{fits-called, fits-children, fits-now, headers-here, after-open, after-shut, after-idle, polled-step}
+use Rattle.xc_target.proofs.PollSteps.{after_call}
+use Rattle.xc_target.proofs.target.Target.poll.Given.{Over}
 use Rattle.xc_target.proofs.target.Target.poll.Goals as goal
+use Rattle.xc_target.proofs.target.Target.poll.Goals.{After-poll-polled}
 
-pub invariant_of-self-in-Err-NoMemory : goal.invariant_of-self-in-Err-NoMemory
-invariant_of-self-in-Err-NoMemory g c =
-    let t : TargetState = record { tablets = c.self.inside.tablets.items; pollers = c.self.inside.pollers.items; cutoff = c.self.inside.cutoff; closed = c.self.inside.closed } in
-    let hs = g.F.Feed.headers c.args.feed.now in
-    let cs = g.F.Feed.counts c.args.feed.now in
-    let o = g.F.Feed.logs c.args.feed.now in
-    let n = c.args.n in
-    let id = c.args.id in
-    let p = c.index_mut-poller.result.now in
-    let q = c.poll-polled.new.self in
-    let ys = c.poll-polled.new.tablets in
-    let r = c.poll-polled.result in
-    let low : id < length t.pollers = subst (λ (w : TargetState). id < length w.pollers) (sym c.self.view_is) c.requires.known in
-    let at = slice_get_read t.pollers (length t.pollers) id p refl low c.index_mut-poller.ensures.value in
-    let k = c.poll-polled.ensures in
-    let called : Called hs cs o n id t p q ys r = make-called hs (g.F.Feed.headers c.poll-polled.new.feed) cs (g.F.Feed.counts c.poll-polled.new.feed) o n id t p q c.deref_mut.result.now ys r k.same_headers k.same_counts c.deref_mut.ensures.value c.in_default.is at k.fits k.tablets k.polled k.answer k.stands k.keep_standing in
-    let fitted : FitsFeed hs cs t = subst (FitsFeed hs cs) (sym c.self.view_is) c.requires.fits in
-    let same : (with_items c.self.inside.tablets ys).items ≡ ys = with_items_is c.self.inside.tablets ys (length-called hs cs n id t p q ys o r called ∙ sym c.self.inside.tablets.ok.0) in
-    record { ranges = subst (λ (w : List TargetTablet). IsPartition (map range_of w)) (sym same) (subst IsPartition (sym (ranges-polled hs cs n p q t.tablets ys r called.polled)) c.self.invariant.ranges) }
+abbrev before : (g : Over) → After-poll-polled g → TargetState
+before g c = record {
+  tablets = c.self.inside.tablets.items;
+  pollers = c.self.inside.pollers.items;
+  cutoff = c.self.inside.cutoff;
+  closed = c.self.inside.closed;
+}
 
-pub returns-in-Err-NoMemory-clause-fits : goal.returns-in-Err-NoMemory-clause-fits
-returns-in-Err-NoMemory-clause-fits g c =
-    let t : TargetState = record { tablets = c.self.inside.tablets.items; pollers = c.self.inside.pollers.items; cutoff = c.self.inside.cutoff; closed = c.self.inside.closed } in
-    let hs = g.F.Feed.headers c.args.feed.now in
-    let cs = g.F.Feed.counts c.args.feed.now in
-    let o = g.F.Feed.logs c.args.feed.now in
-    let n = c.args.n in
-    let id = c.args.id in
-    let p = c.index_mut-poller.result.now in
-    let q = c.poll-polled.new.self in
-    let ys = c.poll-polled.new.tablets in
-    let r = c.poll-polled.result in
-    let low : id < length t.pollers = subst (λ (w : TargetState). id < length w.pollers) (sym c.self.view_is) c.requires.known in
-    let at = slice_get_read t.pollers (length t.pollers) id p refl low c.index_mut-poller.ensures.value in
+called : (g : Over) (c : After-poll-polled g)
+    → Called (g.F.Feed.headers c.args.feed.now) (g.F.Feed.counts c.args.feed.now) (g.F.Feed.logs c.args.feed.now) c.args.n c.args.id
+    (before g c) c.index_mut-poller.result.now c.poll-polled.new.self c.poll-polled.new.tablets c.poll-polled.result
+called g c =
     let k = c.poll-polled.ensures in
-    let called : Called hs cs o n id t p q ys r = make-called hs (g.F.Feed.headers c.poll-polled.new.feed) cs (g.F.Feed.counts c.poll-polled.new.feed) o n id t p q c.deref_mut.result.now ys r k.same_headers k.same_counts c.deref_mut.ensures.value c.in_default.is at k.fits k.tablets k.polled k.answer k.stands k.keep_standing in
-    let fitted : FitsFeed hs cs t = subst (FitsFeed hs cs) (sym c.self.view_is) c.requires.fits in
-    let same : (with_items c.self.inside.tablets ys).items ≡ ys = with_items_is c.self.inside.tablets ys (length-called hs cs n id t p q ys o r called ∙ sym c.self.inside.tablets.ok.0) in
-    subst (λ (w : List TargetTablet). FitsFeed (g.F.Feed.headers c.poll-polled.new.feed) (g.F.Feed.counts c.poll-polled.new.feed) (put_in t id q w)) (sym same)
-    (fits-now hs _ cs _ (put_in t id q ys) k.same_headers k.same_counts (fits-called hs cs n id t p q ys o r (g.met.F.Feed.shape c.args.feed.now) called fitted))
+    make-called _ _ _ _ _ _ _ (before g c) c.args.self.now _ _ c.deref_mut.result.now _ _ c.self.view_is c.in_default.is
+    c.requires.known c.index_mut-poller.ensures.value c.deref_mut.ensures.value k.same_headers k.same_counts k.fits k.tablets
+    (polled-ended _ _ _ _ _ _ _ _ k.polled) k.answer k.stands k.keep_standing
 
-pub returns-in-Err-NoMemory-clause-step : goal.returns-in-Err-NoMemory-clause-step
-returns-in-Err-NoMemory-clause-step g c =
-    let t : TargetState = record { tablets = c.self.inside.tablets.items; pollers = c.self.inside.pollers.items; cutoff = c.self.inside.cutoff; closed = c.self.inside.closed } in
-    let hs = g.F.Feed.headers c.args.feed.now in
-    let cs = g.F.Feed.counts c.args.feed.now in
-    let o = g.F.Feed.logs c.args.feed.now in
-    let n = c.args.n in
-    let id = c.args.id in
-    let p = c.index_mut-poller.result.now in
-    let q = c.poll-polled.new.self in
-    let ys = c.poll-polled.new.tablets in
-    let r = c.poll-polled.result in
-    let low : id < length t.pollers = subst (λ (w : TargetState). id < length w.pollers) (sym c.self.view_is) c.requires.known in
-    let at = slice_get_read t.pollers (length t.pollers) id p refl low c.index_mut-poller.ensures.value in
+-- the tablets after it
+abbrev tablets : (g : Over) → After-poll-polled g → List TargetTablet
+tablets g c = (with_items c.self.inside.tablets c.poll-polled.new.tablets).items
+
+tablets-are : (g : Over) (c : After-poll-polled g) → tablets g c ≡ c.poll-polled.new.tablets
+tablets-are g c = with_items_is c.self.inside.tablets c.poll-polled.new.tablets
+    (length-called _ _ _ _ _ _ _ _ _ _ (called g c) ∙ sym c.self.inside.tablets.ok.0)
+
+shares-out : (g : Over) (c : After-poll-polled g) → IsPartition (map range_of (tablets g c))
+shares-out g c = subst (λ (w : List TargetTablet). IsPartition (map range_of w)) (sym (tablets-are g c))
+    (ranges-called _ _ _ _ _ _ _ _ _ _ (called g c) c.self.invariant.ranges)
+
+ranges-are : (g : Over) (c : After-poll-polled g) → map range_of (tablets g c) ≡ map range_of c.args.self.now.tablets
+ranges-are g c = ap (map range_of) (tablets-are g c) ∙ same-ranges _ _ _ _ _ _ _ _ _ _ (called g c)
+    ∙ ap (λ (t : TargetState). map range_of t.tablets) c.self.view_is
+
+-- the poller is put back
+abbrev put : (g : Over) → After-poll-polled g → List PollerState
+put g c = slice_set c.self.inside.pollers.items c.args.id c.poll-polled.new.self
+
+fitted : (g : Over) (c : After-poll-polled g) → FitsFeed (g.F.Feed.headers c.args.feed.now) (g.F.Feed.counts c.args.feed.now) (before g c)
+fitted g c = subst (FitsFeed (g.F.Feed.headers c.args.feed.now) (g.F.Feed.counts c.args.feed.now)) (sym c.self.view_is) c.requires.fits
+
+-- the pollers after children were opened
+pollers-are : {Z : Type 0} (v : Vec PollerState Z) (q : PollerState) (rs : List PollerState) → AllZip (Opens q) v.items rs
+    → (with_items v rs).items ≡ rs
+pollers-are v q rs z = with_items_is v rs (sym (length_all_zip (Opens q) v.items rs z) ∙ sym v.ok.0)
+
+-- a target with these pollers fits the feed as it is now, where it fitted the feed before
+fits-after : (g : Over) (c : After-poll-polled g) (ps : List PollerState)
+    → FitsFeed (g.F.Feed.headers c.args.feed.now) (g.F.Feed.counts c.args.feed.now) (with_pollers (before g c) c.poll-polled.new.tablets ps)
+    → FitsFeed (g.F.Feed.headers c.poll-polled.new.feed) (g.F.Feed.counts c.poll-polled.new.feed)
+    (with_pollers (before g c) (tablets g c) ps)
+fits-after g c ps f =
     let k = c.poll-polled.ensures in
-    let called : Called hs cs o n id t p q ys r = make-called hs (g.F.Feed.headers c.poll-polled.new.feed) cs (g.F.Feed.counts c.poll-polled.new.feed) o n id t p q c.deref_mut.result.now ys r k.same_headers k.same_counts c.deref_mut.ensures.value c.in_default.is at k.fits k.tablets k.polled k.answer k.stands k.keep_standing in
-    let fitted : FitsFeed hs cs t = subst (FitsFeed hs cs) (sym c.self.view_is) c.requires.fits in
-    let same : (with_items c.self.inside.tablets ys).items ≡ ys = with_items_is c.self.inside.tablets ys (length-called hs cs n id t p q ys o r called ∙ sym c.self.inside.tablets.ok.0) in
-    let is = c.in-Err-NoMemory.is in
-    let failed = with-result hs cs o n id t p q ys r (Err c.in-Err-NoMemory.field-0) is called in
-    IfSome_then o (step-failed hs cs n id t p q ys o c.in-Err-NoMemory.field-0 failed)
-    (λ logs f m session st. subst (λ (w : List TargetTablet). Made logs m m (put_in t id q w)) (sym same) (f m session (subst (StandsForSession logs m) (sym c.self.view_is) st)))
+    fits-now _ _ _ _ _ k.same_headers k.same_counts
+    (subst (λ (w : List TargetTablet). FitsFeed (g.F.Feed.headers c.args.feed.now) (g.F.Feed.counts c.args.feed.now)
+    (with_pollers (before g c) w ps)) (sym (tablets-are g c)) f)
+
+fits-put : (g : Over) (c : After-poll-polled g)
+    → FitsFeed (g.F.Feed.headers c.poll-polled.new.feed) (g.F.Feed.counts c.poll-polled.new.feed)
+    (with_pollers (before g c) (tablets g c) (put g c))
+fits-put g c = fits-after g c (put g c) (fits-called _ _ _ _ _ _ _ _ _ _ (g.met.F.Feed.shape c.args.feed.now) (called g c) (fitted g c))
+
+-- the step of the session, by what it told
+steps : (g : Over) (c : After-poll-polled g) (s : Result PollAnswer TargetFail) → told c.poll-polled.result ≡ s
+    → IfSome (g.F.Feed.logs c.args.feed.now) (λ logs. (m : Session) → IsSession logs m → StandsForSession logs m c.args.self.now
+    → IsPolled logs m c.args.id c.args.n (with_pollers (before g c) (tablets g c) (after_call s c.poll-polled.new.self (put g c))) s)
+steps g c s e =
+    let o = g.F.Feed.logs c.args.feed.now in
+    let q = c.poll-polled.new.self in
+    let r = c.poll-polled.result in
+    IfSome_then o
+    (polled-step _ _ _ _ _ _ _ _ o r c.deref_mut.result.now (called g c) c.deref_mut.ensures.value c.poll-polled.ensures.polled)
+    (λ logs f m session st.
+    subst (λ s. IsPolled logs m c.args.id c.args.n (with_pollers (before g c) (tablets g c) (after_call s q (put g c))) s) e
+    (subst (λ (w : List TargetTablet). IsPolled logs m c.args.id c.args.n (with_pollers (before g c) w (after_call (told r) q (put g c)))
+    (told r))
+    (sym (tablets-are g c)) (f m session (subst (StandsForSession logs m) (sym c.self.view_is) st))))
+
+-- the same, where its pollers are these in the end
+steps-to : (g : Over) (c : After-poll-polled g) (s : Result PollAnswer TargetFail) (ps : List PollerState)
+    → told c.poll-polled.result ≡ s → after_call s c.poll-polled.new.self (put g c) ≡ ps
+    → IfSome (g.F.Feed.logs c.args.feed.now) (λ logs. (m : Session) → IsSession logs m → StandsForSession logs m c.args.self.now
+    → IsPolled logs m c.args.id c.args.n (with_pollers (before g c) (tablets g c) ps) s)
+steps-to g c s ps e f =
+    IfSome_then (g.F.Feed.logs c.args.feed.now) (steps g c s e)
+    (λ logs h m session st. subst (λ ps. IsPolled logs m c.args.id c.args.n (with_pollers (before g c) (tablets g c) ps) s) f
+    (h m session st))
+
+-- a batch was delivered: the cursor moved on, as far as the pollers in the end are these
+moves : (g : Over) (c : After-poll-polled g) (k : ℕ) (ps : List PollerState) → told c.poll-polled.result ≡ Ok (poll.Polled k)
+    → slice_get ps c.args.id ≡ Some c.poll-polled.new.self
+    → MovesOn (g.F.Feed.counts c.args.feed.now) c.args.id c.args.self.now (with_pollers (before g c) (tablets g c) ps) (poll.Polled k)
+moves g c k ps e there =
+    subst (λ (w : TargetState). MovesOn (g.F.Feed.counts c.args.feed.now) c.args.id w (with_pollers (before g c) (tablets g c) ps)
+    (poll.Polled k))
+    c.self.view_is
+    (moves-there _ _ _ _ _ k _ _ _ c.deref_mut.result.now _ c.poll-polled.result (told-ok c.poll-polled.result (poll.Polled k) e)
+    (called g c)
+    c.deref_mut.ensures.value c.poll-polled.ensures.polled (g.met.F.Feed.shape c.args.feed.now) (fitted g c)
+    (with_pollers (before g c) (tablets g c) ps) there)
+
+pub invariant_of-self : goal.invariant_of-self
+invariant_of-self g c = record { ranges = shares-out g (goal.at.invariant_of-self g c).After-poll-polled }
+
+pub invariant_of-self-then-closed : goal.invariant_of-self-then-closed
+invariant_of-self-then-closed g c = record { ranges = shares-out g (goal.at.invariant_of-self-then-closed g c).After-poll-polled }
+
+pub invariant_of-self-else-closed : goal.invariant_of-self-else-closed
+invariant_of-self-else-closed g c = record { ranges = shares-out g (goal.at.invariant_of-self-else-closed g c).After-poll-polled }
+
+pub returns-in_err-answer-clause-fits : goal.returns-in_err-answer-clause-fits
+returns-in_err-answer-clause-fits g c = fits-put g (goal.at.returns-in_err-answer-clause-fits g c).After-poll-polled
 
 pub returns-in_default-answer-clause-fits : goal.returns-in_default-answer-clause-fits
-returns-in_default-answer-clause-fits g c =
-    let t : TargetState = record { tablets = c.self.inside.tablets.items; pollers = c.self.inside.pollers.items; cutoff = c.self.inside.cutoff; closed = c.self.inside.closed } in
-    let hs = g.F.Feed.headers c.args.feed.now in
-    let cs = g.F.Feed.counts c.args.feed.now in
-    let o = g.F.Feed.logs c.args.feed.now in
-    let n = c.args.n in
-    let id = c.args.id in
-    let p = c.index_mut-poller.result.now in
-    let q = c.poll-polled.new.self in
-    let ys = c.poll-polled.new.tablets in
-    let r = c.poll-polled.result in
-    let low : id < length t.pollers = subst (λ (w : TargetState). id < length w.pollers) (sym c.self.view_is) c.requires.known in
-    let at = slice_get_read t.pollers (length t.pollers) id p refl low c.index_mut-poller.ensures.value in
-    let k = c.poll-polled.ensures in
-    let called : Called hs cs o n id t p q ys r = make-called hs (g.F.Feed.headers c.poll-polled.new.feed) cs (g.F.Feed.counts c.poll-polled.new.feed) o n id t p q c.deref_mut.result.now ys r k.same_headers k.same_counts c.deref_mut.ensures.value c.in_default.is at k.fits k.tablets k.polled k.answer k.stands k.keep_standing in
-    let fitted : FitsFeed hs cs t = subst (FitsFeed hs cs) (sym c.self.view_is) c.requires.fits in
-    let same : (with_items c.self.inside.tablets ys).items ≡ ys = with_items_is c.self.inside.tablets ys (length-called hs cs n id t p q ys o r called ∙ sym c.self.inside.tablets.ok.0) in
-    subst (λ (w : List TargetTablet). FitsFeed (g.F.Feed.headers c.poll-polled.new.feed) (g.F.Feed.counts c.poll-polled.new.feed) (put_in t id q w)) (sym same)
-    (fits-now hs _ cs _ (put_in t id q ys) k.same_headers k.same_counts (fits-called hs cs n id t p q ys o r (g.met.F.Feed.shape c.args.feed.now) called fitted))
+returns-in_default-answer-clause-fits g c = fits-put g (goal.at.returns-in_default-answer-clause-fits g c).After-poll-polled
+
+pub returns-else-closed-clause-fits : goal.returns-else-closed-clause-fits
+returns-else-closed-clause-fits g c = fits-put g (goal.at.returns-else-closed-clause-fits g c).After-poll-polled
+
+pub returns-in_err-answer-clause-step : goal.returns-in_err-answer-clause-step
+returns-in_err-answer-clause-step g c =
+    let a = (goal.at.returns-in_err-answer-clause-step g c).After-poll-polled in
+    let p = err_from_is_err_and c.from_residual.result c.from_residual.ensures.1 in
+    rw (p.1, p.2) (steps-to g a _ _ (told-is _ _ c.map_err.ensures.cases ∙ c.in_err-answer.was) refl)
 
 pub returns-in_default-answer-clause-step : goal.returns-in_default-answer-clause-step
 returns-in_default-answer-clause-step g c =
-    let t : TargetState = record { tablets = c.self.inside.tablets.items; pollers = c.self.inside.pollers.items; cutoff = c.self.inside.cutoff; closed = c.self.inside.closed } in
-    let hs = g.F.Feed.headers c.args.feed.now in
-    let cs = g.F.Feed.counts c.args.feed.now in
-    let o = g.F.Feed.logs c.args.feed.now in
-    let n = c.args.n in
-    let id = c.args.id in
-    let p = c.index_mut-poller.result.now in
-    let q = c.poll-polled.new.self in
-    let ys = c.poll-polled.new.tablets in
-    let r = c.poll-polled.result in
-    let low : id < length t.pollers = subst (λ (w : TargetState). id < length w.pollers) (sym c.self.view_is) c.requires.known in
-    let at = slice_get_read t.pollers (length t.pollers) id p refl low c.index_mut-poller.ensures.value in
-    let k = c.poll-polled.ensures in
-    let called : Called hs cs o n id t p q ys r = make-called hs (g.F.Feed.headers c.poll-polled.new.feed) cs (g.F.Feed.counts c.poll-polled.new.feed) o n id t p q c.deref_mut.result.now ys r k.same_headers k.same_counts c.deref_mut.ensures.value c.in_default.is at k.fits k.tablets k.polled k.answer k.stands k.keep_standing in
-    let fitted : FitsFeed hs cs t = subst (FitsFeed hs cs) (sym c.self.view_is) c.requires.fits in
-    let same : (with_items c.self.inside.tablets ys).items ≡ ys = with_items_is c.self.inside.tablets ys (length-called hs cs n id t p q ys o r called ∙ sym c.self.inside.tablets.ok.0) in
-    let was = with-result hs cs o n id t p q ys r (Ok c.in-Ok.answer) c.in-Ok.is called in
-    IfSome_then o (step-idle hs cs n id t p q ys o c.in-Ok.answer (idle-answer c.in-Ok.answer c.in_default-answer.not-Polled) was)
-    (λ logs f m session st. let h = f m session (subst (StandsForSession logs m) (sym c.self.view_is) st) in
-    (h.0, subst (λ (w : List TargetTablet). Made logs m (poll_step m id c.in-Ok.answer).0 (put_in t id q w)) (sym same) h.1))
-
-pub invariant_of-self-else-closed : goal.invariant_of-self-else-closed
-invariant_of-self-else-closed g c =
-    let t : TargetState = record { tablets = c.self.inside.tablets.items; pollers = c.self.inside.pollers.items; cutoff = c.self.inside.cutoff; closed = c.self.inside.closed } in
-    let hs = g.F.Feed.headers c.args.feed.now in
-    let cs = g.F.Feed.counts c.args.feed.now in
-    let o = g.F.Feed.logs c.args.feed.now in
-    let n = c.args.n in
-    let id = c.args.id in
-    let p = c.index_mut-poller.result.now in
-    let q = c.poll-polled.new.self in
-    let ys = c.poll-polled.new.tablets in
-    let r = c.poll-polled.result in
-    let low : id < length t.pollers = subst (λ (w : TargetState). id < length w.pollers) (sym c.self.view_is) c.requires.known in
-    let at = slice_get_read t.pollers (length t.pollers) id p refl low c.index_mut-poller.ensures.value in
-    let k = c.poll-polled.ensures in
-    let called : Called hs cs o n id t p q ys r = make-called hs (g.F.Feed.headers c.poll-polled.new.feed) cs (g.F.Feed.counts c.poll-polled.new.feed) o n id t p q c.deref_mut.result.now ys r k.same_headers k.same_counts c.deref_mut.ensures.value c.in_default.is at k.fits k.tablets k.polled k.answer k.stands k.keep_standing in
-    let fitted : FitsFeed hs cs t = subst (FitsFeed hs cs) (sym c.self.view_is) c.requires.fits in
-    let same : (with_items c.self.inside.tablets ys).items ≡ ys = with_items_is c.self.inside.tablets ys (length-called hs cs n id t p q ys o r called ∙ sym c.self.inside.tablets.ok.0) in
-    record { ranges = subst (λ (w : List TargetTablet). IsPartition (map range_of w)) (sym same) (subst IsPartition (sym (ranges-polled hs cs n p q t.tablets ys r called.polled)) c.self.invariant.ranges) }
-
-pub returns-else-closed-clause-fits : goal.returns-else-closed-clause-fits
-returns-else-closed-clause-fits g c =
-    let t : TargetState = record { tablets = c.self.inside.tablets.items; pollers = c.self.inside.pollers.items; cutoff = c.self.inside.cutoff; closed = c.self.inside.closed } in
-    let hs = g.F.Feed.headers c.args.feed.now in
-    let cs = g.F.Feed.counts c.args.feed.now in
-    let o = g.F.Feed.logs c.args.feed.now in
-    let n = c.args.n in
-    let id = c.args.id in
-    let p = c.index_mut-poller.result.now in
-    let q = c.poll-polled.new.self in
-    let ys = c.poll-polled.new.tablets in
-    let r = c.poll-polled.result in
-    let low : id < length t.pollers = subst (λ (w : TargetState). id < length w.pollers) (sym c.self.view_is) c.requires.known in
-    let at = slice_get_read t.pollers (length t.pollers) id p refl low c.index_mut-poller.ensures.value in
-    let k = c.poll-polled.ensures in
-    let called : Called hs cs o n id t p q ys r = make-called hs (g.F.Feed.headers c.poll-polled.new.feed) cs (g.F.Feed.counts c.poll-polled.new.feed) o n id t p q c.deref_mut.result.now ys r k.same_headers k.same_counts c.deref_mut.ensures.value c.in_default.is at k.fits k.tablets k.polled k.answer k.stands k.keep_standing in
-    let fitted : FitsFeed hs cs t = subst (FitsFeed hs cs) (sym c.self.view_is) c.requires.fits in
-    let same : (with_items c.self.inside.tablets ys).items ≡ ys = with_items_is c.self.inside.tablets ys (length-called hs cs n id t p q ys o r called ∙ sym c.self.inside.tablets.ok.0) in
-    subst (λ (w : List TargetTablet). FitsFeed (g.F.Feed.headers c.poll-polled.new.feed) (g.F.Feed.counts c.poll-polled.new.feed) (put_in t id q w)) (sym same)
-    (fits-now hs _ cs _ (put_in t id q ys) k.same_headers k.same_counts (fits-called hs cs n id t p q ys o r (g.met.F.Feed.shape c.args.feed.now) called fitted))
-
-pub returns-else-closed-clause-step : goal.returns-else-closed-clause-step
-returns-else-closed-clause-step g c =
-    let t : TargetState = record { tablets = c.self.inside.tablets.items; pollers = c.self.inside.pollers.items; cutoff = c.self.inside.cutoff; closed = c.self.inside.closed } in
-    let hs = g.F.Feed.headers c.args.feed.now in
-    let cs = g.F.Feed.counts c.args.feed.now in
-    let o = g.F.Feed.logs c.args.feed.now in
-    let n = c.args.n in
-    let id = c.args.id in
-    let p = c.index_mut-poller.result.now in
-    let q = c.poll-polled.new.self in
-    let ys = c.poll-polled.new.tablets in
-    let r = c.poll-polled.result in
-    let low : id < length t.pollers = subst (λ (w : TargetState). id < length w.pollers) (sym c.self.view_is) c.requires.known in
-    let at = slice_get_read t.pollers (length t.pollers) id p refl low c.index_mut-poller.ensures.value in
-    let k = c.poll-polled.ensures in
-    let called : Called hs cs o n id t p q ys r = make-called hs (g.F.Feed.headers c.poll-polled.new.feed) cs (g.F.Feed.counts c.poll-polled.new.feed) o n id t p q c.deref_mut.result.now ys r k.same_headers k.same_counts c.deref_mut.ensures.value c.in_default.is at k.fits k.tablets k.polled k.answer k.stands k.keep_standing in
-    let fitted : FitsFeed hs cs t = subst (FitsFeed hs cs) (sym c.self.view_is) c.requires.fits in
-    let same : (with_items c.self.inside.tablets ys).items ≡ ys = with_items_is c.self.inside.tablets ys (length-called hs cs n id t p q ys o r called ∙ sym c.self.inside.tablets.ok.0) in
-    let was = with-result hs cs o n id t p q ys r (Ok (poll.Polled c.in-Polled.count)) (c.in-Ok.is ∙ ap Ok c.in-Polled.is) called in
-    IfSome_then o (step-polled hs cs n id t p q ys o c.in-Polled.count was)
-    (λ logs f m session st. let h = f m session (subst (StandsForSession logs m) (sym c.self.view_is) st) in (
-      h.0,
-      subst (λ (w : List TargetTablet). Made logs m (poll_step m id (poll.Polled c.in-Polled.count)).0 (put_in t id q w)) (sym same)
-          (subst (λ (w : List PollerState). Made logs m (poll_step m id (poll.Polled c.in-Polled.count)).0 (record { tablets = ys; pollers = w; cutoff = t.cutoff; closed = t.closed })) (after-shut hs cs n id t p q ys (sym c.closed.ensures.closed ∙ c.if-closed.false)) h.1),
-    ))
+    let a = (goal.at.returns-in_default-answer-clause-step g c).After-poll-polled in
+    steps-to g a _ _ (told-is _ _ c.map_err.ensures.cases ∙ c.in_ok-answer.was)
+    (after-idle c.in_ok-answer.answer a.poll-polled.new.self (put g a) c.in_default-answer.not-Polled)
 
 pub open_children-requires-clause-headers : goal.open_children-requires-clause-headers
 open_children-requires-clause-headers g c =
-    let t : TargetState = record { tablets = c.self.inside.tablets.items; pollers = c.self.inside.pollers.items; cutoff = c.self.inside.cutoff; closed = c.self.inside.closed } in
-    let hs = g.F.Feed.headers c.args.feed.now in
-    let cs = g.F.Feed.counts c.args.feed.now in
-    let o = g.F.Feed.logs c.args.feed.now in
-    let n = c.args.n in
-    let id = c.args.id in
-    let p = c.index_mut-poller.result.now in
-    let q = c.poll-polled.new.self in
-    let ys = c.poll-polled.new.tablets in
-    let r = c.poll-polled.result in
-    let low : id < length t.pollers = subst (λ (w : TargetState). id < length w.pollers) (sym c.self.view_is) c.requires.known in
-    let at = slice_get_read t.pollers (length t.pollers) id p refl low c.index_mut-poller.ensures.value in
-    let k = c.poll-polled.ensures in
-    let called : Called hs cs o n id t p q ys r = make-called hs (g.F.Feed.headers c.poll-polled.new.feed) cs (g.F.Feed.counts c.poll-polled.new.feed) o n id t p q c.deref_mut.result.now ys r k.same_headers k.same_counts c.deref_mut.ensures.value c.in_default.is at k.fits k.tablets k.polled k.answer k.stands k.keep_standing in
-    let fitted : FitsFeed hs cs t = subst (FitsFeed hs cs) (sym c.self.view_is) c.requires.fits in
-    let same : (with_items c.self.inside.tablets ys).items ≡ ys = with_items_is c.self.inside.tablets ys (length-called hs cs n id t p q ys o r called ∙ sym c.self.inside.tablets.ok.0) in
-    let f = fits-called hs cs n id t p q ys o r (g.met.F.Feed.shape c.args.feed.now) called fitted in
-    let ranges = subst IsPartition (sym (ranges-polled hs cs n p q t.tablets ys r called.polled)) c.self.invariant.ranges in
+    let a = (goal.at.open_children-requires-clause-headers g c).After-poll-polled in
+    let q = a.poll-polled.new.self in
     let x = c.index.result.now in
-    let here : x ≡ get_or ys 0 x = subst (λ (w : List TargetTablet). x ≡ get_or w 0 x) same c.index.ensures in
-    c.headers.ensures.headers ∙ headers-here hs cs (put_in t id q ys) id q x f (get-set-here t.pollers id p q at) ranges here
+    let fits = fits-called _ _ _ _ _ _ _ _ _ _ (g.met.F.Feed.shape a.args.feed.now) (called g a) (fitted g a) in
+    let whole = ranges-called _ _ _ _ _ _ _ _ _ _ (called g a) a.self.invariant.ranges in
+    let here : x ≡ get_or a.poll-polled.new.tablets 0 x = subst (λ (w : List TargetTablet). x ≡ get_or w 0 x)
+    (tablets-are g a) c.index.ensures in
+    c.headers.ensures.headers
+    ∙ headers-here _ _ (put_in (before g a) a.args.id q a.poll-polled.new.tablets) a.args.id q x fits
+    (get-set-here _ a.args.id _ q (called g a).at) whole here
     ∙ ap headers_of_pollers (sym c.deref_mut-then-closed.ensures.value)
-
-pub invariant_of-self-then-closed : goal.invariant_of-self-then-closed
-invariant_of-self-then-closed g c =
-    let t : TargetState = record { tablets = c.self.inside.tablets.items; pollers = c.self.inside.pollers.items; cutoff = c.self.inside.cutoff; closed = c.self.inside.closed } in
-    let hs = g.F.Feed.headers c.args.feed.now in
-    let cs = g.F.Feed.counts c.args.feed.now in
-    let o = g.F.Feed.logs c.args.feed.now in
-    let n = c.args.n in
-    let id = c.args.id in
-    let p = c.index_mut-poller.result.now in
-    let q = c.poll-polled.new.self in
-    let ys = c.poll-polled.new.tablets in
-    let r = c.poll-polled.result in
-    let low : id < length t.pollers = subst (λ (w : TargetState). id < length w.pollers) (sym c.self.view_is) c.requires.known in
-    let at = slice_get_read t.pollers (length t.pollers) id p refl low c.index_mut-poller.ensures.value in
-    let k = c.poll-polled.ensures in
-    let called : Called hs cs o n id t p q ys r = make-called hs (g.F.Feed.headers c.poll-polled.new.feed) cs (g.F.Feed.counts c.poll-polled.new.feed) o n id t p q c.deref_mut.result.now ys r k.same_headers k.same_counts c.deref_mut.ensures.value c.in_default.is at k.fits k.tablets k.polled k.answer k.stands k.keep_standing in
-    let fitted : FitsFeed hs cs t = subst (FitsFeed hs cs) (sym c.self.view_is) c.requires.fits in
-    let same : (with_items c.self.inside.tablets ys).items ≡ ys = with_items_is c.self.inside.tablets ys (length-called hs cs n id t p q ys o r called ∙ sym c.self.inside.tablets.ok.0) in
-    record { ranges = subst (λ (w : List TargetTablet). IsPartition (map range_of w)) (sym same) (subst IsPartition (sym (ranges-polled hs cs n p q t.tablets ys r called.polled)) c.self.invariant.ranges) }
 
 pub returns-then-closed-clause-fits : goal.returns-then-closed-clause-fits
 returns-then-closed-clause-fits g c =
-    let t : TargetState = record { tablets = c.self.inside.tablets.items; pollers = c.self.inside.pollers.items; cutoff = c.self.inside.cutoff; closed = c.self.inside.closed } in
-    let hs = g.F.Feed.headers c.args.feed.now in
-    let cs = g.F.Feed.counts c.args.feed.now in
-    let o = g.F.Feed.logs c.args.feed.now in
-    let n = c.args.n in
-    let id = c.args.id in
-    let p = c.index_mut-poller.result.now in
-    let q = c.poll-polled.new.self in
-    let ys = c.poll-polled.new.tablets in
-    let r = c.poll-polled.result in
-    let low : id < length t.pollers = subst (λ (w : TargetState). id < length w.pollers) (sym c.self.view_is) c.requires.known in
-    let at = slice_get_read t.pollers (length t.pollers) id p refl low c.index_mut-poller.ensures.value in
-    let k = c.poll-polled.ensures in
-    let called : Called hs cs o n id t p q ys r = make-called hs (g.F.Feed.headers c.poll-polled.new.feed) cs (g.F.Feed.counts c.poll-polled.new.feed) o n id t p q c.deref_mut.result.now ys r k.same_headers k.same_counts c.deref_mut.ensures.value c.in_default.is at k.fits k.tablets k.polled k.answer k.stands k.keep_standing in
-    let fitted : FitsFeed hs cs t = subst (FitsFeed hs cs) (sym c.self.view_is) c.requires.fits in
-    let same : (with_items c.self.inside.tablets ys).items ≡ ys = with_items_is c.self.inside.tablets ys (length-called hs cs n id t p q ys o r called ∙ sym c.self.inside.tablets.ok.0) in
+    let a = (goal.at.returns-then-closed-clause-fits g c).After-poll-polled in
+    let q = a.poll-polled.new.self in
     let rs = c.open_children.new.pollers in
+    let opens = subst (λ (w : List PollerState). AllZip (Opens q) w rs) c.deref_mut-then-closed.ensures.value c.open_children.ensures in
     let shut : is_closed q ≡ true = sym c.closed.ensures.closed ∙ c.if-closed.true in
-    let z : AllZip (Opens q) (slice_set t.pollers id q) rs = subst (λ (w : List PollerState). AllZip (Opens q) w rs) c.deref_mut-then-closed.ensures.value c.open_children.ensures in
-    let long : length rs ≡ length (slice_set t.pollers id q) = sym (length_all_zip (Opens q) (slice_set t.pollers id q) rs z) in
-    let kept : (with_items (with_item c.self.inside.pollers id q) rs).items ≡ rs = with_items_is (with_item c.self.inside.pollers id q) rs (long ∙ sym (with_item c.self.inside.pollers id q).ok.0) in
-    subst (λ (w : List PollerState). FitsFeed (g.F.Feed.headers c.poll-polled.new.feed) (g.F.Feed.counts c.poll-polled.new.feed) (record { tablets = (with_items c.self.inside.tablets ys).items; pollers = w; cutoff = t.cutoff; closed = t.closed })) (sym kept)
-    (subst (λ (w : List TargetTablet). FitsFeed (g.F.Feed.headers c.poll-polled.new.feed) (g.F.Feed.counts c.poll-polled.new.feed) (record { tablets = w; pollers = rs; cutoff = t.cutoff; closed = t.closed })) (sym same)
-    (fits-now hs _ cs _ (record { tablets = ys; pollers = rs; cutoff = t.cutoff; closed = t.closed }) k.same_headers k.same_counts (fits-children hs cs n id t p q ys o r (g.met.F.Feed.shape c.args.feed.now) called fitted shut rs z)))
+    subst (λ (w : List PollerState). FitsFeed (g.F.Feed.headers a.poll-polled.new.feed) (g.F.Feed.counts a.poll-polled.new.feed)
+    (with_pollers (before g a) (tablets g a) w)) (sym (pollers-are (with_item a.self.inside.pollers a.args.id q) q rs opens))
+    (fits-after g a rs
+    (fits-children _ _ _ _ _ _ _ _ _ _ (g.met.F.Feed.shape a.args.feed.now) (called g a) (fitted g a) shut rs opens))
 
 pub returns-then-closed-clause-step : goal.returns-then-closed-clause-step
 returns-then-closed-clause-step g c =
-    let t : TargetState = record { tablets = c.self.inside.tablets.items; pollers = c.self.inside.pollers.items; cutoff = c.self.inside.cutoff; closed = c.self.inside.closed } in
-    let hs = g.F.Feed.headers c.args.feed.now in
-    let cs = g.F.Feed.counts c.args.feed.now in
-    let o = g.F.Feed.logs c.args.feed.now in
-    let n = c.args.n in
-    let id = c.args.id in
-    let p = c.index_mut-poller.result.now in
-    let q = c.poll-polled.new.self in
-    let ys = c.poll-polled.new.tablets in
-    let r = c.poll-polled.result in
-    let low : id < length t.pollers = subst (λ (w : TargetState). id < length w.pollers) (sym c.self.view_is) c.requires.known in
-    let at = slice_get_read t.pollers (length t.pollers) id p refl low c.index_mut-poller.ensures.value in
-    let k = c.poll-polled.ensures in
-    let called : Called hs cs o n id t p q ys r = make-called hs (g.F.Feed.headers c.poll-polled.new.feed) cs (g.F.Feed.counts c.poll-polled.new.feed) o n id t p q c.deref_mut.result.now ys r k.same_headers k.same_counts c.deref_mut.ensures.value c.in_default.is at k.fits k.tablets k.polled k.answer k.stands k.keep_standing in
-    let fitted : FitsFeed hs cs t = subst (FitsFeed hs cs) (sym c.self.view_is) c.requires.fits in
-    let same : (with_items c.self.inside.tablets ys).items ≡ ys = with_items_is c.self.inside.tablets ys (length-called hs cs n id t p q ys o r called ∙ sym c.self.inside.tablets.ok.0) in
-    let was = with-result hs cs o n id t p q ys r (Ok (poll.Polled c.in-Polled.count)) (c.in-Ok.is ∙ ap Ok c.in-Polled.is) called in
+    let a = (goal.at.returns-then-closed-clause-step g c).After-poll-polled in
+    let q = a.poll-polled.new.self in
     let rs = c.open_children.new.pollers in
+    let opens = subst (λ (w : List PollerState). AllZip (Opens q) w rs) c.deref_mut-then-closed.ensures.value c.open_children.ensures in
     let shut : is_closed q ≡ true = sym c.closed.ensures.closed ∙ c.if-closed.true in
-    let z : AllZip (Opens q) (slice_set t.pollers id q) rs = subst (λ (w : List PollerState). AllZip (Opens q) w rs) c.deref_mut-then-closed.ensures.value c.open_children.ensures in
-    let long : length rs ≡ length (slice_set t.pollers id q) = sym (length_all_zip (Opens q) (slice_set t.pollers id q) rs z) in
-    let kept : (with_items (with_item c.self.inside.pollers id q) rs).items ≡ rs = with_items_is (with_item c.self.inside.pollers id q) rs (long ∙ sym (with_item c.self.inside.pollers id q).ok.0) in
-    IfSome_then o (step-polled hs cs n id t p q ys o c.in-Polled.count was)
-    (λ logs f m session st. let h = f m session (subst (StandsForSession logs m) (sym c.self.view_is) st) in (
-      h.0,
-      subst (λ (w : List PollerState). Made logs m (poll_step m id (poll.Polled c.in-Polled.count)).0 (record { tablets = (with_items c.self.inside.tablets ys).items; pollers = w; cutoff = t.cutoff; closed = t.closed })) (sym kept)
-          (subst (λ (w : List TargetTablet). Made logs m (poll_step m id (poll.Polled c.in-Polled.count)).0 (record { tablets = w; pollers = rs; cutoff = t.cutoff; closed = t.closed })) (sym same)
-          (subst (λ (w : List PollerState). Made logs m (poll_step m id (poll.Polled c.in-Polled.count)).0 (record { tablets = ys; pollers = w; cutoff = t.cutoff; closed = t.closed })) (after-open hs cs n id t p q ys rs shut (opens-all q (slice_set t.pollers id q) rs z)) h.1)),
-    ))
+    steps-to g a (Ok (poll.Polled c.in-Polled.count)) _
+    (told-is _ _ c.map_err.ensures.cases ∙ c.in_ok-answer.was ∙ ap Ok c.in-Polled.is)
+    (after-open q (put g a) rs shut opens ∙ sym (pollers-are (with_item a.self.inside.pollers a.args.id q) q rs opens))
+
+pub returns-else-closed-clause-step : goal.returns-else-closed-clause-step
+returns-else-closed-clause-step g c =
+    let a = (goal.at.returns-else-closed-clause-step g c).After-poll-polled in
+    let q = a.poll-polled.new.self in
+    let shut : is_closed q ≡ false = sym c.closed.ensures.closed ∙ c.if-closed.false in
+    steps-to g a (Ok (poll.Polled c.in-Polled.count)) _
+    (told-is _ _ c.map_err.ensures.cases ∙ c.in_ok-answer.was ∙ ap Ok c.in-Polled.is)
+    (after-shut q (put g a) shut)
+
+pub returns-then-closed-clause-moves : goal.returns-then-closed-clause-moves
+returns-then-closed-clause-moves g c =
+    let a = (goal.at.returns-then-closed-clause-moves g c).After-poll-polled in
+    let q = a.poll-polled.new.self in
+    let rs = c.open_children.new.pollers in
+    let opens = subst (λ (w : List PollerState). AllZip (Opens q) w rs) c.deref_mut-then-closed.ensures.value c.open_children.ensures in
+    let polled = told-is _ _ c.map_err.ensures.cases ∙ c.in_ok-answer.was ∙ ap Ok c.in-Polled.is in
+    let there = opened-there _ _ _ _ _ c.in-Polled.count _ _ q a.deref_mut.result.now _ a.poll-polled.result
+    (told-ok a.poll-polled.result (poll.Polled c.in-Polled.count) polled) (called g a) a.deref_mut.ensures.value
+    a.poll-polled.ensures.polled (g.met.F.Feed.shape a.args.feed.now) (fitted g a) rs opens in
+    moves g a c.in-Polled.count _ polled
+    (ap (λ w. slice_get w a.args.id) (pollers-are (with_item a.self.inside.pollers a.args.id q) q rs opens) ∙ there)
+
+pub returns-else-closed-clause-moves : goal.returns-else-closed-clause-moves
+returns-else-closed-clause-moves g c =
+    let a = (goal.at.returns-else-closed-clause-moves g c).After-poll-polled in
+    moves g a c.in-Polled.count (put g a) (told-is _ _ c.map_err.ensures.cases ∙ c.in_ok-answer.was ∙ ap Ok c.in-Polled.is)
+    (get-set-here _ a.args.id _ a.poll-polled.new.self (called g a).at)
+
+pub returns-in_err-answer-clause-ranges : goal.returns-in_err-answer-clause-ranges
+returns-in_err-answer-clause-ranges g c = ranges-are g (goal.at.returns-in_err-answer-clause-ranges g c).After-poll-polled
+
+pub returns-in_default-answer-clause-ranges : goal.returns-in_default-answer-clause-ranges
+returns-in_default-answer-clause-ranges g c = ranges-are g (goal.at.returns-in_default-answer-clause-ranges g c).After-poll-polled
+
+pub returns-else-closed-clause-ranges : goal.returns-else-closed-clause-ranges
+returns-else-closed-clause-ranges g c = ranges-are g (goal.at.returns-else-closed-clause-ranges g c).After-poll-polled
+
+pub returns-then-closed-clause-ranges : goal.returns-then-closed-clause-ranges
+returns-then-closed-clause-ranges g c = ranges-are g (goal.at.returns-then-closed-clause-ranges g c).After-poll-polled

@@ -1,0 +1,10 @@
+use Rattle.std.proofs.Common.{◌≡◌, take, drop}
+use Rattle.std.specs.List.{AllZip}
+use Rattle.xc_model.specs.Stands.{KeepsFrom}
+use Rattle.xc_retain.proofs.each.keep_all_from.Given as goal
+
+abbrev pub invariant-loop-tablet : goal.invariant-loop-tablet
+invariant-loop-tablet l = record {
+  first : AllZip (KeepsFrom l.cutoff) (take l.tablet-index l.fn.tablets) (take l.tablet-index l.tablets);
+  rest : drop l.tablet-index l.tablets ≡ drop l.tablet-index l.fn.tablets;
+}

@@ -1,0 +1,89 @@
+-- A poll cut off makes the step of the session that one call of its poller makes.
+use Rattle.std.proofs.Common.{◌≡◌, ◌∙◌, ◌+◌, drop, ap, sym, subst, map, List}
+use Rattle.std.specs.Vec.{with_items}
+use Rattle.std.proofs.lemmas.List.{with_items_is}
+use Rattle.std.proofs.lemmas.Option.{IfSome_then}
+use Rattle.xc_record.specs.Bounds.{IsPartition}
+use Rattle.xc_model.specs.Rows.{range_of}
+use Rattle.xc_model.specs.Stands.{TargetTablet}
+use Rattle.xc_target.specs.Target.{TargetState, FitsFeed}
+use Rattle.xc_target.specs.Stands.{StandsForSession}
+use Rattle.xc_target.specs.Answers.{IsStopped}
+use Rattle.xc_target.proofs.PollFacts.{stopped-ended}
+use Rattle.xc_target.proofs.PollSteps.{Called, make-called, put_in, told, told-is, length-called, same-ranges, ranges-called, fits-called}
+use Rattle.xc_target.proofs.PollSteps.{fits-now, stopped-step}
+use Rattle.xc_target.proofs.target.Target.stopped_poll.Given.{Over}
+use Rattle.xc_target.proofs.target.Target.stopped_poll.Goals as goal
+use Rattle.xc_target.proofs.target.Target.stopped_poll.Goals.{After-stopped_poll-stopped}
+
+abbrev before : (g : Over) → After-stopped_poll-stopped g → TargetState
+before g c = record {
+  tablets = c.self.inside.tablets.items;
+  pollers = c.self.inside.pollers.items;
+  cutoff = c.self.inside.cutoff;
+  closed = c.self.inside.closed;
+}
+
+called : (g : Over) (c : After-stopped_poll-stopped g)
+    → Called (g.F.Feed.headers c.args.feed.now) (g.F.Feed.counts c.args.feed.now) (g.F.Feed.logs c.args.feed.now) c.args.n c.args.id
+    (before g c) c.index_mut-poller.result.now c.stopped_poll-stopped.new.self c.stopped_poll-stopped.new.tablets
+    c.stopped_poll-stopped.result
+called g c =
+    let k = c.stopped_poll-stopped.ensures in
+    make-called _ _ _ _ _ _ _ (before g c) c.args.self.now _ _ c.deref_mut.result.now _ _ c.self.view_is c.in_default.is
+    c.requires.known c.index_mut-poller.ensures.value c.deref_mut.ensures.value k.same_headers k.same_counts k.fits k.tablets
+    (stopped-ended _ _ _ _ _ _ _ _ _ k.stopped) k.answer k.stands k.keep_standing
+
+-- the tablets after it
+tablets-are : (g : Over) (c : After-stopped_poll-stopped g)
+    → (with_items c.self.inside.tablets c.stopped_poll-stopped.new.tablets).items ≡ c.stopped_poll-stopped.new.tablets
+tablets-are g c = with_items_is c.self.inside.tablets c.stopped_poll-stopped.new.tablets
+    (length-called _ _ _ _ _ _ _ _ _ _ (called g c) ∙ sym c.self.inside.tablets.ok.0)
+
+pub invariant_of-self : goal.invariant_of-self
+invariant_of-self g c =
+    let a = (goal.at.invariant_of-self g c).After-stopped_poll-stopped in
+    record {
+      ranges = subst (λ (w : List TargetTablet). IsPartition (map range_of w)) (sym (tablets-are g a))
+          (ranges-called _ _ _ _ _ _ _ _ _ _ (called g a) a.self.invariant.ranges);
+    }
+
+pub returns-clause-fits : goal.returns-clause-fits
+returns-clause-fits g c =
+    let a = (goal.at.returns-clause-fits g c).After-stopped_poll-stopped in
+    let q = a.stopped_poll-stopped.new.self in
+    let k = a.stopped_poll-stopped.ensures in
+    let fitted = subst (FitsFeed (g.F.Feed.headers a.args.feed.now) (g.F.Feed.counts a.args.feed.now))
+    (sym a.self.view_is) a.requires.fits in
+    subst (λ (w : List TargetTablet). FitsFeed (g.F.Feed.headers a.stopped_poll-stopped.new.feed)
+    (g.F.Feed.counts a.stopped_poll-stopped.new.feed) (put_in (before g a) a.args.id q w)) (sym (tablets-are g a))
+    (fits-now _ _ _ _ _ k.same_headers k.same_counts
+    (fits-called _ _ _ _ _ _ _ _ _ _ (g.met.F.Feed.shape a.args.feed.now) (called g a) fitted))
+
+pub returns-clause-step : goal.returns-clause-step
+returns-clause-step g c =
+    let a = (goal.at.returns-clause-step g c).After-stopped_poll-stopped in
+    let o = g.F.Feed.logs a.args.feed.now in
+    let q = a.stopped_poll-stopped.new.self in
+    let k = a.stopped_poll-stopped.ensures in
+    IfSome_then o
+    (stopped-step _ _ _ _ _ _ _ _ o a.args.last a.stopped_poll-stopped.result a.deref_mut.result.now (called g a)
+    a.deref_mut.ensures.value k.stopped)
+    (λ logs f m session st.
+    subst (IsStopped logs m a.args.id a.args.n _) (told-is _ _ c.map_err.ensures.cases)
+    (subst (λ (w : List TargetTablet). IsStopped logs m a.args.id a.args.n (put_in (before g a) a.args.id q w)
+    (told a.stopped_poll-stopped.result)) (sym (tablets-are g a))
+    (f m session (subst (StandsForSession logs m) (sym a.self.view_is) st))))
+
+pub returns-clause-others : goal.returns-clause-others
+returns-clause-others g c =
+    let a = (goal.at.returns-clause-others g c).After-stopped_poll-stopped in
+    let past = a.args.last + 1 in
+    ap (drop past) (tablets-are g a) ∙ a.stopped_poll-stopped.ensures.others ∙ ap (drop past) a.deref_mut.ensures.value
+    ∙ ap (λ (t : TargetState). drop past t.tablets) a.self.view_is
+
+pub returns-clause-ranges : goal.returns-clause-ranges
+returns-clause-ranges g c =
+    let a = (goal.at.returns-clause-ranges g c).After-stopped_poll-stopped in
+    ap (map range_of) (tablets-are g a) ∙ same-ranges _ _ _ _ _ _ _ _ _ _ (called g a)
+    ∙ ap (λ (t : TargetState). map range_of t.tablets) a.self.view_is

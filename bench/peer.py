@@ -4,6 +4,7 @@ The peer stands in ../shared/peer. It is copied to a folder under the system's t
 inputs there (about 600 MB, once).
 """
 import math, os, shutil, subprocess, sys, tempfile, time
+from collections import namedtuple
 
 ROOT = os.path.dirname(os.path.dirname(os.path.abspath(__file__)))
 SHARED = os.path.join(ROOT, "..", "shared", "peer")
@@ -54,18 +55,24 @@ def prepare():
                     subprocess.run([PEER, "geninput", kind, str(part)], stdout=log, check=True)
 
 
+# the wall time and the processor's time in seconds, the peak memory in MiB, the status and the output, and what was told
+# beside them
+Run = namedtuple("Run", "wall processor memory answer errors")
+
+
 def run(program, words):
-    """The wall time in seconds, the peak memory in MiB, the output and the error output of one run."""
+    """One run of a program over the inputs."""
     with tempfile.TemporaryFile() as output, tempfile.TemporaryFile() as errors:
         began = time.perf_counter()
         env = {**os.environ, "XCR_TIMES": "1"}
         child = subprocess.Popen([program] + words, cwd=INPUTS, stdout=output, stderr=errors, env=env)
         _, status, usage = os.wait4(child.pid, 0)
-        took = time.perf_counter() - began
+        wall = time.perf_counter() - began
         child.returncode = os.waitstatus_to_exitcode(status)
         output.seek(0)
         errors.seek(0)
-        return took, usage.ru_maxrss / 1024, (child.returncode, output.read()), errors.read().decode()
+        processor, memory = usage.ru_utime + usage.ru_stime, usage.ru_maxrss / 1024
+        return Run(wall, processor, memory, (child.returncode, output.read()), errors.read().decode())
 
 
 def logs(only):
@@ -76,14 +83,14 @@ def logs(only):
 
 def compare(names, peer_run, this_run):
     """Prints a line for each name: the best time and the memory of both programs, and the ratios."""
-    print(f"{'log':26} {'peer s':>8} {'this s':>8} {'ratio':>6} {'peer MiB':>9} {'this MiB':>9} {'ratio':>6}")
+    print(f"{'input':34} {'peer s':>8} {'this s':>8} {'ratio':>6} {'peer MiB':>9} {'this MiB':>9} {'ratio':>6}")
     ratios = []
     for name in names:
         (peer, peer_memory), (this, this_memory) = peer_run(name), this_run(name)
         ratios.append(this / peer)
         times = f"{peer:8.3f} {this:8.3f} {this / peer:6.2f}"
         memory = f"{peer_memory:9.0f} {this_memory:9.0f} {this_memory / peer_memory:6.2f}"
-        print(f"{name:26} {times} {memory}")
+        print(f"{name:34} {times} {memory}")
     if ratios:
         mean = math.exp(sum(math.log(ratio) for ratio in ratios) / len(ratios))
         print(f"time: geometric mean {mean:.2f}, worst {max(ratios):.2f}")

@@ -1,11 +1,12 @@
 #!/bin/sh
 # Runs the program that was built where files and the standard output fail, which no stored run can show.
 set -u
-cd "$(dirname "$0")/../crates/xcr" || exit 1
-program=$PWD/out/xcr
+cd "$(dirname "$0")/.." || exit 1
+program=$PWD/crates/xcr/out/xcr
+drill=$PWD/docs/drill
 folder=$(mktemp -d) || exit 1
 trap 'rm -rf "$folder"' EXIT
-cp data/logs data/script "$folder" && cd "$folder" || exit 1
+cp crates/xcr/data/logs crates/xcr/data/script "$folder" && cd "$folder" || exit 1
 failed=0
 
 # shows NAME STATUS OUTPUT WORD..: the run of the words ends with the status, and OUTPUT is what it wrote
@@ -53,6 +54,12 @@ if [ "$code" -eq 6 ]; then
     echo 'ok: a full device fails at the first write'
 else
     echo "FAILED: a full device fails at the first write: status $code for 6"
+    failed=1
+fi
+if "$program" replay "$drill/logs" "$drill/script" | cmp -s - "$drill/lines"; then
+    echo 'ok: the drill of the documents prints its lines'
+else
+    echo 'FAILED: the drill of the documents prints its lines'
     failed=1
 fi
 exit "$failed"

@@ -24,9 +24,9 @@ err_again {A = A} s t e = let same : s ≡ t = cc in ap (λ r. Err r) same
 pub untouched_tells : (s : Stream) → IsUntouched s → Tells s
 untouched_tells s same = ap is_some same.same
 
--- one part after the other, of the logs and then of the script
-abbrev pub in_turn : {A B R : Type 0} → (List ℕ → Result A R) → (List ℕ → Result B R) → List ℕ → List ℕ → Result (A × B) R
-in_turn f g a b = f a >>= (λ x. g b >>= (λ y. Ok (x, y)))
+-- one part after the other, of the logs and then, by what they are, of the script
+abbrev pub in_turn : {A B R : Type 0} → (List ℕ → Result A R) → (A → List ℕ → Result B R) → List ℕ → List ℕ → Result (A × B) R
+in_turn f g a b = f a >>= (λ x. g x b >>= (λ y. Ok (x, y)))
 
 abbrev pub both : Reads
 both = record { logs = true; script = true }
@@ -37,15 +37,15 @@ script_alone = record { logs = false; script = true }
 abbrev pub logs_alone : Reads
 logs_alone = record { logs = true; script = false }
 
-pub got_both : {A B R : Type 0} (f : List ℕ → Result A R) (g : List ℕ → Result B R) (x : A) (y : B) (logs script : Stream)
-    → Took f (Ok x) logs → Took g (Ok y) script → Got (in_turn f g) both (Ok (x, y)) logs script
+pub got_both : {A B R : Type 0} (f : List ℕ → Result A R) (g : A → List ℕ → Result B R) (x : A) (y : B) (logs script : Stream)
+    → Took f (Ok x) logs → Took (g x) (Ok y) script → Got (in_turn f g) both (Ok (x, y)) logs script
 got_both f g x y logs script first second =
     record {
       from_logs = first.bytes;
       from_script = second.bytes;
       logs_told = first.told;
       script_told = second.told;
-      found = ap (λ r. r >>= (λ x. g second.bytes >>= (λ y. Ok (x, y)))) first.found ∙ ap (λ r. r >>= (λ y. Ok (x, y))) second.found;
+      found = ap (λ r. r >>= (λ x. g x second.bytes >>= (λ y. Ok (x, y)))) first.found ∙ ap (λ r. r >>= (λ y. Ok (x, y))) second.found;
       read_fault = λ e. cc;
       quiet = λ _. (first.quiet (λ e. cc), second.quiet (λ e. cc));
       tell = (first.tells, second.tells);
@@ -53,7 +53,7 @@ got_both f g x y logs script first second =
       script_used = λ _. second.end;
     }
 
-pub stopped_first : {A B R : Type 0} (f : List ℕ → Result A R) (g : List ℕ → Result B R) (s : Stop R) (logs script : Stream)
+pub stopped_first : {A B R : Type 0} (f : List ℕ → Result A R) (g : A → List ℕ → Result B R) (s : Stop R) (logs script : Stream)
     → Took f (Err s) logs → IsUntouched script → Got (in_turn f g) both (Err s) logs script
 stopped_first f g s logs script first same =
     record {
@@ -69,15 +69,15 @@ stopped_first f g s logs script first same =
       script_used = λ e. cc;
     }
 
-pub stopped_second : {A B R : Type 0} (f : List ℕ → Result A R) (g : List ℕ → Result B R) (x : A) (s : Stop R) (logs script : Stream)
-    → Took f (Ok x) logs → Took g (Err s) script → Got (in_turn f g) both (Err s) logs script
+pub stopped_second : {A B R : Type 0} (f : List ℕ → Result A R) (g : A → List ℕ → Result B R) (x : A) (s : Stop R) (logs script : Stream)
+    → Took f (Ok x) logs → Took (g x) (Err s) script → Got (in_turn f g) both (Err s) logs script
 stopped_second f g x s logs script first second =
     record {
       from_logs = first.bytes;
       from_script = second.bytes;
       logs_told = first.told;
       script_told = second.told;
-      found = stops_at _ _ s (ap (λ r. r >>= (λ x. g second.bytes >>= (λ y. Ok (x, y)))) first.found) (stops_on _ _ s second.found);
+      found = stops_at _ _ s (ap (λ r. r >>= (λ x. g x second.bytes >>= (λ y. Ok (x, y)))) first.found) (stops_on _ _ s second.found);
       read_fault = λ e. inr (refl, second.read_fault (err_again s stop.ReadFault e));
       quiet = λ never. (first.quiet (λ e. cc), second.quiet (λ e. never (err_again s stop.ReadFault e)));
       tell = (first.tells, second.tells);

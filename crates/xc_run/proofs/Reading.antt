@@ -1,5 +1,6 @@
 -- A source that was read whole, or as far as a stop.
-use Rattle.std.proofs.Common.{◌≡◌, ℕ, ◌<◌, ◌≤◌, List, [], ◌++◌, length, Option, Some, None, Result, Ok, Err, MatchResult, refl, sym, ap, ◌∙◌, arith, length-append, append-nil}
+use Rattle.std.proofs.Common.{◌≡◌, ℕ, ◌<◌, ◌≤◌, List, [], ◌++◌, length, Option, Some, None, Result, Ok, Err, MatchResult, refl, sym, ap}
+use Rattle.std.proofs.Common.{◌∙◌, arith, length-append, append-nil}
 use Rattle.std.specs.Prelude.{IsErrOf}
 use Rattle.std.specs.Io.KnownBytes.{Consumes, IsAtEnd}
 use Rattle.xc_run.specs.declared.stop.Stop.{Stop}
@@ -22,15 +23,18 @@ gave_all None after came took end = tt
 gave_all (Some told) None came took end = absurd took
 gave_all (Some told) (Some rest) came took end = sym (took ∙ ap (λ l. came ++ l) end ∙ append-nil came)
 
-longer : (before after : Option (List ℕ)) (came : List ℕ) (limit : ℕ) → Consumes before after came → limit < length came → limit < length (bytes_of before came)
+longer : (before after : Option (List ℕ)) (came : List ℕ) (limit : ℕ) → Consumes before after came → limit < length came
+    → limit < length (bytes_of before came)
 longer None after came limit took long = long
 longer (Some told) None came limit took long = absurd took
 longer (Some told) (Some rest) came limit took long = omega (arith, long, ap length took, length-append came rest)
 
-within-long : {A R : Type 0} (limit : ℕ) (refusal : R) (read : List ℕ → Result A R) (text : List ℕ) → limit < length text → within limit refusal read text ≡ Err refusal
+within-long : {A R : Type 0} (limit : ℕ) (refusal : R) (read : List ℕ → Result A R) (text : List ℕ) → limit < length text
+    → within limit refusal read text ≡ Err refusal
 within-long limit refusal read text long = grind (arith, long)
 
-within-short : {A R : Type 0} (limit : ℕ) (refusal : R) (read : List ℕ → Result A R) (text : List ℕ) → length text ≤ limit → within limit refusal read text ≡ read text
+within-short : {A R : Type 0} (limit : ℕ) (refusal : R) (read : List ℕ → Result A R) (text : List ℕ) → length text ≤ limit
+    → within limit refusal read text ≡ read text
 within-short limit refusal read text short = grind (arith, short)
 
 -- a text that didn't come whole
@@ -68,24 +72,29 @@ took_stopped limit refusal read stop.NoMemory source h =
       tells = h.tells;
     }
 
-at_end : {A R : Type 0} (result : Result A (Stop R)) (source : Stream) → IsAtEnd source.after → MatchResult result (λ _. IsAtEnd source.after) (λ _. Unit {0})
+at_end : {A R : Type 0} (result : Result A (Stop R)) (source : Stream) → IsAtEnd source.after
+    → MatchResult result (λ _. IsAtEnd source.after) (λ _. Unit {0})
 at_end (Ok x) source end = end
 at_end (Err e) source end = tt
 
-found_by : {A R : Type 0} (d e : Result A R) (result : Result A (Stop R)) → d ≡ e → MatchResult result (λ x. e ≡ Ok x) (StopsAt e) → MatchResult result (λ x. d ≡ Ok x) (StopsAt d)
+found_by : {A R : Type 0} (d e : Result A R) (result : Result A (Stop R)) → d ≡ e → MatchResult result (λ x. e ≡ Ok x) (StopsAt e)
+    → MatchResult result (λ x. d ≡ Ok x) (StopsAt d)
 found_by d e (Ok x) same h = same ∙ h
 found_by d e (Err (stop.Refused r)) same h = same ∙ h
 found_by d e (Err stop.ReadFault) same h = tt
 found_by d e (Err stop.NoMemory) same h = tt
 
-joined : {A R : Type 0} (d : Result A R) (result : Result A (Stop R)) → MatchResult result (λ x. d ≡ Ok x) (λ _. Unit {0}) → MatchResult result (λ _. Unit {0}) (StopsAt d) → MatchResult result (λ x. d ≡ Ok x) (StopsAt d)
+joined : {A R : Type 0} (d : Result A R) (result : Result A (Stop R)) → MatchResult result (λ x. d ≡ Ok x) (λ _. Unit {0})
+    → MatchResult result (λ _. Unit {0}) (StopsAt d) → MatchResult result (λ x. d ≡ Ok x) (StopsAt d)
 joined d (Ok x) p q = p
 joined d (Err e) p q = q
 
 -- a text that came whole, and what was made of it
-pub took_whole : {A R : Type 0} (limit : ℕ) (refusal : R) (read : List ℕ → Result A R) (text : List ℕ) (result : Result A (Stop R)) (source : Stream)
+pub took_whole : {A R : Type 0} (limit : ℕ) (refusal : R) (read : List ℕ
+    → Result A R) (text : List ℕ) (result : Result A (Stop R)) (source : Stream)
     → TookText limit refusal (Ok text) source
-    → MatchResult result (λ x. read text ≡ Ok x) (λ _. Unit {0}) → MatchResult result (λ _. Unit {0}) (StopsAt (read text)) → (IsErrOf result stop.ReadFault → ⊥)
+    → MatchResult result (λ x. read text ≡ Ok x) (λ _. Unit {0}) → MatchResult result (λ _. Unit {0}) (StopsAt (read text))
+    → (IsErrOf result stop.ReadFault → ⊥)
     → Took (within limit refusal read) result source
 took_whole limit refusal read text result source h is refused never =
     record {

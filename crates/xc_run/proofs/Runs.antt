@@ -25,8 +25,10 @@ abbrev pub then_output : {A R : Type 0} → (R → Output) → (List ℕ → Lis
 then_output line defined output a b = output_of line (defined a b >>= (λ x. Ok (output x)))
 
 -- the sources gave x, and the output of x was written
-pub ran_written : {A R : Type 0} (line : R → Output) (defined : List ℕ → List ℕ → Result A R) (output : A → Output) (reads : Reads) (x : A) (result : Status) (logs script out : Stream)
-    → Got defined reads (Ok x) logs script → Wrote (output x) ⊥ result out → Ran (Is (then_output line defined output)) reads result logs script out
+pub ran_written : {A R : Type 0} (line : R → Output) (defined : List ℕ → List ℕ → Result A R) (output : A
+    → Output) (reads : Reads) (x : A) (result : Status) (logs script out : Stream)
+    → Got defined reads (Ok x) logs script → Wrote (output x) ⊥ result out
+    → Ran (Is (then_output line defined output)) reads result logs script out
 ran_written line defined output reads x result logs script out got wrote =
     let same = ap (λ r. output_of line (r >>= (λ x. Ok (output x)))) got.found in
     record {
@@ -48,8 +50,10 @@ ran_written line defined output reads x result logs script out got wrote =
     }
 
 -- the sources stopped
-pub ran_ended : {A R : Type 0} (line : R → Output) (never : (r : R) → IsEnded (line r).status → ⊥) (defined : List ℕ → List ℕ → Result A R) (output : A → Output) (reads : Reads) (s : Stop R) (result : Status) (logs script out : Stream)
-    → Got defined reads (Err s) logs script → Ended line s result out → Ran (Is (then_output line defined output)) reads result logs script out
+pub ran_ended : {A R : Type 0} (line : R → Output) (never : (r : R) → IsEnded (line r).status → ⊥) (defined : List ℕ → List ℕ
+    → Result A R) (output : A → Output) (reads : Reads) (s : Stop R) (result : Status) (logs script out : Stream)
+    → Got defined reads (Err s) logs script → Ended line s result out
+    → Ran (Is (then_output line defined output)) reads result logs script out
 ran_ended line never defined output reads (stop.Refused r) result logs script out got wrote =
     let same = ap (λ r. output_of line (r >>= (λ x. Ok (output x)))) got.found in
     record {
@@ -110,7 +114,8 @@ ran_ended line never defined output reads stop.NoMemory result logs script out g
 
 -- an output that needs no source
 pub ran_alone : (output : Output) (result : Status) (logs script out : Stream)
-    → IsUntouched logs → IsUntouched script → Wrote output ⊥ result out → Ran (Is (λ a b. output)) (record { logs = false; script = false }) result logs script out
+    → IsUntouched logs → IsUntouched script → Wrote output ⊥ result out
+    → Ran (Is (λ a b. output)) (record { logs = false; script = false }) result logs script out
 ran_alone output result logs script out same_logs same_script wrote =
     record {
       from_logs = bytes_of logs.before [];

@@ -5,7 +5,8 @@
 --     Wrote output cause result out      the output was written, or a prefix of it
 --     Ended line stop result out      a part that reads stopped, and the run ended so
 --     Ran allows reads result logs script out      a whole run
-use Rattle.std.specs.Prelude.{◌≡◌, ◌⊎◌, ℕ, Bool, nat_lt, if◌then◌else◌, length, List, ⊤, IsTrue, Option, Result, Ok, Err, MatchResult, IsOk, IsErrOf}
+use Rattle.std.specs.Prelude.{◌≡◌, ◌⊎◌, ℕ, Bool, nat_lt, if◌then◌else◌, length, List, ⊤, IsTrue, Option, Result, Ok, Err, MatchResult, IsOk}
+use Rattle.std.specs.Prelude.{IsErrOf}
 use Rattle.std.specs.Io.KnownBytes.{Appends, IsAtEnd}
 use Rattle.xc_base.specs.Told.{IsPrefix}
 use Rattle.xc_base.specs.declared.status.Status.{Status}
@@ -67,7 +68,8 @@ pub record Took {A R : Type 0} (defined : List ℕ → Result A R) (result : Res
   pub tells : Tells source
 
 -- the sources of a command were read, and their bytes give the result
-pub record Got {A R : Type 0} (defined : List ℕ → List ℕ → Result A R) (reads : Reads) (result : Result A (Stop R)) (logs script : Stream) : Type 0 where
+pub record Got {A R : Type 0} (defined : List ℕ → List ℕ → Result A R) (reads : Reads) (result : Result A (Stop R)) (logs script : Stream) :
+    Type 0 where
   pub from_logs : List ℕ
   pub from_script : List ℕ
   pub logs_told : Gave logs.before from_logs

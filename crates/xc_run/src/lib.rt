@@ -1,5 +1,6 @@
-//! What a top call does to the streams that it is lent: it reads its sources in order, refuses what is no input, and writes
-//! its output, whole or a prefix of it. No fault is hidden: a count of faults rises exactly where a fault is answered.
+//! What a top call does to the streams that it is lent: it reads its sources in order, refuses what is no input, and
+//! writes its output, whole or a prefix of it. No fault is hidden: a count of faults rises exactly where a fault is
+//! answered.
 #![tactic(auto)]
 
 mod stop;

@@ -1,10 +1,6 @@
-pub mod Scripts
-pub mod NumberLists
-pub mod OneTablet
-pub mod OneLogs
-pub mod OneSteps
-pub mod Requests
+pub mod StepLines
+pub mod CommandRuns
+pub mod Pasts
+pub mod ReportLine
 pub mod Statuses
 pub mod Upgrades
-pub mod RowMaps
-pub mod Shown

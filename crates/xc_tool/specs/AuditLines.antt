@@ -13,7 +13,7 @@ use Rattle.xc_agree.specs.declared.audit.Audit.{Audit}
 use Rattle.xc_agree.specs.declared.audit.End.{End}
 use Rattle.xc_agree.specs.declared.audit.EndState.{EndState}
 use Rattle.xc_agree.specs.declared.audit.EndState.TheVariants.{Open, Split, Halt, Unreached}
-use Rattle.xc_tool.specs.Lines.{break_name}
+use Rattle.xc_script.specs.Lines.{break_name}
 
 abbrev pub agree_name : AgreeKind → List ℕ
 agree_name CommitDiffers = codes "commit-differs"

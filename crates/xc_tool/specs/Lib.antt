@@ -1,8 +1,7 @@
 pub mod Words
-pub mod Later
-pub mod Lines
 pub mod AuditLines
-pub mod Script
-pub mod OneTablet
+pub mod Steps
+pub mod Answers
 pub mod Outcome
+pub mod Headline
 pub mod Upgrades

@@ -4,7 +4,8 @@
 --     reads_of form      which sources the command reads
 --     line_of refusal, refusal_status refusal      the line that a refusal writes, and its status
 --     InOrder reads result logs script      a refusal came in the order of work
-use Rattle.std.specs.Prelude.{◌≡◌, ℕ, ◌^◌, true, false, if◌then◌else◌, List, ◌++◌, codes, decimal, Option, Some, None, Result, Ok, Err}
+use Rattle.std.specs.Prelude.{◌≡◌, ◌⊎◌, ℕ, ◌^◌, true, false, if◌then◌else◌, List, ◌++◌, length, codes, decimal, Option, Some, None, Result}
+use Rattle.std.specs.Prelude.{Ok, Err}
 use Rattle.std.specs.List.{list_any}
 use Rattle.xc_base.specs.declared.status.Status.{Status}
 use Rattle.xc_base.specs.declared.status.Status.TheVariants as status
@@ -15,22 +16,22 @@ use Rattle.xc_run.specs.Ran.{Output, Reads, ◌>>=◌, output_of, within}
 use Rattle.xc_agree.specs.Audit.{audit_of}
 use Rattle.xc_agree.specs.declared.audit.Audit.{Audit}
 use Rattle.xc_record.specs.declared.record.Logs.{Logs}
-use Rattle.xc_record.specs.declared.session.Command.{Command}
 use Rattle.xc_record.specs.declared.session.Line.{Line}
-use Rattle.xc_record.specs.Agreement.{Disagreement}
+use Rattle.xc_record.specs.Agreement.{Disagreement, disagreement}
 use Rattle.xc_record.specs.Session.{start}
 use Rattle.xc_record.specs.Step.{lines_from}
 use Rattle.xc_text.specs.Kinds.{kind_name}
 use Rattle.xc_text.specs.LogText.{BadLine, logs_of}
 use Rattle.xc_text.specs.Printed.{text2_of}
 use Rattle.xc_tool.specs.declared.refusal.Refusal.{Refusal}
-use Rattle.xc_tool.specs.declared.refusal.Refusal.TheVariants.{LogsTooLong, BadLogs, LaterLogs, Disagree, ScriptTooLong, LaterScript}
+use Rattle.xc_tool.specs.declared.refusal.Refusal.TheVariants.{LogsTooLong, BadLogs, Disagree, ScriptTooLong, BadScript}
 use Rattle.xc_tool.specs.declared.words.Form.{Form}
 use Rattle.xc_tool.specs.declared.words.Form.TheVariants.{Audit as AuditForm, Replay, Upgrade}
 use Rattle.xc_tool.specs.AuditLines.{agree_name, audit_text, is_halted}
-use Rattle.xc_tool.specs.Later.{is_later}
-use Rattle.xc_tool.specs.Lines.{lines_text, is_halt}
-use Rattle.xc_tool.specs.Script.{script_of}
+use Rattle.xc_script.specs.declared.script.Script.{Script}
+use Rattle.xc_script.specs.Kinds.{kind_name as script_kind_name}
+use Rattle.xc_script.specs.Lines.{lines_text, is_halt}
+use Rattle.xc_script.specs.ScriptText.{BadLine as BadScriptLine, script_of}
 use Rattle.xc_tool.specs.Words.{form_of}
 
 -- an output, or why the input is refused
@@ -43,15 +44,20 @@ abbrev pub logs_spelled : Result Logs BadLine → Result Logs Refusal
 logs_spelled (Ok logs) = Ok logs
 logs_spelled (Err bad) = Err (BadLogs bad.line bad.kind)
 
-abbrev pub logs_taken : Logs → Result Logs Refusal
-logs_taken logs = if is_later logs then Err LaterLogs else Ok logs
+-- the logs, where their tablets agree
+abbrev pub unless_contradicted : Logs → Option Disagreement → Result Logs Refusal
+unless_contradicted logs None = Ok logs
+unless_contradicted logs (Some d) = Err (Disagree d.txn d.tablet d.kind)
+
+abbrev pub agreed : Logs → Result Logs Refusal
+agreed logs = unless_contradicted logs (disagreement logs)
 
 abbrev pub logs_in : List ℕ → Result Logs Refusal
 logs_in text = do
   logs ← logs_spelled (logs_of text)
-  logs_taken logs
+  agreed logs
 
--- the logs of a source
+-- the logs of a source, where their tablets agree
 abbrev pub logs_input : List ℕ → Result Logs Refusal
 logs_input = within (2 ^ 26) LogsTooLong logs_in
 
@@ -73,28 +79,31 @@ audit_input = within (2 ^ 26) LogsTooLong audit_in
 abbrev pub upgrade_input : List ℕ → Result Logs Refusal
 upgrade_input = within (2 ^ 26) LogsTooLong (λ text. logs_spelled (logs_of text))
 
-abbrev pub script_taken : Option (List Command) → Result (List Command) Refusal
-script_taken (Some commands) = Ok commands
-script_taken None = Err LaterScript
+abbrev pub script_spelled : Result Script BadScriptLine → Result Script Refusal
+script_spelled (Ok script) = Ok script
+script_spelled (Err bad) = Err (BadScript bad.line bad.kind)
 
--- the commands of a source
-abbrev pub script_input : List ℕ → Result (List Command) Refusal
-script_input = within (2 ^ 20) ScriptTooLong (λ text. script_taken (script_of text))
+abbrev pub script_in : ℕ → List ℕ → Result Script Refusal
+script_in sources text = script_spelled (script_of sources text)
+
+-- the script of a source, for logs of so many tablets
+abbrev pub script_input : ℕ → List ℕ → Result Script Refusal
+script_input sources = within (2 ^ 20) ScriptTooLong (script_in sources)
 
 -- ---- the commands of the command line, each in its order of work
 
-abbrev pub replay_input : List ℕ → List ℕ → Result (Logs × List Command) Refusal
+abbrev pub replay_input : List ℕ → List ℕ → Result (Logs × Script) Refusal
 replay_input logs script = do
   l ← logs_input logs
-  commands ← script_input script
-  Ok (l, commands)
+  s ← script_input (length l.tablets) script
+  Ok (l, s)
 
 -- halted where a pull met a break
 abbrev pub lines_output : List Line → Output
 lines_output lines = record { text = lines_text lines; status = if list_any is_halt lines then status.Halted else status.Ok }
 
-abbrev pub replay_output : Logs × List Command → Output
-replay_output input = lines_output (lines_from input.0 (start input.0) input.1)
+abbrev pub replay_output : Logs × Script → Output
+replay_output input = lines_output (lines_from input.0 (start input.0) input.1.commands)
 
 abbrev pub replay_run : List ℕ → List ℕ → Defined
 replay_run logs script = do
@@ -139,18 +148,17 @@ reads_of (Some Upgrade) = record { logs = true; script = false }
 abbrev pub line_of : Refusal → List ℕ
 line_of LogsTooLong = codes "logs too long\n"
 line_of (BadLogs line kind) = codes "bad logs " ++ decimal line ++ codes " " ++ kind_name kind ++ codes "\n"
-line_of LaterLogs = codes "bad logs 0 later\n"
-line_of (Disagree txn tablet kind) = codes "disagree " ++ decimal txn ++ codes " " ++ decimal tablet ++ codes " " ++ agree_name kind ++ codes "\n"
+line_of (Disagree txn tablet kind) =
+    codes "disagree " ++ decimal txn ++ codes " " ++ decimal tablet ++ codes " " ++ agree_name kind ++ codes "\n"
 line_of ScriptTooLong = codes "script too long\n"
-line_of LaterScript = codes "bad script 0 later\n"
+line_of (BadScript line kind) = codes "bad script " ++ decimal line ++ codes " " ++ script_kind_name kind ++ codes "\n"
 
 abbrev pub refusal_status : Refusal → Status
 refusal_status LogsTooLong = status.BadLogs
 refusal_status (BadLogs line kind) = status.BadLogs
-refusal_status LaterLogs = status.BadLogs
 refusal_status (Disagree txn tablet kind) = status.Disagree
 refusal_status ScriptTooLong = status.BadScript
-refusal_status LaterScript = status.BadScript
+refusal_status (BadScript line kind) = status.BadScript
 
 abbrev pub refusal_output : Refusal → Output
 refusal_output refusal = record { text = line_of refusal; status = refusal_status refusal }
@@ -165,9 +173,13 @@ outcome words = output_for (form_of words)
 
 -- ---- what a refusal leaves, beside its line
 
+-- the text of the logs is bad or too long, or the tablets disagree
+abbrev pub RefusesLogs : Status → Type 0
+RefusesLogs s = (s ≡ status.BadLogs) ⊎ (s ≡ status.Disagree)
+
 -- Where the logs are refused, the script is as it was. Where the script is, the logs were read to their end.
 pub record InOrder (reads : Reads) (result : Status) (logs script : Stream) : Type 0 where
-  pub logs_first : result ≡ status.BadLogs → IsUntouched script
+  pub logs_first : RefusesLogs result → IsUntouched script
   pub script_next : result ≡ status.BadScript → Used reads.logs (Unit {0}) logs
 
 -- the same of an input that stopped

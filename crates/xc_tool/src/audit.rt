@@ -1,18 +1,19 @@
-// The command `audit`: the logs, whether their tablets agree, and then a line for each tablet and the number of commits.
+// The command `audit`: the logs, whether their tablets agree, then a line for each tablet and the number of commits.
 ghost use Rattle.std.specs.Prelude.{◌≡◌, ◌++◌, [], ◌∷◌, IfOk, Some, string_bytes};
 ghost use Rattle.std.specs.List.{list_any};
 ghost use Rattle.xc_run.specs.Ran.{Wrote, Ran, Is};
 ghost use Rattle.xc_run.specs.Streams.{Stream, stream, IsUntouched};
-ghost use Rattle.xc_tool.specs.AuditLines.{state_words, log_words, line_of_words, log_line, logs_text, agrees_line, is_halted};
+ghost use Rattle.xc_tool.specs.AuditLines.{state_words, log_words, line_of_words, log_line, logs_text, agrees_line};
+ghost use Rattle.xc_tool.specs.AuditLines.{is_halted};
 ghost use Rattle.xc_tool.specs.Outcome.{audit_output, output_for, reads_of, InOrder};
 
-use crate::lines::break_name;
 use crate::steps::{end, take_audit};
 use crate::words::Form;
 use std::alloc::{AllocError, Global};
 use xc_agree::{Audit, End, EndState};
 use xc_base::{Sink, SinkFail, Source, Status, write_all};
 use xc_record::Break;
+use xc_script::break_name;
 
 /// `audit LOGS`, which is given no script: any script is as it was.
 pub fn audit<L: Source, O: Sink>(alloc: Global, logs: &mut L, out: &mut O) -> Status
@@ -100,7 +101,8 @@ fn whole(alloc: Global, id: u64, end: &End, state: &str) -> Result<String, Alloc
 }
 
 fn halted(alloc: Global, id: u64, end: &End, number: u64, kind: Break) -> Result<String, AllocError>
-    ensures { IfOk result (λ line. string_bytes line ≡ line_of_words (log_words id end.now (state_words (EndState.Halt number kind)))) }
+    ensures { IfOk result (λ line. string_bytes line
+        ≡ line_of_words (log_words id end.now (state_words (EndState.Halt number kind)))) }
 {
     let accepted = end.accepted;
     let floor = end.floor;

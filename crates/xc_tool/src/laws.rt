@@ -1,8 +1,17 @@
-// A law of the whole outcome.
+// Laws of the whole outcome.
+ghost use Rattle.xc_tool.specs.Headline.{ReplaysShowThePast};
 ghost use Rattle.xc_tool.specs.Upgrades.{UpgradeKeepsLogs, UpgradeKeepsAudit};
 
 /// The text that an upgrade writes is read as the logs of the text that it was made from, so it has the same audit.
 pub fn an_upgrade_keeps_the_audit()
     ensures logs { UpgradeKeepsLogs }
     ensures audit { UpgradeKeepsAudit }
+{}
+
+/// Whatever logs and script there are, a replay that isn't refused shows what the source committed. Each read, scan and
+/// failover names a time t, which is then the least last safe value over the source tablets that aren't closed, and
+/// shows the transactions committed by t, each in full, and none that commits later. The times that are named never
+/// fall, and after a failover they stay.
+pub fn replays_show_the_past()
+    ensures { ReplaysShowThePast }
 {}

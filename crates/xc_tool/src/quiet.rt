@@ -17,9 +17,11 @@ pub fn run_quiet(
 ) -> Status
     ensures read { result ≡ Status.ReadFault → ⊥ }
     ensures write { result ≡ Status.WriteFault → ⊥ }
-    ensures complete { (a b : List ℕ) → ⟦<QuietSource as Source>⟧.left logs.old ≡ Some a → ⟦<QuietSource as Source>⟧.left script.old ≡ Some b →
+    ensures complete { (a b : List ℕ)
+        → ⟦<QuietSource as Source>⟧.left logs.old ≡ Some a → ⟦<QuietSource as Source>⟧.left script.old ≡ Some b →
         (result ≡ Status.NoMemory) ⊎ ((result ≡ (outcome (map string_bytes words.now) a b).status)
-        × Appends (⟦<QuietSink as Sink>⟧.written out.old) (⟦<QuietSink as Sink>⟧.written out.new) (outcome (map string_bytes words.now) a b).text) }
+        × Appends (⟦<QuietSink as Sink>⟧.written out.old) (⟦<QuietSink as Sink>⟧.written out.new)
+        (outcome (map string_bytes words.now) a b).text) }
 {
     run(alloc, words, logs, script, out)
 }

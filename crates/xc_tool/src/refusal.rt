@@ -6,6 +6,7 @@ ghost use Rattle.xc_tool.specs.Outcome.{line_of, refusal_status};
 use std::alloc::{AllocError, Global};
 use xc_base::Status;
 use xc_record::AgreeKind;
+use xc_script::ScriptKind;
 use xc_text::LogKind;
 
 /// Why an input is refused.
@@ -18,10 +19,8 @@ pub enum Refusal {
         line: u64,
         kind: LogKind,
     },
-    /// The logs are well formed, but a replay doesn't take them yet.
-    LaterLogs,
-    /// The logs are well formed, and their tablets disagree on a transaction: the case of the least transaction, then of
-    /// the least tablet, then of the first kind.
+    /// The logs are well formed, and their tablets disagree on a transaction: the case of the least transaction, then
+    /// of the least tablet, then of the first kind.
     Disagree {
         txn: u32,
         tablet: u32,
@@ -29,8 +28,11 @@ pub enum Refusal {
     },
     /// The script has more than 2^20 bytes.
     ScriptTooLong,
-    /// The script is none that a replay takes now.
-    LaterScript,
+    /// The first bad line of the script, counted from 1, and why it is bad.
+    BadScript {
+        line: u64,
+        kind: ScriptKind,
+    },
 }
 
 impl Refusal {
@@ -39,9 +41,9 @@ impl Refusal {
         ensures { result ≡ refusal_status self }
     {
         match self {
-            Refusal::LogsTooLong | Refusal::BadLogs { .. } | Refusal::LaterLogs => Status::BadLogs,
+            Refusal::LogsTooLong | Refusal::BadLogs { .. } => Status::BadLogs,
             Refusal::Disagree { .. } => Status::Disagree,
-            Refusal::ScriptTooLong | Refusal::LaterScript => Status::BadScript,
+            Refusal::ScriptTooLong | Refusal::BadScript { .. } => Status::BadScript,
         }
     }
 
@@ -52,10 +54,9 @@ impl Refusal {
         match self {
             Refusal::LogsTooLong => String::from_str(alloc, "logs too long\n"),
             Refusal::BadLogs { line, kind } => bad_logs(alloc, line, kind),
-            Refusal::LaterLogs => String::from_str(alloc, "bad logs 0 later\n"),
             Refusal::Disagree { txn, tablet, kind } => disagree(alloc, txn, tablet, kind),
             Refusal::ScriptTooLong => String::from_str(alloc, "script too long\n"),
-            Refusal::LaterScript => String::from_str(alloc, "bad script 0 later\n"),
+            Refusal::BadScript { line, kind } => bad_script(alloc, line, kind),
         }
     }
 }
@@ -65,6 +66,14 @@ fn bad_logs(alloc: Global, line: u64, kind: LogKind) -> Result<String, AllocErro
 {
     let name = kind.name();
     let text = format!(in alloc; "bad logs {line} {name}\n")?;
+    Ok(text)
+}
+
+fn bad_script(alloc: Global, line: u64, kind: ScriptKind) -> Result<String, AllocError>
+    ensures { IfOk result (λ text. string_bytes text ≡ line_of (Refusal.BadScript line kind)) }
+{
+    let name = kind.name();
+    let text = format!(in alloc; "bad script {line} {name}\n")?;
     Ok(text)
 }
 

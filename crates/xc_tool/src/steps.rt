@@ -1,23 +1,25 @@
 // What the commands of the tool are made of: reading a source whole, and writing a text.
-ghost use Rattle.std.specs.Prelude.{◌≡◌, IfOk, IfErr, IsErrOf, Ok, true};
+ghost use Rattle.std.specs.Prelude.{◌≡◌, IfOk, IfErr, IsErrOf, Ok, None, true};
 ghost use Rattle.xc_run.specs.Ran.{StopsAt, Took, Wrote, Ended};
 ghost use Rattle.xc_run.specs.Streams.{stream};
 ghost use Rattle.xc_agree.specs.Audit.{audit_of};
 ghost use Rattle.xc_record.specs.Valid.{is_valid};
-ghost use Rattle.xc_tool.specs.Script.{script_of};
+ghost use Rattle.xc_record.specs.Agreement.{disagreement};
+ghost use Rattle.xc_script.specs.Allowed.{IsScript};
 ghost use Rattle.xc_text.specs.LogText.{logs_of};
-ghost use Rattle.xc_tool.specs.Outcome.{logs_input, logs_in, logs_spelled, upgrade_input, audit_input, audit_in, unless_disagree, script_input, script_taken, refusal_output, usage_output};
-ghost use Rattle.xc_tool.specs.Later.{IsTaken};
+ghost use Rattle.xc_tool.specs.Outcome.{logs_input, logs_in, logs_spelled, agreed, upgrade_input, audit_input};
+ghost use Rattle.xc_tool.specs.Outcome.{audit_in, unless_disagree, script_input, script_in, refusal_output};
+ghost use Rattle.xc_tool.specs.Outcome.{usage_output};
+ghost use Rattle.xc_tool.specs.Steps.{stop_of};
 
-use crate::later::is_later;
 use crate::refusal::Refusal;
-use crate::script::{Requests, read_script};
 use std::alloc::Global;
 use xc_agree::{AgreeFail, Audit, agree};
 use xc_base::{Sink, SinkFail, Source, Status, write_all};
 use xc_logs::LogSet;
 use xc_record::Logs;
 use xc_run::{Stop, read_text};
+use xc_script::{Script, ScriptFail, read_script};
 use xc_text::{LogsFail, read_logs};
 
 const LOGS_LIMIT: u64 = 1 << 26;
@@ -26,27 +28,48 @@ const SCRIPT_LIMIT: u64 = 1 << 20;
 
 const USAGE: &str = "usage: the words after xcr do not form a command\n";
 
-/// The logs of a source.
-pub fn take_logs<L: Source>(alloc: Global, logs: &mut L) -> Result<Logs, Stop<Refusal>>
+/// The logs of a source, whose tablets agree.
+pub fn take_logs<L: Source>(alloc: Global, logs: &mut L) -> Result<LogSet, Stop<Refusal>>
     ensures took { Took logs_input result (stream L.left L.faults logs.old logs.new) }
-    ensures taken { IfOk result IsTaken }
+    ensures agree { IfOk result (λ logs. disagreement logs ≡ None) }
 {
     let text = read_text(alloc, logs, LOGS_LIMIT, Refusal::LogsTooLong)?;
     logs_in(alloc, text.as_slice())
 }
 
-// The logs that a text spells, where a replay takes them.
-fn logs_in(alloc: Global, text: &[u8]) -> Result<Logs, Stop<Refusal>>
+// The logs that a text spells, where their tablets agree.
+fn logs_in(alloc: Global, text: &[u8]) -> Result<LogSet, Stop<Refusal>>
     ensures read { IfOk result (λ logs. logs_in text.now ≡ Ok logs) }
     ensures refused { IfErr result (StopsAt (logs_in text.now)) }
     ensures memory { IsErrOf result Stop.ReadFault → ⊥ }
-    ensures taken { IfOk result IsTaken }
+    ensures agree { IfOk result (λ logs. disagreement logs ≡ None) }
 {
-    match read_logs(alloc, text) {
-        Ok(logs) if is_later(&logs) => Err(Stop::Refused(Refusal::LaterLogs)),
-        Ok(logs) => Ok(logs),
-        Err(LogsFail::Bad { line, kind }) => Err(Stop::Refused(Refusal::BadLogs { line, kind })),
-        Err(LogsFail::NoMemory) => Err(Stop::NoMemory),
+    let logs = spelled_logs(alloc, text)?;
+    agreed(alloc, LogSet::new(logs))
+}
+
+// The logs, where their tablets agree.
+fn agreed(alloc: Global, logs: LogSet) -> Result<LogSet, Stop<Refusal>>
+    ensures read { IfOk result (λ found. agreed logs ≡ Ok found) }
+    ensures refused { IfErr result (StopsAt (agreed logs)) }
+    ensures memory { IsErrOf result Stop.ReadFault → ⊥ }
+    ensures agree { IfOk result (λ found. disagreement found ≡ None) }
+{
+    match agree(alloc, &logs) {
+        Ok(_) => Ok(logs),
+        Err(fail) => Err(disagreed(fail)),
+    }
+}
+
+// Why logs have no audit.
+fn disagreed(fail: AgreeFail) -> Stop<Refusal>
+    ensures { result ≡ stop_of fail }
+{
+    match fail {
+        AgreeFail::Disagree { txn, tablet, kind } => {
+            Stop::Refused(Refusal::Disagree { txn, tablet, kind })
+        }
+        AgreeFail::NoMemory => Stop::NoMemory,
     }
 }
 
@@ -87,47 +110,48 @@ fn audit_in(alloc: Global, text: &[u8]) -> Result<Audit, Stop<Refusal>>
     ensures refused { IfErr result (StopsAt (audit_in text.now)) }
     ensures memory { IsErrOf result Stop.ReadFault → ⊥ }
 {
-    match read_logs(alloc, text) {
-        Ok(logs) => audit_of_logs(alloc, logs),
-        Err(LogsFail::Bad { line, kind }) => Err(Stop::Refused(Refusal::BadLogs { line, kind })),
-        Err(LogsFail::NoMemory) => Err(Stop::NoMemory),
-    }
+    let logs = spelled_logs(alloc, text)?;
+    audit_of_logs(alloc, &LogSet::new(logs))
 }
 
-fn audit_of_logs(alloc: Global, logs: Logs) -> Result<Audit, Stop<Refusal>>
-    requires { is_valid logs ≡ true }
-    ensures read { IfOk result (λ audit. unless_disagree (audit_of logs) ≡ Ok audit) }
-    ensures refused { IfErr result (StopsAt (unless_disagree (audit_of logs))) }
+fn audit_of_logs(alloc: Global, logs: &LogSet) -> Result<Audit, Stop<Refusal>>
+    ensures read { IfOk result (λ audit. unless_disagree (audit_of logs.now) ≡ Ok audit) }
+    ensures refused { IfErr result (StopsAt (unless_disagree (audit_of logs.now))) }
     ensures memory { IsErrOf result Stop.ReadFault → ⊥ }
 {
-    let logs = LogSet::new(logs);
-    match agree(alloc, &logs) {
+    match agree(alloc, logs) {
         Ok(audit) => Ok(audit),
-        Err(AgreeFail::Disagree { txn, tablet, kind }) => {
-            Err(Stop::Refused(Refusal::Disagree { txn, tablet, kind }))
-        }
-        Err(AgreeFail::NoMemory) => Err(Stop::NoMemory),
+        Err(fail) => Err(disagreed(fail)),
     }
 }
 
-/// The commands of a source.
-pub fn take_script<S: Source>(alloc: Global, script: &mut S) -> Result<Requests, Stop<Refusal>>
-    ensures { Took script_input result (stream S.left S.faults script.old script.new) }
+/// The script of a source, for logs of so many tablets.
+pub fn take_script<S: Source>(
+    alloc: Global,
+    script: &mut S,
+    sources: u32,
+) -> Result<Script, Stop<Refusal>>
+    ensures took { Took (script_input sources) result (stream S.left S.faults script.old script.new) }
+    ensures allowed { IfOk result (IsScript sources) }
 {
     let text = read_text(alloc, script, SCRIPT_LIMIT, Refusal::ScriptTooLong)?;
-    script_in(alloc, text.as_slice())
+    script_in(alloc, text.as_slice(), sources)
 }
 
-// The commands that a text spells, where a replay takes them.
-fn script_in(alloc: Global, text: &[u8]) -> Result<Requests, Stop<Refusal>>
-    ensures read { IfOk result (λ commands. script_taken (script_of text.now) ≡ Ok commands) }
-    ensures refused { IfErr result (StopsAt (script_taken (script_of text.now))) }
+// The script that a text spells.
+fn script_in(alloc: Global, text: &[u8], sources: u32) -> Result<Script, Stop<Refusal>>
+    ensures read { IfOk result (λ script. script_in sources text.now ≡ Ok script) }
+    ensures refused { IfErr result (StopsAt (script_in sources text.now)) }
     ensures memory { IsErrOf result Stop.ReadFault → ⊥ }
+    ensures allowed { IfOk result (IsScript sources) }
 {
-    match read_script(alloc, text) {
-        Ok(Some(requests)) => Ok(requests),
-        Ok(None) => Err(Stop::Refused(Refusal::LaterScript)),
-        Err(_) => Err(Stop::NoMemory),
+    match read_script(alloc, text, sources) {
+        Ok(script) => Ok(script),
+        Err(ScriptFail::Bad { line, kind }) => Err(Stop::Refused(Refusal::BadScript {
+            line,
+            kind,
+        })),
+        Err(ScriptFail::NoMemory) => Err(Stop::NoMemory),
     }
 }
 

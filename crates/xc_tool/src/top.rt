@@ -4,7 +4,7 @@ ghost use Rattle.xc_base.specs.Causes.{Rose};
 ghost use Rattle.xc_base.specs.Told.{TellsAlike};
 ghost use Rattle.xc_run.specs.Ran.{Ran, Is, Shows, IsEnded, FaultIn, AreQuiet, AreTold};
 ghost use Rattle.xc_run.specs.Streams.{stream, Gave, Used, IsUntouched};
-ghost use Rattle.xc_tool.specs.Outcome.{outcome, output_for, reads_of, InOrder, IsUsage};
+ghost use Rattle.xc_tool.specs.Outcome.{outcome, output_for, reads_of, InOrder, IsUsage, RefusesLogs};
 ghost use Rattle.xc_tool.specs.Words.{form_of};
 
 use crate::audit::audit;
@@ -19,8 +19,9 @@ use xc_base::{Sink, Source, Status};
 /// name, form, over the sources that they name, and writes its lines to `out`.
 ///
 /// The sources and the sink may fail at any call. The status is `Usage` where the words form no command, `BadLogs` and
-/// `BadScript` where an input is refused, `Disagree` where the tablets of the logs of an audit disagree, `Halted` where a
-/// pull or an audit met a break of the order rules, and else `Ok`: with each of these the whole output was written. After `ReadFault`, `WriteFault` and `NoMemory` a prefix of it was.
+/// `BadScript` where an input is refused, `Disagree` where the tablets of the logs of a replay or of an audit disagree,
+/// `Halted` where a poll, a drain or an audit met a break of the order rules, and else `Ok`: with each of these the
+/// whole output was written. After `ReadFault`, `WriteFault` and `NoMemory` a prefix of it was.
 pub fn run<L: Source, S: Source, O: Sink>(
     alloc: Global,
     words: &[String],
@@ -46,17 +47,21 @@ pub fn run<L: Source, S: Source, O: Sink>(
     ensures read_quiet { (result ≡ Status.ReadFault → ⊥) →
         AreQuiet (stream L.left L.faults logs.old logs.new) (stream S.left S.faults script.old script.new) }
     ensures write_quiet { (result ≡ Status.WriteFault → ⊥) → O.faults out.new ≡ O.faults out.old }
-    ensures told_sources { AreTold (stream L.left L.faults logs.old logs.new) (stream S.left S.faults script.old script.new) }
+    ensures told_sources { AreTold (stream L.left L.faults logs.old logs.new)
+        (stream S.left S.faults script.old script.new) }
     ensures told_sink { TellsAlike (O.written out.old) (O.written out.new) }
 
     // What the command reads was read to its end, and what it doesn't read wasn't touched.
-    ensures logs { Used (reads_of (form_of (map string_bytes words.now))).logs (IsEnded result) (stream L.left L.faults logs.old logs.new) }
-    ensures script { Used (reads_of (form_of (map string_bytes words.now))).script (IsEnded result) (stream S.left S.faults script.old script.new) }
+    ensures logs { Used (reads_of (form_of (map string_bytes words.now))).logs (IsEnded result)
+        (stream L.left L.faults logs.old logs.new) }
+    ensures script { Used (reads_of (form_of (map string_bytes words.now))).script (IsEnded result)
+        (stream S.left S.faults script.old script.new) }
 
     // The script waits for the logs.
-    ensures refused_logs { result ≡ Status.BadLogs → IsUntouched (stream S.left S.faults script.old script.new) }
+    ensures refused_logs { RefusesLogs result → IsUntouched (stream S.left S.faults script.old script.new) }
     ensures refused_script { result ≡ Status.BadScript
-        → Used (reads_of (form_of (map string_bytes words.now))).logs (Unit {0}) (stream L.left L.faults logs.old logs.new) }
+        → Used (reads_of (form_of (map string_bytes words.now))).logs (Unit {0})
+        (stream L.left L.faults logs.old logs.new) }
 {
     dispatch(alloc, form_of(words), logs, script, out)
 }

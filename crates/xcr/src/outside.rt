@@ -6,8 +6,8 @@ use std::fs::File;
 use std::io::{ErrorKind, Read, Write};
 use xc_base::{Failed, Sink, SinkFail, Source};
 
-/// A file that is opened at its first read. One that can't be opened, and no file at all, fail at each read. A read that a
-/// signal cut off is made again.
+/// A file that is opened at its first read. One that can't be opened, and no file at all, fail at each read. A read
+/// that a signal cut off is made again.
 #[derive(Drop)]
 pub struct FileSource<'a> {
     rt: &'a HostRuntime,

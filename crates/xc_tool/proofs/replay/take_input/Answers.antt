@@ -14,7 +14,7 @@ returns-in_err-logs-clause-order g c =
     let p = err_from_is_err_and c.from_residual.result c.from_residual.ensures.1 in
     rw (p.1, p.2) (order_first _ _ _ c.in_err-logs.ensures.took (record { same = refl; faults = refl }))
 
-pub returns-in_err-requests-clause-order : goal.returns-in_err-requests-clause-order
-returns-in_err-requests-clause-order g c =
-    let p = err_from_is_err_and c.from_residual-in_err-requests.result c.from_residual-in_err-requests.ensures.1 in
-    rw (p.1, p.2) (order_second _ _ _ _ c.in_ok-logs.ensures.took c.in_err-requests.ensures)
+pub returns-in_err-script-clause-order : goal.returns-in_err-script-clause-order
+returns-in_err-script-clause-order g c =
+    let p = err_from_is_err_and c.from_residual-in_err-script.result c.from_residual-in_err-script.ensures.1 in
+    rw (p.1, p.2) (order_second _ _ _ _ _ c.in_ok-logs.ensures.took c.in_err-script.ensures.took)

@@ -55,8 +55,8 @@ def prepare():
                     subprocess.run([PEER, "geninput", kind, str(part)], stdout=log, check=True)
 
 
-# the wall time and the processor's time in seconds, the peak memory in MiB, the status and the output, and what was told
-# beside them
+# the wall time and the processor's time in seconds, the peak memory in MiB, the status and the output, and what was
+# told beside them
 Run = namedtuple("Run", "wall processor memory answer errors")
 
 

@@ -1,7 +1,8 @@
 #!/usr/bin/env python3
 """texts.py [PROGRAM]
 
-Runs `xcr audit` on a table of log texts, each with one bad line, or none: the line and the kind that are told.
+Runs `xcr audit` on a table of log texts, each with one bad line, or none: the line and the kind that are told; and on
+one that is too long.
 Prints each difference, and closes with 'N passed, M failed'.
 """
 import os, subprocess, sys, tempfile
@@ -11,6 +12,7 @@ ONE = "tablet 0 0 65535 root"
 HALVES = "tablet 0 0 32767 root\ntablet 1 32768 65535 root"
 SPLIT = f"{ONE}\ntablet 1 0 32767 child 0\ntablet 2 32768 65535 child 0"
 GOOD = None
+MOST_BYTES = 2**26
 
 
 def one(line):
@@ -148,6 +150,8 @@ TABLE = [
     (many("abort 3", RECORDS + 1), (3 + RECORDS, "limit")),
     (many(FULL, FULL_RECORDS), GOOD),
     (many(FULL, FULL_RECORDS + 1), (3 + FULL_RECORDS, "limit")),
+    ("xclog 1\n".ljust(MOST_BYTES - 1, "x") + "\n", (2, "form")),
+    ("xclog 1\n".ljust(MOST_BYTES, "x") + "\n", "logs too long\n"),
 ]
 
 
@@ -161,7 +165,8 @@ def main(words):
                 out.write(text.encode("latin-1"))
             done = subprocess.run([program, "audit", path], stdout=subprocess.PIPE)
             told = done.stdout.decode("latin-1")
-            right = done.returncode == 0 if bad is GOOD else (done.returncode, told) == (2, "bad logs %d %s\n" % bad)
+            want = "bad logs %d %s\n" % bad if isinstance(bad, tuple) else bad
+            right = done.returncode == 0 if bad is GOOD else (done.returncode, told) == (2, want)
             if not right:
                 failed += 1
                 print(f"{text[:120]!r} gives {done.returncode} {told!r} in place of {bad}")

@@ -1,4 +1,5 @@
 pub mod Giving
 pub mod NameLemmas
+pub mod KeyOrder
 pub mod EscapeLaws
 pub mod WordLaws

@@ -12,6 +12,7 @@ mod status;
 mod streams;
 mod whole;
 mod word;
+mod words;
 
 pub use bytes::Bytes;
 pub use memory::{MemorySink, MemorySource};
@@ -78,6 +79,39 @@ mod tests {
             Key::new(b"order/10").ok() < Key::new(b"order/2").ok(),
             "by bytes"
         );
+    }
+
+    #[test]
+    fn keys_follow_their_bytes_in_each_word(rt: HostRuntime) {
+        let keys = [
+            "\0",
+            "\0\0",
+            "a",
+            "a\0",
+            "a\0b",
+            "aaaaaaaa",
+            "aaaaaaaa\0",
+            "aaaaaaaab",
+            "aaaaaaaabbbbbbbba",
+            "aaaaaaaabbbbbbbbb",
+            "aaaaaaaabbbbbbbbccccccccdddddddc",
+            "aaaaaaaabbbbbbbbccccccccdddddddd",
+            "aaaaaaac",
+            "b",
+        ];
+        for i in 0..keys.len() {
+            for k in 0..keys.len() {
+                let (Ok(left), Ok(right)) = (
+                    Key::any(keys[i].as_bytes()),
+                    Key::any(keys[k].as_bytes()),
+                ) else {
+                    assert!(rt; false);
+                    continue;
+                };
+                assert!(rt; left.cmp(&right) == i.cmp(&k), "{i} {k}");
+                assert!(rt; (left == right) == (i == k), "{i} {k}");
+            }
+        }
     }
 
     #[test]

@@ -9,6 +9,7 @@ ghost use Rattle.xc_base.specs.Names.{key_fault, value_fault, length_fault};
 ghost use Rattle.xc_base.specs.Escapes.{wrong_place, escaped, unescaped, word_fault};
 ghost use Rattle.std.specs.List.{position_or_len, list_all};
 
+use crate::words::order;
 use std::cmp::Ordering;
 use std::marker::Model;
 
@@ -189,8 +190,9 @@ impl PartialEq for Key {
 
     ghost laws = { partial_equiv_from_equiv nat_list_eq_equiv };
 
+    #[inline]
     fn eq(&self, other: &Key) -> bool {
-        self.bytes() == other.bytes()
+        self.len == other.len && self.bytes == other.bytes
     }
 }
 
@@ -217,8 +219,13 @@ impl Ord for Key {
 
     ghost matches_eq = { texts_ties };
 
+    // Zeros behind the shorter key don't tell it from one that has them, and then the length does.
+    #[inline]
     fn cmp(&self, other: &Key) -> Ordering {
-        self.bytes().cmp(other.bytes())
+        match order(&self.bytes, &other.bytes) {
+            Ordering::Equal => self.len.cmp(&other.len),
+            unequal => unequal,
+        }
     }
 }
 

@@ -17,7 +17,7 @@ pub enum FeedFail {
     NoMemory,
 }
 
-/// What the records of the source's tablets are pulled from.
+/// What the records of the source's tablets are polled from.
 pub trait Feed {
     /// The headers of its tablets.
     ghost headers: { Self → List Header };

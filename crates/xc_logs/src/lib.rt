@@ -1,4 +1,4 @@
-//! The logs of the source, held and asked, and the feed that records are pulled from.
+//! The logs of the source, held and asked, and the feed that records are polled from.
 #![tactic(auto)]
 
 mod copies;

@@ -238,6 +238,10 @@ restored-shown : rows_shown 12 (restore 15 drained) ≡ (a, codes "1") ∷ (z, c
 unfolding computed
 restored-shown = (restores-keep drained 15 12 (omega arith)).1
 
+-- a tablet at which a transaction waits with operations on two keys: after a restore nothing waits
+restored-waiting : (restore 12 early).held ≡ []
+restored-waiting = refl
+
 -- after the time of the restore it need not show the row, which is removed at 16
 read-after-restore : read 16 (kept_at (restore 15 drained) z) ≡ Some (codes "2")
 unfolding computed

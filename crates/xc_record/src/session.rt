@@ -45,7 +45,7 @@ impl Model for Numbers {
 /// One command of a script. Tablets are numbered from 0, times are hybrid times.
 #[derive(Clone, Copy, PartialEq, Eq, Debug)]
 pub enum Command {
-    /// Pulls up to `n` records of the source tablet to every target tablet.
+    /// Polls up to `n` records of the source tablet to every target tablet.
     Poll { id: u32, n: u64 },
     /// A poll that stops after it delivered to the target tablets 0 to `last`.
     Stop { id: u32, n: u64, last: usize },
@@ -53,7 +53,7 @@ pub enum Command {
     Ack { id: u32 },
     /// Sets the cursor of the source tablet back to its checkpoint.
     Restart { id: u32 },
-    /// Pulls all records that can be pulled.
+    /// Polls all records that there are to poll.
     Drain,
     /// The safe time.
     Safe,
@@ -163,7 +163,7 @@ pub enum Line {
 /// What a poll of a source tablet came to.
 #[derive(Clone, Copy, PartialEq, Eq, Debug)]
 pub enum PollAnswer {
-    /// So many records were pulled.
+    /// So many records were polled.
     Polled(u64),
     /// The tablet's parent isn't closed yet.
     Waits { parent: u32 },

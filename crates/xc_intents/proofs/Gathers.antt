@@ -1,5 +1,6 @@
 -- What is left of slots and chains where the dead and the unused are dropped, and what is linked anew.
-use Rattle.std.proofs.Common.{◌≡◌, ℕ, zero, suc, ◌+◌, ◌<◌, ◌≤◌, Bool, true, false, cond, List, [], ◌∷◌, ◌++◌, length, set, map, filter}
+use Rattle.std.proofs.Common.{◌≡◌, ◌≢◌, ℕ, zero, suc, ◌+◌, ◌^◌, ◌<◌, ◌≤◌, Bool, true, false, cond, List, [], ◌∷◌, ◌++◌, length, set}
+use Rattle.std.proofs.Common.{map, filter}
 use Rattle.std.proofs.Common.{take, drop, Option, Some, None, is_some, refl, sym, ◌∙◌, ap, subst, arith, ◌==◌, ◌&&◌}
 use Rattle.std.proofs.lemmas.Bool.{eq-eqb}
 use Rattle.std.proofs.lemmas.List.{length-map, get_or-map, get_or_at, set_at, drop_more, take_more, length-take-le, append_assoc}
@@ -10,26 +11,28 @@ use Rattle.xc_record.specs.Hash.{hash_of}
 use Rattle.xc_intents.specs.declared.slots.Slot.{Slot}
 use Rattle.xc_intents.specs.declared.slots.Chain.{Chain}
 use Rattle.xc_intents.specs.Slots.{at, chain_at, no_chain, blank, bare, is_live, is_used, cut, slot_op, held_in, mine, NextTo, ChainFits}
-use Rattle.xc_intents.specs.Slots.{HasChain, Rises, Linked, IsChained}
+use Rattle.xc_intents.specs.Slots.{HasChain, Distinct, twig, loose, IsTree, Linked, IsChained}
+use Rattle.xc_intents.proofs.Trees.{tree-same}
+use Rattle.xc_intents.proofs.Links.{Linked-tree}
 use Rattle.xc_intents.proofs.Chains.{Fewer-set, Linked-fewer, at-set_other, length-bare}
 use Rattle.xc_intents.proofs.Walks.{Hashed, held-same, hashed-same, at-bare}
 
 -- ---- chains are cut
 
-pub cut-step : (xs : List Chain) (i : ℕ) → i < length xs
-    → set (map cut (take i xs) ++ drop i xs) i (cut (chain_at (map cut (take i xs) ++ drop i xs) i)) ≡ map cut (take (i + 1) xs) ++ drop
-    (i + 1) xs
-cut-step xs i h =
+-- one more chain is written
+pub map-step : (f : Chain → Chain) (xs : List Chain) (i : ℕ) → i < length xs
+    → set (map f (take i xs) ++ drop i xs) i (f (chain_at (map f (take i xs) ++ drop i xs) i)) ≡ map f (take (i + 1) xs) ++ drop (i + 1) xs
+map-step f xs i h =
     let c = chain_at xs i in
-    let front = map cut (take i xs) in
-    let long : length front ≡ i = length-map (take i xs) cut ∙ length-take-le i xs (omega arith) in
+    let front = map f (take i xs) in
+    let long : length front ≡ i = length-map (take i xs) f ∙ length-take-le i xs (omega arith) in
     let split : front ++ drop i xs ≡ front ++ (c ∷ drop (i + 1) xs) = ap (λ ys. front ++ ys) (drop_more xs i (no_chain 0) h) in
     let here : chain_at (front ++ drop i xs) i ≡ c = ap (λ ys. chain_at ys i) split
     ∙ get_or_at front c (drop (i + 1) xs) (no_chain 0) i long in
-    let more : map cut (take (i + 1) xs) ≡ front ++ cut c ∷ [] = ap (map cut) (take_more xs i (no_chain 0) h)
-    ∙ map-append cut (take i xs) (c ∷ []) in
-    ap (λ d. set (front ++ drop i xs) i (cut d)) here ∙ ap (λ ys. set ys i (cut c)) split ∙ set_at front c (drop (i + 1) xs) (cut c) i long
-    ∙ sym (append_assoc front (cut c ∷ []) (drop (i + 1) xs)) ∙ ap (λ ys. ys ++ drop (i + 1) xs) (sym more)
+    let more : map f (take (i + 1) xs) ≡ front ++ f c ∷ [] = ap (map f) (take_more xs i (no_chain 0) h)
+    ∙ map-append f (take i xs) (c ∷ []) in
+    ap (λ d. set (front ++ drop i xs) i (f d)) here ∙ ap (λ ys. set ys i (f c)) split ∙ set_at front c (drop (i + 1) xs) (f c) i long
+    ∙ sym (append_assoc front (f c ∷ []) (drop (i + 1) xs)) ∙ ap (λ ys. ys ++ drop (i + 1) xs) (sym more)
 
 cut-txn : (cs : List Chain) (k : ℕ) → k < length cs → (chain_at (map cut cs) k).txn ≡ (chain_at cs k).txn
 cut-txn cs k h = ap (λ (c : Chain). c.txn) (get_or-map cut cs k (no_chain 0) (no_chain 0) h)
@@ -38,17 +41,15 @@ pub cut-has : (cs : List Chain) (t : ℕ) → HasChain cs t → HasChain (map cu
 cut-has cs t h = (h.0, omega (arith, length-map cs cut, h.1), cut-txn cs h.0 h.1 ∙ h.2)
 
 -- no slot is linked
-pub Linked-cut : (xs : List Slot) (cs : List Chain) → Rises cs → Linked xs (map cut cs) 0
-Linked-cut xs cs rises = record {
+pub Linked-cut : (xs : List Slot) (cs : List Chain) → IsTree cs (length cs) → Linked xs (map cut cs) 0
+Linked-cut xs cs tree = record {
   links = λ i a. absurd (omega arith);
   chains = λ e b.
       let low : e < length cs = omega (arith, length-map cs cut) in
       subst (ChainFits xs 0) (sym (get_or-map cut cs e (no_chain 0) (no_chain 0) low)) (cut-fits xs (chain_at cs e));
   has = λ i a. absurd (omega arith);
-  sorted = λ a b lt high.
-      let low : b < length cs = omega (arith, length-map cs cut) in
-      let r : (chain_at cs a).txn < (chain_at cs b).txn = rises a b lt low in
-      omega (arith, cut-txn cs a (omega arith), cut-txn cs b low);
+  tree = subst (IsTree (map cut cs)) (sym (length-map cs cut))
+      (tree-same cs (map cut cs) (length cs) (λ k b. ap twig (get_or-map cut cs k (no_chain 0) (no_chain 0) b)) tree);
 }
   where
     cut-fits : (xs : List Slot) (c : Chain) → ChainFits xs 0 (cut c)
@@ -115,41 +116,40 @@ kept-at p (c ∷ cs) (suc e) b h =
       | false ↦ r
     ]
 
--- chains stay in order
-rises-tail : (c : Chain) (cs : List Chain) → Rises (c ∷ cs) → Rises cs
-rises-tail c cs r = λ a b lt high. r (suc a) (suc b) (omega arith) (omega arith)
+-- chains stay different
+distinct-tail : (c : Chain) (cs : List Chain) → Distinct (c ∷ cs) → Distinct cs
+distinct-tail c cs r = λ a b lt high. r (suc a) (suc b) (omega arith) (omega arith)
 
-rises-head : (c : Chain) (cs : List Chain) → Rises (c ∷ cs) → All (λ (d : Chain). c.txn < d.txn) cs
-rises-head c cs r = All-from_get_or (λ (d : Chain). c.txn < d.txn) cs (no_chain 0) (λ k low. r 0 (suc k) (omega arith) (omega arith))
+distinct-head : (c : Chain) (cs : List Chain) → Distinct (c ∷ cs) → All (λ (d : Chain). c.txn ≢ d.txn) cs
+distinct-head c cs r = All-from_get_or (λ (d : Chain). c.txn ≢ d.txn) cs (no_chain 0) (λ k low. r 0 (suc k) (omega arith) (omega arith))
 
-rises-cons : (c : Chain) (cs : List Chain) → All (λ (d : Chain). c.txn < d.txn) cs → Rises cs → Rises (c ∷ cs)
-rises-cons c cs above r zero zero lt high = absurd (omega arith)
-rises-cons c cs above r zero (suc b) lt high = above b (no_chain 0) (omega arith)
-rises-cons c cs above r (suc a) zero lt high = absurd (omega arith)
-rises-cons c cs above r (suc a) (suc b) lt high = r a b (omega arith) (omega arith)
+distinct-cons : (c : Chain) (cs : List Chain) → All (λ (d : Chain). c.txn ≢ d.txn) cs → Distinct cs → Distinct (c ∷ cs)
+distinct-cons c cs apart r zero zero lt high = absurd (omega arith)
+distinct-cons c cs apart r zero (suc b) lt high = apart b (no_chain 0) (omega arith)
+distinct-cons c cs apart r (suc a) zero lt high = absurd (omega arith)
+distinct-cons c cs apart r (suc a) (suc b) lt high = r a b (omega arith) (omega arith)
 
-rises-filter : (p : Chain → Bool) (cs : List Chain) → Rises cs → Rises (filter p cs)
-rises-filter p [] r = r
-rises-filter p (c ∷ cs) r =
-    let rest = rises-filter p cs (rises-tail c cs r) in
-    elim (p c) as (λ t. Rises (cond t (c ∷ filter p cs) (filter p cs))) [
-      | true ↦ rises-cons c (filter p cs) (All-filter p (λ (d : Chain). c.txn < d.txn) cs (rises-head c cs r)) rest
+pub distinct-filter : (p : Chain → Bool) (cs : List Chain) → Distinct cs → Distinct (filter p cs)
+distinct-filter p [] r = r
+distinct-filter p (c ∷ cs) r =
+    let rest = distinct-filter p cs (distinct-tail c cs r) in
+    elim (p c) as (λ t. Distinct (cond t (c ∷ filter p cs) (filter p cs))) [
+      | true ↦ distinct-cons c (filter p cs) (All-filter p (λ (d : Chain). c.txn ≢ d.txn) cs (distinct-head c cs r)) rest
       | false ↦ rest
     ]
 
 -- the chains without slots go, where all slots are live
-pub Linked-used : (xs : List Slot) (cs : List Chain) (n : ℕ) → ((i : ℕ) → i < n → (at xs i).live ≡ true) → Linked xs cs n
-    → Linked xs (filter is_used cs) n
-Linked-used xs cs n live l = record {
-  links = l.links;
-  chains = λ e b. All-filter is_used (ChainFits xs n) cs (All-from_get_or (ChainFits xs n) cs (no_chain 0) l.chains) e (no_chain 0) b;
-  has = λ i a.
-      let h : HasChain cs (at xs i).txn = l.has i a in
-      let fits : ChainFits xs n (chain_at cs h.0) = l.chains h.0 h.1 in
-      let kept = kept-at is_used cs h.0 h.1 (used i a (chain_at cs h.0) h.2 (chain_at cs h.0).first fits.first) in
-      (kept.0, kept.1, ap (λ (c : Chain). c.txn) kept.2 ∙ h.2);
-  sorted = rises-filter is_used cs l.sorted;
-}
+pub Linked-used : (xs : List Slot) (cs ds : List Chain) (n : ℕ) → ((i : ℕ) → i < n → (at xs i).live ≡ true) → Linked xs cs n
+    → map loose ds ≡ map loose (filter is_used cs) → IsTree ds (length ds) → Linked xs ds n
+Linked-used xs cs ds n live l same tree =
+    Linked-tree xs (filter is_used cs) ds n l.links
+    (λ e b. All-filter is_used (ChainFits xs n) cs (All-from_get_or (ChainFits xs n) cs (no_chain 0) l.chains) e (no_chain 0) b)
+    (λ i a.
+    let h : HasChain cs (at xs i).txn = l.has i a in
+    let fits : ChainFits xs n (chain_at cs h.0) = l.chains h.0 h.1 in
+    let kept = kept-at is_used cs h.0 h.1 (used i a (chain_at cs h.0) h.2 (chain_at cs h.0).first fits.first) in
+    (kept.0, kept.1, ap (λ (c : Chain). c.txn) kept.2 ∙ h.2))
+    same tree
   where
     used : (i : ℕ) → i < n → (c : Chain) → c.txn ≡ (at xs i).txn → (o : Option ℕ) → NextTo c.txn xs 0 n o → is_some o ≡ true
     used i a c t None skips =
@@ -176,9 +176,11 @@ module _ (xs ys : List Slot) (cs ds : List Chain) (chained : IsChained xs cs) (s
   pub anew-all : length (held_in ys) ≡ length ys
   anew-all = ap length (held-same (filter is_live xs) ys same) ∙ length-held_filter xs ∙ sym anew-long
 
-  pub anew-chained : length (filter is_live xs) ≤ length xs → IsChained ys (filter is_used ds)
-  anew-chained short = record {
-    linked = Linked-used ys ds (length ys) anew-live l;
+  pub anew-chained : (es : List Chain) → length (filter is_live xs) ≤ length xs → map loose es ≡ map loose (filter is_used ds)
+      → IsTree es (length es) → length es ≤ 2 ^ 32 → IsChained ys es
+  anew-chained es short kept tree few = record {
+    linked = Linked-used ys ds es (length ys) anew-live l kept tree;
     hashed = hashed-same (filter is_live xs) ys same (hashed-filter xs chained.hashed);
     small = omega (arith, anew-long, chained.small);
+    few = few;
   }

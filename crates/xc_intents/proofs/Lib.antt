@@ -1,4 +1,5 @@
 pub mod IntentLaws
+pub mod Trees
 pub mod Chains
 pub mod Links
 pub mod Walks

@@ -1,16 +1,16 @@
 -- One more slot is linked, and one more chain is opened.
-use Rattle.std.proofs.Common.{◌≡◌, ◌≢◌, ℕ, zero, suc, ◌+◌, ◌<◌, ◌≤◌, true, false, List, length, set, map, Option, Some, None, refl, sym}
-use Rattle.std.proofs.Common.{◌∙◌, ap, subst, arith, ◌==◌, ◌&&◌, ⊎_elim, inl, inr, ◌⊎◌}
+use Rattle.std.proofs.Common.{◌≡◌, ◌≢◌, ℕ, ◌+◌, ◌<◌, true, false, List, [], ◌∷◌, ◌++◌, length, set, map, Option, Some, None}
+use Rattle.std.proofs.Common.{refl, sym, ◌∙◌, ap, subst, arith, ◌==◌, ◌&&◌, ⊎_elim, inl, inr, ◌⊎◌}
 use Rattle.std.specs.Option.{option_map_or}
-use Rattle.std.specs.Prelude.{insert}
-use Rattle.std.proofs.lemmas.Bool.{cases_eq, cases_lt, ne_eqb}
-use Rattle.std.proofs.lemmas.List.Edits.{length-insert, get_or-insert_below, get_or-insert_at, get_or-insert_above}
+use Rattle.std.proofs.lemmas.Bool.{cases_eq, ne_eqb}
+use Rattle.std.proofs.lemmas.List.{get_or_at, get_or_append_left, length_push}
 use Rattle.xc_intents.specs.declared.slots.Slot.{Slot}
 use Rattle.xc_intents.specs.declared.slots.Chain.{Chain}
 use Rattle.xc_intents.specs.Slots.{at, chain_at, no_chain, mine, Skips, NextTo, IsLast, LastTo, PassedTo, ChainFits, HasChain, NoChain}
-use Rattle.xc_intents.specs.Slots.{Rises, IsPlace, Linked, slots_and, chain_and, bare}
+use Rattle.xc_intents.specs.Slots.{loose, IsTree, Linked, slots_and, chain_and, bare}
+use Rattle.xc_intents.proofs.Trees.{tree-one, length-loose, at-loose}
 use Rattle.xc_intents.proofs.Chains.{Fewer, Fewer-set, NextTo-fewer, LastTo-fewer, PassedTo-fewer, at-set_same, at-set_other, chains-set}
-use Rattle.xc_intents.proofs.Chains.{has-set, rises-set, bare-to}
+use Rattle.xc_intents.proofs.Chains.{has-set, tree-set, bare-to}
 
 -- ---- one more slot, of another transaction or of this one
 
@@ -166,8 +166,7 @@ module _ (xs ys : List Slot) (cs : List Chain) (n e : ℕ) (b : e < length cs) (
     where
       apart : (k : ℕ) → k < length cs → k ≢ e → (chain_at cs k).txn ≢ (chain_at cs e).txn
       apart k low other same =
-          ⊎_elim (λ (lt : k < e). let r = l.sorted k e lt b in absurd (omega arith))
-          (λ (gt : e ≤ k). let r = l.sorted e k (omega arith) low in absurd (omega arith)) (cases_lt k e)
+          other (tree-one cs (length cs) k e l.tree low b same)
 
   pub Linked-behind : Linked ys (set cs e (chain_and (chain_at cs e) n)) (n + 1)
   Linked-behind = record {
@@ -178,7 +177,7 @@ module _ (xs ys : List Slot) (cs : List Chain) (n e : ℕ) (b : e < length cs) (
         (λ (here : i ≡ n). (e, b, subst (λ z. (chain_at cs e).txn ≡ (at ys z).txn) (sym here) (sym txn-n)))
         (λ (other : i ≢ n). let h : HasChain cs (at xs i).txn = l.has i (omega arith) in (h.0, h.1, h.2 ∙ sym (f.txn i a)))
         (cases_eq i n));
-    sorted = rises-set cs e (chain_and (chain_at cs e) n) b refl l.sorted;
+    tree = tree-set cs e (chain_and (chain_at cs e) n) b refl l.tree;
   }
 
 -- as the code writes it
@@ -207,158 +206,74 @@ pub bare-and : (xs : List Slot) (cs : List Chain) (n e : ℕ) → n < length xs 
     → map bare (slots_and xs (chain_at cs e).last n) ≡ map bare xs
 bare-and xs cs n e a b l = bare-to xs (chain_at cs e).last (Some n) (λ i is. let low : i < n = last-below xs cs n e i b l is in omega arith)
 
--- ---- one more chain
+-- ---- chains in another tree, and one more chain
 
--- at the place of a transaction stands its chain, or it has none
-pub none-at : (cs : List Chain) (t e : ℕ) → Rises cs → IsPlace cs t e → (e < length cs → (chain_at cs e).txn ≢ t) → NoChain cs t
-none-at cs t e rises place other k low same =
-    ⊎_elim
-    (λ (lt : k < e). let p = place.below k lt in absurd (omega arith))
-    (λ (ge : e ≤ k). ⊎_elim
-    (λ (here : k ≡ e). other (omega arith) (subst (λ z. (chain_at cs z).txn ≡ t) here same))
-    (λ (ne : k ≢ e). let r = rises e k (omega arith) low in let p = place.above e (omega arith) (omega arith) in absurd (omega arith))
-    (cases_eq k e))
-    (cases_lt k e)
+fits-loose : (xs : List Slot) (n : ℕ) (c d : Chain) → loose d ≡ loose c → ChainFits xs n c → ChainFits xs n d
+fits-loose xs n c d e fits = from (subst (ChainFits xs n) (sym e) (to fits))
+  where
+    passed-to : (o : Option ℕ) → PassedTo xs n c o → PassedTo xs n (loose c) o
+    passed-to None s = tt
+    passed-to (Some p) s = record { below = s.below; same = s.same; none = s.none }
 
-module _ (cs : List Chain) (t e : ℕ) (place : IsPlace cs t e) where
-  -- where each chain stands afterwards
-  opened-at : (k : ℕ) → ((k < e) × (chain_at (insert cs e (no_chain t)) k ≡ chain_at cs k)) ⊎
-      (((k ≡ e) × (chain_at (insert cs e (no_chain t)) k ≡ no_chain t)) ⊎
-      ((j : ℕ) × (e ≤ j) × (k ≡ j + 1) × (chain_at (insert cs e (no_chain t)) k ≡ chain_at cs j)))
-  opened-at zero = ⊎_elim
-      (λ (lt : 0 < e). inl (lt, get_or-insert_below cs e (no_chain t) (no_chain 0) 0 lt place.within))
-      (λ (ge : e ≤ 0). let same : 0 ≡ e = omega arith in
-      inr (inl (
-        same,
-        subst
-            (λ z. chain_at (insert cs e (no_chain t)) z ≡ no_chain t) (sym same)
-            (get_or-insert_at cs e (no_chain t) (no_chain 0) place.within),
-      )))
-      (cases_lt 0 e)
-  opened-at (suc j) = ⊎_elim
-      (λ (lt : suc j < e). inl (lt, get_or-insert_below cs e (no_chain t) (no_chain 0) (suc j) lt place.within))
-      (λ (ge : e ≤ suc j). ⊎_elim
-      (λ (here : suc j ≡ e). inr
-      (inl (
-        here,
-        subst (λ z. chain_at (insert cs e (no_chain t)) z ≡ no_chain t) (sym here)
-            (get_or-insert_at cs e (no_chain t) (no_chain 0) place.within),
-      )))
-      (λ (other : suc j ≢ e). let up : e ≤ j = omega arith in
-      inr (inr (
-        j,
-        up,
-        omega arith,
-        subst
-            (λ z. chain_at (insert cs e (no_chain t)) z ≡ chain_at cs j) (omega arith)
-            (get_or-insert_above cs e (no_chain t) (no_chain 0) j up place.within),
-      )))
-      (cases_eq (suc j) e))
-      (cases_lt (suc j) e)
+    passed-from : (o : Option ℕ) → PassedTo xs n (loose d) o → PassedTo xs n d o
+    passed-from None s = tt
+    passed-from (Some p) s = record { below = s.below; same = s.same; none = s.none }
 
-  -- the chain with no slot, of a transaction that no linked slot is of
-  none-fits : (xs : List Slot) (n : ℕ) → ((i : ℕ) → i < n → (at xs i).txn ≢ t) → ChainFits xs n (no_chain t)
-  none-fits xs n other = record {
-    first = λ k low high. not-mine t (at xs k) (λ same. other k high (sym same));
-    last = λ k low high. not-mine t (at xs k) (λ same. other k high (sym same));
-    passed = tt;
-    ends = λ e. e;
-    lasts = λ i low same e. absurd (other i low same);
-  }
+    to : ChainFits xs n c → ChainFits xs n (loose c)
+    to s = record { first = s.first; last = s.last; passed = passed-to c.passed s.passed; ends = s.ends; lasts = s.lasts }
 
-  opened-before : (k : ℕ) → k < length (insert cs e (no_chain t)) → k ≢ e
-      → (j : ℕ) × (j < length cs) × (chain_at (insert cs e (no_chain t)) k ≡ chain_at cs j)
-      × (((k < e) × (j ≡ k)) ⊎ ((e < k) × (k ≡ j + 1)))
-  opened-before k low ne =
-      let long = length-insert cs e (no_chain t) place.within in
-      let within = place.within in
+    from : ChainFits xs n (loose d) → ChainFits xs n d
+    from s = record { first = s.first; last = s.last; passed = passed-from d.passed s.passed; ends = s.ends; lasts = s.lasts }
+
+-- where each chain fits, and each slot has one, in any tree
+pub Linked-tree : (xs : List Slot) (cs ds : List Chain) (n : ℕ)
+    → ((i : ℕ) → i < n → NextTo (at xs i).txn xs (i + 1) n (at xs i).next)
+    → ((e : ℕ) → e < length cs → ChainFits xs n (chain_at cs e)) → ((i : ℕ) → i < n → HasChain cs (at xs i).txn)
+    → map loose ds ≡ map loose cs → IsTree ds (length ds) → Linked xs ds n
+Linked-tree xs cs ds n links fits has same tree = record {
+  links = links;
+  chains = λ e b.
+      let long = length-loose cs ds same in
+      fits-loose xs n (chain_at cs e) (chain_at ds e) (at-loose cs ds e same (omega arith)) (fits e (omega arith));
+  has = λ i a.
+      let long = length-loose cs ds same in
+      let h : HasChain cs (at xs i).txn = has i a in
+      (h.0, omega (arith, h.1), ap (λ (c : Chain). c.txn) (at-loose cs ds h.0 same h.1) ∙ h.2);
+  tree = tree;
+}
+
+pub chain-at-push : (cs : List Chain) (c : Chain) → chain_at (cs ++ c ∷ []) (length cs) ≡ c
+chain-at-push cs c = get_or_at cs c [] (no_chain 0) (length cs) refl
+
+pub chain-at-before : (cs : List Chain) (c : Chain) (k : ℕ) → k < length cs → chain_at (cs ++ c ∷ []) k ≡ chain_at cs k
+chain-at-before cs c k h = get_or_append_left cs (c ∷ []) (no_chain 0) k h
+
+-- the chain with no slot, of a transaction that no linked slot is of
+none-fits : (xs : List Slot) (n t : ℕ) → ((i : ℕ) → i < n → (at xs i).txn ≢ t) → ChainFits xs n (no_chain t)
+none-fits xs n t other = record {
+  first = λ k low high. not-mine t (at xs k) (λ same. other k high (sym same));
+  last = λ k low high. not-mine t (at xs k) (λ same. other k high (sym same));
+  passed = tt;
+  ends = λ e. e;
+  lasts = λ i low same e. absurd (other i low same);
+}
+
+module _ (cs ds : List Chain) (t : ℕ) (none : NoChain cs t) (same : map loose ds ≡ map loose (cs ++ no_chain t ∷ []))
+    (tree : IsTree ds (length ds)) where
+  pub Linked-open : (xs : List Slot) (n : ℕ) → Linked xs cs n → Linked xs ds n
+  Linked-open xs n l =
+      Linked-tree xs (cs ++ no_chain t ∷ []) ds n l.links
+      (λ k low. let long = length_push cs (no_chain t) in
       ⊎_elim
-      (λ (w : (k < e) × (chain_at (insert cs e (no_chain t)) k ≡ chain_at cs k)). let lt : k < e = w.0 in
-      (k, omega arith, w.1, inl (lt, refl)))
-      (λ r. ⊎_elim
-      (λ (w : (k ≡ e) × (chain_at (insert cs e (no_chain t)) k ≡ no_chain t)). absurd (ne w.0))
-      (λ (w : (j : ℕ) × (e ≤ j) × (k ≡ j + 1) × (chain_at (insert cs e (no_chain t)) k ≡ chain_at cs j)).
-      let up : e ≤ w.0 = w.1 in let is : k ≡ w.0 + 1 = w.2 in (w.0, omega arith, w.3, inr (omega arith, is))) r)
-      (opened-at k)
-
-  opened-here : chain_at (insert cs e (no_chain t)) e ≡ no_chain t
-  opened-here = get_or-insert_at cs e (no_chain t) (no_chain 0) place.within
-
-  module _ (none : NoChain cs t) where
-    apart-place : (k : ℕ) → e ≤ k → k < length cs → t < (chain_at cs k).txn
-    apart-place k a b = let p = place.above k a b in let ne : (chain_at cs k).txn ≢ t = none k b in omega arith
-
-    opened-rises : Rises cs → Rises (insert cs e (no_chain t))
-    opened-rises rises a b lt high =
-        let long = length-insert cs e (no_chain t) place.within in
-        let within = place.within in
-        let here : (chain_at (insert cs e (no_chain t)) e).txn ≡ t = ap (λ (z : Chain). z.txn) opened-here in
-        ⊎_elim
-        (λ (a_here : a ≡ e).
-        let w = opened-before b high (omega arith) in
-        let r : t < (chain_at cs w.0).txn = ⊎_elim (λ (v : (b < e) × (w.0 ≡ b)). let v0 = v.0 in absurd (omega arith))
-        (λ (v : (e < b) × (b ≡ w.0 + 1)). let v0 = v.0 in let v1 = v.1 in apart-place w.0 (omega arith) w.1) w.3 in
-        let is_b = ap (λ (z : Chain). z.txn) w.2 in
-        let is_a : (chain_at (insert cs e (no_chain t)) a).txn ≡ t = subst
-        (λ z. (chain_at (insert cs e (no_chain t)) z).txn ≡ t) (sym a_here) here in
-        omega arith)
-        (λ (a_other : a ≢ e).
-        let v = opened-before a (omega arith) a_other in
-        let is_a = ap (λ (z : Chain). z.txn) v.2 in
-        ⊎_elim
-        (λ (b_here : b ≡ e).
-        let r : (chain_at cs v.0).txn < t = ⊎_elim
-        (λ (x : (a < e) × (v.0 ≡ a)). let x0 = x.0 in let x1 = x.1 in place.below v.0 (omega arith))
-        (λ (x : (e < a) × (a ≡ v.0 + 1)). let x0 = x.0 in absurd (omega arith)) v.3 in
-        let is_b : (chain_at (insert cs e (no_chain t)) b).txn ≡ t = subst
-        (λ z. (chain_at (insert cs e (no_chain t)) z).txn ≡ t) (sym b_here) here in
-        omega arith)
-        (λ (b_other : b ≢ e).
-        let w = opened-before b high b_other in
-        let is_b = ap (λ (z : Chain). z.txn) w.2 in
-        let up : v.0 < w.0 = ⊎_elim
-        (λ (x : (a < e) × (v.0 ≡ a)). let x0 = x.0 in let x1 = x.1 in
-        ⊎_elim (λ (y : (b < e) × (w.0 ≡ b)). let y1 = y.1 in omega arith)
-        (λ (y : (e < b) × (b ≡ w.0 + 1)). let y0 = y.0 in let y1 = y.1 in omega arith) w.3)
-        (λ (x : (e < a) × (a ≡ v.0 + 1)). let x0 = x.0 in let x1 = x.1 in
-        ⊎_elim (λ (y : (b < e) × (w.0 ≡ b)). let y0 = y.0 in absurd (omega arith))
-        (λ (y : (e < b) × (b ≡ w.0 + 1)). let y1 = y.1 in omega arith) w.3)
-        v.3 in
-        let r = rises v.0 w.0 up w.1 in
-        omega arith)
-        (cases_eq b e))
-        (cases_eq a e)
-
-    pub Linked-open : (xs : List Slot) (n : ℕ) → Linked xs cs n → Linked xs (insert cs e (no_chain t)) n
-    Linked-open xs n l = record {
-      links = l.links;
-      chains = λ k low. ⊎_elim
-          (λ (here : k ≡ e). subst (λ z. ChainFits xs n (chain_at (insert cs e (no_chain t)) z)) (sym here)
-          (subst (ChainFits xs n) (sym opened-here) (none-fits xs n unlike)))
-          (λ (ne : k ≢ e). let w = opened-before k low ne in subst (ChainFits xs n) (sym w.2) (l.chains w.0 w.1))
-          (cases_eq k e);
-      has = λ i a. has-opened (at xs i).txn (l.has i a);
-      sorted = opened-rises l.sorted;
-    }
-      where
-        unlike : (i : ℕ) → i < n → (at xs i).txn ≢ t
-        unlike i a same = let h : HasChain cs (at xs i).txn = l.has i a in none h.0 h.1 (h.2 ∙ same)
-
-        has-opened : (u : ℕ) → HasChain cs u → HasChain (insert cs e (no_chain t)) u
-        has-opened u h =
-            let long = length-insert cs e (no_chain t) place.within in
-            let low = h.1 in
-            ⊎_elim
-            (λ (lt : h.0 < e). (
-              h.0,
-              omega arith,
-              ap
-                  (λ (z : Chain). z.txn) (get_or-insert_below cs e (no_chain t) (no_chain 0) h.0 lt place.within) ∙ h.2,
-            ))
-            (λ (ge : e ≤ h.0). (
-              h.0 + 1,
-              omega arith,
-              ap
-                  (λ (z : Chain). z.txn) (get_or-insert_above cs e (no_chain t) (no_chain 0) h.0 ge place.within) ∙ h.2,
-            ))
-            (cases_lt h.0 e)
+      (λ (here : k ≡ length cs). subst (λ z. ChainFits xs n (chain_at (cs ++ no_chain t ∷ []) z)) (sym here)
+      (subst (ChainFits xs n) (sym (chain-at-push cs (no_chain t))) (none-fits xs n t unlike)))
+      (λ (ne : k ≢ length cs). let low : k < length cs = omega arith in
+      subst (ChainFits xs n) (sym (chain-at-before cs (no_chain t) k low)) (l.chains k low))
+      (cases_eq k (length cs)))
+      (λ i a. let long = length_push cs (no_chain t) in
+      let h : HasChain cs (at xs i).txn = l.has i a in
+      (h.0, omega (arith, h.1), ap (λ (c : Chain). c.txn) (chain-at-before cs (no_chain t) h.0 h.1) ∙ h.2))
+      same tree
+    where
+      unlike : (i : ℕ) → i < n → (at xs i).txn ≢ t
+      unlike i a is = let h : HasChain cs (at xs i).txn = l.has i a in none h.0 h.1 (h.2 ∙ is)

@@ -223,8 +223,9 @@ module _ (xs ys : List Slot) (t lo hi : ℕ) (same : map bare ys ≡ map bare xs
       → held_in (set ys i (dead (at ys i))) ≡ without_first (is_part t lo hi) (held_in xs)
   found-left i found = (first-found i found).1 ∙ ap (without_first (is_part t lo hi)) (held-same xs ys same)
 
-  pub chained-same : (cs : List Chain) → Linked ys cs (length ys) → length xs ≤ 2 ^ 32 → IsChained ys cs
-  chained-same cs l small = record { linked = l; hashed = hashed-same xs ys same hashed; small = omega (arith, length-bare xs ys same) }
+  pub chained-same : (cs : List Chain) → Linked ys cs (length ys) → length xs ≤ 2 ^ 32 → length cs ≤ 2 ^ 32 → IsChained ys cs
+  chained-same cs l small few =
+      record { linked = l; hashed = hashed-same xs ys same hashed; small = omega (arith, length-bare xs ys same); few = few }
 
 pub chained-dies : (ys : List Slot) (cs : List Chain) (i : ℕ) → i < length ys → IsChained ys cs → IsChained (set ys i (dead (at ys i))) cs
 chained-dies ys cs i b c =
@@ -235,4 +236,5 @@ chained-dies ys cs i b c =
           at-field (λ (z : Slot). z.hash) ys i k (dead (at ys i)) b refl ∙ c.hashed k (omega arith)
           ∙ sym (at-field (λ (z : Slot). hash_of z.op.key) ys i k (dead (at ys i)) b refl);
       small = omega (arith, c.small);
+      few = c.few;
     }

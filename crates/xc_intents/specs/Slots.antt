@@ -3,9 +3,12 @@
 --     NextTo t xs from n o      o is the first slot of t from `from` on, up to n; dead slots of t may stand before it
 --     next_of xs c      where the walk of the chain c goes on; WalkTo xs n c o      what is known there
 --     ChainFits xs n c      the chain's ends, and what its last walk passed, are right for the first n slots
+--     Leads cs t m rest cur e      in the tree of the chains m steps lead from cur to e, for t of which `rest` is left
+--     IsTree cs n      the first n chains are in the tree, each where its transaction leads
 --     Linked xs cs n      so are all links and chains, and each of these slots has a chain
 --     IsChained xs cs      all slots are linked, and know their keys' hashes
-use Rattle.std.specs.Prelude.{◌≡◌, ◌≢◌, ℕ, ◌+◌, ◌-◌, ◌≤◌, ◌<◌, ◌^◌, min, Bool, true, false, ◌&&◌, ◌==◌, List, [], Option, Some, None}
+use Rattle.std.specs.Prelude.{◌≡◌, ◌≢◌, ℕ, zero, suc, ◌+◌, ◌-◌, ◌≤◌, ◌<◌, ◌^◌, ◌*◌, ◌%◌, min, Bool, true, false, ◌&&◌, ◌==◌, List, []}
+use Rattle.std.specs.Prelude.{Option, Some, None}
 use Rattle.std.specs.Prelude.{length, map, filter, slice_index_or, slice_set, nat_le, is_some, if◌then◌else◌}
 use Rattle.std.specs.Option.{option_map_or}
 use Rattle.xc_record.specs.Hash.{hash_of}
@@ -28,7 +31,7 @@ held_in xs = map slot_op (filter is_live xs)
 
 -- for how many more operations there is room, by the capacities and the lengths
 abbrev pub room_in : ℕ → ℕ → ℕ → ℕ → ℕ
-room_in slot_cap slot_len chain_cap chain_len = min (min slot_cap (2 ^ 32) - slot_len) (chain_cap - chain_len)
+room_in slot_cap slot_len chain_cap chain_len = min (min slot_cap (2 ^ 32) - slot_len) (min chain_cap (2 ^ 32) - chain_len)
 
 abbrev pub blank : Slot
 blank = record { next = None; txn = 0; hash = 0; sub = 0; live = false; op = record { key = []; value = None } }
@@ -37,7 +40,7 @@ abbrev pub at : List Slot → ℕ → Slot
 at xs i = slice_index_or xs i blank
 
 abbrev pub no_chain : ℕ → Chain
-no_chain t = record { txn = t; first = None; last = None; lo = 0; hi = 0; passed = None }
+no_chain t = record { txn = t; first = None; last = None; lo = 0; hi = 0; passed = None; left = None; right = None }
 
 abbrev pub chain_at : List Chain → ℕ → Chain
 chain_at cs e = slice_index_or cs e (no_chain 0)
@@ -149,28 +152,55 @@ is_used c = is_some c.first
 abbrev pub HasChain : List Chain → ℕ → Type 0
 HasChain cs t = (e : ℕ) × (e < length cs) × ((chain_at cs e).txn ≡ t)
 
-abbrev pub Rises : List Chain → Type 0
-Rises cs = (a b : ℕ) → a < b → b < length cs → (chain_at cs a).txn < (chain_at cs b).txn
-
--- so many chains are of transactions below t
-pub record IsPlace (cs : List Chain) (t e : ℕ) : Type 0 where
-  pub within : e ≤ length cs
-  pub below : (k : ℕ) → k < e → (chain_at cs k).txn < t
-  pub above : (k : ℕ) → e ≤ k → k < length cs → t ≤ (chain_at cs k).txn
+abbrev pub Distinct : List Chain → Type 0
+Distinct cs = (a b : ℕ) → a < b → b < length cs → (chain_at cs a).txn ≢ (chain_at cs b).txn
 
 abbrev pub NoChain : List Chain → ℕ → Type 0
 NoChain cs t = (k : ℕ) → k < length cs → (chain_at cs k).txn ≢ t
+
+-- ---- the tree of the chains
+
+-- what the tree knows of a chain, and what it doesn't
+abbrev pub twig : Chain → Chain
+twig c = record (no_chain c.txn) { left = c.left; right = c.right }
+
+abbrev pub loose : Chain → Chain
+loose c = record c { left = None; right = None }
+
+-- the 32 bits of a transaction's number say on which side its chain is, from the highest on
+abbrev pub is_right : ℕ → Bool
+is_right rest = nat_le (2 ^ 31) rest
+
+-- what is left of the number behind its first bit
+abbrev pub behind_bit : ℕ → ℕ
+behind_bit rest = rest * 2 % 2 ^ 32
+
+abbrev pub below : Bool → Chain → Option ℕ
+below side c = if side then c.right else c.left
+
+abbrev pub hung : Bool → ℕ → Chain → Chain
+hung side n c = if side then record c { right = Some n } else record c { left = Some n }
+
+abbrev pub Leads : List Chain → ℕ → ℕ → ℕ → ℕ → ℕ → Type 0
+Leads cs t zero rest cur e = cur ≡ e
+Leads cs t (suc m) rest cur e = ((chain_at cs cur).txn ≢ t) × (j : ℕ) × (below (is_right rest) (chain_at cs cur) ≡ Some j)
+    × Leads cs t m (behind_bit rest) j e
+
+pub record IsTree (cs : List Chain) (n : ℕ) : Type 0 where
+  pub later : (i j : ℕ) (side : Bool) → i < n → below side (chain_at cs i) ≡ Some j → (i < j) × (j < n)
+  pub found : (e : ℕ) → e < n → (m : ℕ) × Leads cs (chain_at cs e).txn m (chain_at cs e).txn 0 e
 
 pub record Linked (xs : List Slot) (cs : List Chain) (n : ℕ) : Type 0 where
   pub links : (i : ℕ) → i < n → NextTo (at xs i).txn xs (i + 1) n (at xs i).next
   pub chains : (e : ℕ) → e < length cs → ChainFits xs n (chain_at cs e)
   pub has : (i : ℕ) → i < n → HasChain cs (at xs i).txn
-  pub sorted : Rises cs
+  pub tree : IsTree cs (length cs)
 
 pub record IsChained (xs : List Slot) (cs : List Chain) : Type 0 where
   pub linked : Linked xs cs (length xs)
   pub hashed : (i : ℕ) → i < length xs → (at xs i).hash ≡ hash_of (at xs i).op.key
   pub small : length xs ≤ 2 ^ 32
+  pub few : length cs ≤ 2 ^ 32
 
 -- and so many of them are dead
 pub record AreSlots (xs : List Slot) (cs : List Chain) (dead : ℕ) : Type 0 where

@@ -11,7 +11,7 @@ use std::alloc::{AllocError, Global};
 use std::marker::Model;
 use xc_record::Op;
 
-// Slots are numbered in 32 bits.
+// Slots and chains are numbered in 32 bits.
 const MOST_SLOTS: usize = 1 << 32;
 
 /// The operations that wait, in the order in which they were held. Contracts see them as that list, beside for how many
@@ -22,6 +22,8 @@ pub struct Intents {
     chains: Vec<Chain>,
     // how many slots are dead
     dead: usize,
+    // the chain that was asked for last, which is tried first
+    recent: usize,
 }
 
 impl Model for Intents {
@@ -49,6 +51,7 @@ impl Intents {
             slots: Vec::new(alloc),
             chains: Vec::new(alloc),
             dead: 0,
+            recent: 0,
         }
     }
 
@@ -80,7 +83,7 @@ impl Intents {
         ensures same { self.new.held ≡ self.old.held }
         ensures kept { self.old.spare ≤ self.new.spare }
     {
-        if n > MOST_SLOTS - self.slots.len() {
+        if n > MOST_SLOTS - self.slots.len() || n > MOST_SLOTS - self.chains.len() {
             return Err(AllocError);
         }
         self.slots.reserve(n)?;
@@ -96,6 +99,7 @@ impl Intents {
         append(
             &mut self.slots,
             &mut self.chains,
+            &mut self.recent,
             txn,
             sub,
             op.key,
@@ -104,14 +108,22 @@ impl Intents {
     }
 
     /// Takes out the first operation of the transaction whose key's hash is from `lo` to `hi`: None exactly where there
-    /// is none. It finds the transaction by halves and goes through its operations from where the last call for it and
-    /// a range that holds this one stood. So calls until None pass over each of them once, those out of the range too.
+    /// is none. It finds the transaction by the bits of its number, unless the last call was for it too, and goes
+    /// through its operations from where the last call for it and a range that holds this one stood. So calls until
+    /// None are one walk, which passes over each of them once, those out of the range too.
     pub fn take_first(&mut self, txn: u32, lo: u16, hi: u16) -> Option<Held>
         ensures taken { result ≡ option_map given (find (is_part txn lo hi) self.old.held) }
         ensures left { self.new.held ≡ without_first (is_part txn lo hi) self.old.held }
         ensures room { self.old.spare ≤ self.new.spare }
     {
-        match take(&mut self.slots, &mut self.chains, txn, lo, hi) {
+        match take(
+            &mut self.slots,
+            &mut self.chains,
+            &mut self.recent,
+            txn,
+            lo,
+            hi,
+        ) {
             None => None,
             Some(held) => {
                 self.dead += 1;

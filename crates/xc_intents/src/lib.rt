@@ -4,6 +4,7 @@
 mod held;
 mod intents;
 mod slots;
+mod tree;
 
 pub use held::Held;
 pub use intents::Intents;

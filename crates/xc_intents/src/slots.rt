@@ -1,7 +1,7 @@
 // The slots that hold operations, in the order held, and the chains of the transactions through them. A slot whose
 // operation was taken out is dead, and stays in its place until the slots are gathered.
 ghost use Rattle.std.specs.Prelude.{◌≡◌, ◌<◌, ◌≤◌, ◌+◌, ◌-◌, ◌^◌, ◌++◌, ◌∷◌, ◌&&◌, ◌==◌, ℕ, List, nat_lt, [], true};
-ghost use Rattle.std.specs.Prelude.{false, length, map, filter, slice_set, slice_index_or, insert, ⊤, None, Some};
+ghost use Rattle.std.specs.Prelude.{false, length, map, filter, slice_set, slice_index_or, ⊤, None, Some};
 ghost use Rattle.std.specs.Prelude.{MatchOption, if◌then◌else◌, OnOk};
 ghost use Rattle.std.specs.Vec.{vec_len, vec_capacity};
 ghost use Rattle.xc_intents.specs.declared.slots.Slot.{Slot};
@@ -9,12 +9,12 @@ ghost use Rattle.xc_record.specs.Hash.{hash_of};
 ghost use Rattle.std.specs.List.{find};
 ghost use Rattle.std.specs.Option.{option_map};
 ghost use Rattle.xc_intents.specs.HeldOps.{in_range, is_part, without_first, given};
-ghost use Rattle.xc_intents.specs.Slots.{Linked, IsPlace, Rises, HasChain, chain_at, no_chain, at, in_walk, mine};
-ghost use Rattle.xc_intents.specs.Slots.{held_in, next_of, chain_to, slots_to, begun, Moves, IsFound, bare, NoChain};
-ghost use Rattle.xc_intents.specs.Slots.{chain_and, slots_and, walk_of, IsChained, fresh, dead, slot_op, is_live};
-ghost use Rattle.xc_intents.specs.Slots.{is_used, cut};
+ghost use Rattle.xc_intents.specs.Slots.{Linked, IsTree, HasChain, chain_at, at, in_walk, mine};
+ghost use Rattle.xc_intents.specs.Slots.{held_in, next_of, chain_to, slots_to, begun, Moves, IsFound, bare};
+ghost use Rattle.xc_intents.specs.Slots.{chain_and, slots_and, walk_of, IsChained, fresh, dead, slot_op, is_live, cut};
 
 use crate::held::Held;
+use crate::tree::{drop_unused, find, open};
 use xc_base::{Key, Value};
 use xc_record::{Op, hash};
 
@@ -38,24 +38,9 @@ pub(crate) struct Chain {
     pub(crate) lo: u16,
     pub(crate) hi: u16,
     pub(crate) passed: Option<u32>,
-}
-
-// How many chains are of transactions below this one, by halves.
-pub(crate) fn place(chains: &[Chain], txn: u32) -> usize
-    requires { Rises chains.now }
-    ensures { IsPlace chains.now txn result }
-{
-    let mut low = 0;
-    let mut high = chains.len();
-    while low < high {
-        let middle = low + (high - low) / 2;
-        if chains[middle].txn < txn {
-            low = middle + 1;
-        } else {
-            high = middle;
-        }
-    }
-    low
+    // the chains below it in the tree in which a chain is found by the bits of its transaction's number
+    pub(crate) left: Option<u32>,
+    pub(crate) right: Option<u32>,
 }
 
 // Whether the walk of the chain looks for the slot.
@@ -177,57 +162,6 @@ fn link(slots: &mut [Slot], chains: &mut [Chain], e: usize, i: u32)
     put_behind(slots, &mut chains[e], i);
 }
 
-// The chain of the transaction, if it has one.
-fn find(chains: &[Chain], txn: u32) -> Option<usize>
-    requires { Rises chains.now }
-    ensures { MatchOption result (NoChain chains.now txn)
-        (λ e. (e < length chains.now) × ((chain_at chains.now e).txn ≡ txn)) }
-{
-    let e = place(chains, txn);
-    if e < chains.len() && chains[e].txn == txn {
-        Some(e)
-    } else {
-        None
-    }
-}
-
-// Puts a chain without slots at this place.
-fn put_chain(chains: &mut Vec<Chain>, e: usize, txn: u32)
-    requires place { e ≤ vec_len chains.old }
-    requires room { vec_len chains.old < vec_capacity chains.old }
-    ensures chains { chains.new.items ≡ insert chains.old.items e (no_chain txn) }
-    ensures len { vec_len chains.new ≡ vec_len chains.old + 1 }
-    ensures capacity { vec_capacity chains.new ≡ vec_capacity chains.old }
-{
-    let chain = Chain {
-        txn,
-        first: None,
-        last: None,
-        lo: 0,
-        hi: 0,
-        passed: None,
-    };
-    let _ = chains.insert(e, chain);
-}
-
-// The chain of the transaction, which is made where there is none.
-fn open(chains: &mut Vec<Chain>, txn: u32) -> usize
-    requires rises { Rises chains.old.items }
-    requires room { vec_len chains.old < vec_capacity chains.old }
-    ensures linked { (xs : List Slot) (n : ℕ) → Linked xs chains.old.items n → Linked xs chains.new.items n }
-    ensures chain { result < length chains.new.items }
-    ensures txn { (chain_at chains.new.items result).txn ≡ txn }
-    ensures len { vec_len chains.new ≤ vec_len chains.old + 1 }
-    ensures capacity { vec_capacity chains.new ≡ vec_capacity chains.old }
-{
-    if let Some(e) = find(chains, txn) {
-        return e;
-    }
-    let e = place(chains, txn);
-    put_chain(chains, e, txn);
-    e
-}
-
 // Puts an operation into a slot behind all others, which is in no chain yet.
 fn put_last(slots: &mut Vec<Slot>, txn: u32, sub: u8, key: Key, value: Option<Value>)
     requires { vec_len slots.old < vec_capacity slots.old }
@@ -249,6 +183,7 @@ fn put_last(slots: &mut Vec<Slot>, txn: u32, sub: u8, key: Key, value: Option<Va
 pub(crate) fn append(
     slots: &mut Vec<Slot>,
     chains: &mut Vec<Chain>,
+    recent: &mut usize,
     txn: u32,
     sub: u8,
     key: Key,
@@ -258,6 +193,7 @@ pub(crate) fn append(
     requires slot { vec_len slots.old < vec_capacity slots.old }
     requires small { vec_len slots.old < 2 ^ 32 }
     requires chain { vec_len chains.old < vec_capacity chains.old }
+    requires few { vec_len chains.old < 2 ^ 32 }
     ensures chained { IsChained slots.new.items chains.new.items }
     ensures held { held_in slots.new.items ≡ held_in slots.old.items
         ++ record { key = key; txn = txn; sub = sub; value = value } ∷ [] }
@@ -268,20 +204,30 @@ pub(crate) fn append(
 {
     let i = slots.len();
     put_last(slots, txn, sub, key, value);
-    let e = open(chains, txn);
+    let e = open(chains, *recent, txn);
+    *recent = e;
     link(slots, chains, e, i as u32);
 }
 
 // The first slot that is live, of the transaction, and with a hash from `lo` to `hi`.
-fn first(slots: &mut [Slot], chains: &mut [Chain], txn: u32, lo: u16, hi: u16) -> Option<usize>
+fn first(
+    slots: &mut [Slot],
+    chains: &mut [Chain],
+    recent: &mut usize,
+    txn: u32,
+    lo: u16,
+    hi: u16,
+) -> Option<usize>
     requires { Linked slots.old chains.old (length slots.old) }
     ensures linked { Linked slots.new chains.new (length slots.new) }
     ensures same { map bare slots.new ≡ map bare slots.old }
+    ensures chains { length chains.new ≡ length chains.old }
     ensures found { IsFound slots.new (walk_of txn lo hi) result }
 {
-    match find(chains, txn) {
+    match find(chains, *recent, txn) {
         None => None,
         Some(e) => {
+            *recent = e;
             begin(&mut chains[e], lo, hi);
             seek(slots, chains, e)
         }
@@ -306,6 +252,7 @@ fn take_out(slots: &mut [Slot], i: usize) -> Held
 pub(crate) fn take(
     slots: &mut [Slot],
     chains: &mut [Chain],
+    recent: &mut usize,
     txn: u32,
     lo: u16,
     hi: u16,
@@ -315,7 +262,7 @@ pub(crate) fn take(
     ensures taken { result ≡ option_map given (find (is_part txn lo hi) (held_in slots.old)) }
     ensures left { held_in slots.new ≡ without_first (is_part txn lo hi) (held_in slots.old) }
 {
-    match first(slots, chains, txn, lo, hi) {
+    match first(slots, chains, recent, txn, lo, hi) {
         None => None,
         Some(i) => {
             let _value: Option<Value> = slots[i].op.value;
@@ -331,15 +278,6 @@ fn drop_dead(slots: &mut Vec<Slot>)
     ensures capacity { vec_capacity slots.new ≡ vec_capacity slots.old }
 {
     slots.retain(|slot| slot.live);
-}
-
-// Drops the chains without slots.
-fn drop_unused(chains: &mut Vec<Chain>)
-    ensures chains { chains.new.items ≡ filter is_used chains.old.items }
-    ensures len { vec_len chains.new ≤ vec_len chains.old }
-    ensures capacity { vec_capacity chains.new ≡ vec_capacity chains.old }
-{
-    chains.retain(|chain| chain.first.is_some());
 }
 
 // Takes all slots out of the chain.
@@ -383,7 +321,7 @@ fn link_again(slots: &mut [Slot], chains: &mut [Chain], i: usize)
     ensures kept { (t : ℕ) → HasChain chains.old t → HasChain chains.new t }
 {
     let txn = unlink(slots, i);
-    if let Some(e) = find(chains, txn) {
+    if let Some(e) = find(chains, 0, txn) {
         link(slots, chains, e, i as u32);
     }
 }
@@ -406,7 +344,7 @@ pub(crate) fn gather(slots: &mut Vec<Slot>, chains: &mut Vec<Chain>)
 
 // Links all slots anew, into chains that are cut first.
 fn chain_anew(slots: &mut [Slot], chains: &mut [Chain])
-    requires rises { Rises chains.old }
+    requires tree { IsTree chains.old (length chains.old) }
     requires small { length slots.old ≤ 2 ^ 32 }
     requires has { (k : ℕ) → k < length slots.old → HasChain chains.old (at slots.old k).txn }
     ensures linked { Linked slots.new chains.new (length slots.new) }

@@ -1,8 +1,10 @@
+ghost use Rattle.std.specs.Prelude.{◌≤◌, ◌<◌};
+
 use super::*;
 use std::alloc::AllocError;
 use std::test::Fail;
 use xc_base::{Key, Value};
-use xc_record::Op;
+use xc_record::{Op, hash};
 
 // The hash of mmm is 42701, of aaa 30785, of ttt 49652.
 fn op(name: &str) -> Option<Op> {
@@ -77,5 +79,125 @@ fn what_is_forgotten_is_of_the_transaction_and_the_range(rt: HostRuntime) -> Res
     assert!(rt; taken(&mut intents, 7, 0, 65535) == 5);
     intents.clear();
     assert!(rt; intents.len() == 0 && taken(&mut intents, 8, 0, 65535) == 99);
+    Ok(())
+}
+
+// An operation in a plain list, and what the random comparison goes by.
+#[derive(Clone, Copy, PartialEq, Eq, Debug)]
+struct Plain {
+    txn: u32,
+    sub: u8,
+    name: u8,
+    hash: u16,
+}
+
+// The next of a row of random numbers, below `n`.
+fn random(state: &mut u64, n: u64) -> u64
+    requires { 1 ≤ n }
+    ensures { result < n }
+{
+    *state = state
+        .wrapping_mul(6_364_136_223_846_793_005)
+        .wrapping_add(1_442_695_040_888_963_407);
+    (*state >> 33) % n
+}
+
+// One of a few transactions, small and large, or any at all.
+fn some_transaction(state: &mut u64) -> u32 {
+    match random(state, 8) {
+        0 => 1,
+        1 => 2,
+        2 => 3,
+        3 => 1 << 31,
+        4 => u32::MAX,
+        5 => 1000 - random(state, 1000) as u32,
+        _ => random(state, 4) as u32 * 65_536 + 7,
+    }
+}
+
+// All hashes, or those of a random range.
+fn some_range(state: &mut u64) -> (u16, u16) {
+    if random(state, 3) == 0 {
+        (0, u16::MAX)
+    } else {
+        (random(state, 65_536) as u16, random(state, 65_536) as u16)
+    }
+}
+
+fn is_part(item: &Plain, txn: u32, lo: u16, hi: u16) -> bool {
+    item.txn == txn && lo <= item.hash && item.hash <= hi
+}
+
+fn take_plain(plain: &mut Vec<Plain>, txn: u32, lo: u16, hi: u16) -> Option<Plain> {
+    let found = plain.iter().position(|item| is_part(item, txn, lo, hi))?;
+    Some(plain.remove(found))
+}
+
+// Holds a random operation in both.
+fn hold_both(intents: &mut Intents, plain: &mut Vec<Plain>, state: &mut u64) -> Option<()> {
+    let txn = some_transaction(state);
+    let sub = random(state, 65) as u8;
+    let name = random(state, 200) as u8;
+    let key = Key::new(&[97 + name % 20, 97 + name / 20]).ok()?;
+    let op = Op { key, value: None };
+    intents.reserve(1).ok()?;
+    intents.hold(txn, sub, op);
+    let hash = hash(&key);
+    plain
+        .push(Plain {
+            txn,
+            sub,
+            name,
+            hash,
+        })
+        .ok()
+}
+
+// What both give is the same.
+fn same_taken(got: &Option<Held>, want: &Option<Plain>) -> bool {
+    match (got, want) {
+        (None, None) => true,
+        (Some(held), Some(item)) => {
+            held.sub == item.sub
+                && held.op.key.bytes() == [97 + item.name % 20, 97 + item.name / 20].as_slice()
+        }
+        _ => false,
+    }
+}
+
+// One random call of both: whether they answered the same.
+fn call_both(intents: &mut Intents, plain: &mut Vec<Plain>, state: &mut u64) -> Option<bool> {
+    let txn = some_transaction(state);
+    let (lo, hi) = some_range(state);
+    match random(state, 400) {
+        0..=249 => hold_both(intents, plain, state)?,
+        250..=379 => {
+            let got = intents.take_first(txn, lo, hi);
+            let want = take_plain(plain, txn, lo, hi);
+            if !same_taken(&got, &want) {
+                return Some(false);
+            }
+        }
+        380..=398 => {
+            intents.forget(txn, lo, hi);
+            plain.retain(|item| !is_part(item, txn, lo, hi));
+        }
+        _ => {
+            intents.clear();
+            plain.clear();
+        }
+    }
+    Some(intents.len() == plain.len())
+}
+
+#[test]
+fn random_calls_answer_as_those_of_a_plain_list(rt: HostRuntime) -> Result<(), Fail> {
+    let mut intents = Intents::new(rt.alloc());
+    let mut plain = Vec::new(rt.alloc());
+    let mut state = 1;
+    for call in 0..50_000u32 {
+        let same = call_both(&mut intents, &mut plain, &mut state).ok_or("memory")?;
+        assert!(rt; same, "call {call}");
+    }
     Ok(())
 }

@@ -46,6 +46,7 @@ returns-clause-chained c =
           (hashed-push xs (fresh c.args.txn c.args.sub
           (record { key = c.args.key; value = c.args.value })) refl c.requires.chained.hashed);
       small = omega (arith, c.args.slots.now.ok.0);
+      few = omega (arith, c.link.ensures.chains, c.deref_mut-2.ensures.len, c.open-e.ensures.len, c.requires.few);
     } in
     subst (λ z. IsChained z (with_items c.open-e.new.chains c.link.new.chains).items)
     (sym (slots_are (goal.at.returns-clause-chained c).After-link))

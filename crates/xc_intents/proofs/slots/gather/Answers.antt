@@ -3,7 +3,7 @@ use Rattle.std.specs.Vec.{with_items}
 use Rattle.std.proofs.lemmas.List.{with_items_is}
 use Rattle.xc_intents.specs.declared.slots.Slot.{Slot}
 use Rattle.xc_intents.specs.declared.slots.Chain.{Chain}
-use Rattle.xc_intents.specs.Slots.{HasChain, at, bare, is_live, is_used, held_in, IsChained}
+use Rattle.xc_intents.specs.Slots.{HasChain, at, bare, is_live, is_used, loose, held_in, IsChained}
 use Rattle.xc_intents.proofs.Chains.{length-bare}
 use Rattle.xc_intents.proofs.Gathers.{has-filter, anew-held, anew-all, anew-chained}
 use Rattle.xc_intents.proofs.slots.gather.Goals as goal
@@ -36,9 +36,10 @@ returns-clause-chained c =
     let short : length (filter is_live xs) ≤ length xs = omega
     (arith, ap length c.drop_dead.ensures.slots, c.drop_dead.ensures.len, c.args.slots.now.ok.0, c.drop_dead.new.slots.ok.0) in
     let chained = anew-chained xs ys c.args.chains.now.items c.chain_anew.new.chains c.requires
-    (same c) c.chain_anew.ensures.linked short in
-    subst (λ z. IsChained z c.drop_unused.new.chains.items) (sym (slots_are c))
-    (subst (λ z. IsChained ys z) (sym (c.drop_unused.ensures.chains ∙ ap (filter is_used) (chains_are c))) chained)
+    (same c) c.chain_anew.ensures.linked c.drop_unused.new.chains.items short
+    (c.drop_unused.ensures.chains ∙ ap (λ zs. map loose (filter is_used zs)) (chains_are c)) c.drop_unused.ensures.tree
+    (omega (arith, c.drop_unused.ensures.len, c.chain_anew.ensures.chains, c.requires.few, c.args.chains.now.ok.0)) in
+    subst (λ z. IsChained z c.drop_unused.new.chains.items) (sym (slots_are c)) chained
 
 pub returns-clause-held : goal.returns-clause-held
 returns-clause-held c =

@@ -1,4 +1,4 @@
-use Rattle.std.proofs.Common.{Some, sym, subst, ap, ◌∙◌}
+use Rattle.std.proofs.Common.{Some, sym, subst, ap, ◌∙◌, arith}
 use Rattle.std.specs.Option.{option_map}
 use Rattle.xc_intents.specs.HeldOps.{is_part, given}
 use Rattle.xc_intents.specs.Slots.{IsChained, held_in}
@@ -9,7 +9,7 @@ use Rattle.xc_intents.proofs.slots.take.Goals as goal
 pub returns-in-None-clause-chained : goal.returns-in-None-clause-chained
 returns-in-None-clause-chained c =
     chained-same c.args.slots.now c.first.new.slots c.args.txn c.args.lo c.args.hi c.in-None.ensures.same c.requires.hashed
-    c.first.new.chains c.in-None.ensures.linked c.requires.small
+    c.first.new.chains c.in-None.ensures.linked c.requires.small (omega (arith, c.in-None.ensures.chains, c.requires.few))
 
 pub returns-in-None-clause-taken : goal.returns-in-None-clause-taken
 returns-in-None-clause-taken c =
@@ -27,7 +27,7 @@ returns-in-None-clause-left c =
 pub returns-in-Some-clause-chained : goal.returns-in-Some-clause-chained
 returns-in-Some-clause-chained c =
     let chained = chained-same c.args.slots.now c.first.new.slots c.args.txn c.args.lo c.args.hi c.in-Some.ensures.same c.requires.hashed
-    c.first.new.chains c.in-Some.ensures.linked c.requires.small in
+    c.first.new.chains c.in-Some.ensures.linked c.requires.small (omega (arith, c.in-Some.ensures.chains, c.requires.few)) in
     subst (λ z. IsChained z c.first.new.chains) (sym c.take_out.ensures.slots)
     (chained-dies c.first.new.slots c.first.new.chains c.in-Some.i c.in-Some.ensures.found.below chained)
 

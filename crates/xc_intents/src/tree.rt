@@ -1,0 +1,207 @@
+// The tree in which the chain of a transaction is found: each chain is a node of it, and the bits of the transaction's
+// number say, from the highest on, on which side of a node it is. So no more than 33 nodes are gone through, whatever
+// the numbers are, and a chain that is added moves no other.
+ghost use Rattle.std.specs.Prelude.{◌≡◌, ◌≢◌, ◌<◌, ◌≤◌, ◌+◌, ◌^◌, ◌++◌, ◌∷◌, ℕ, List, [], length, map, filter, None};
+ghost use Rattle.std.specs.Prelude.{MatchOption};
+ghost use Rattle.std.specs.Vec.{vec_len, vec_capacity};
+ghost use Rattle.xc_intents.specs.declared.slots.Slot.{Slot};
+ghost use Rattle.xc_intents.specs.Slots.{Linked, IsTree, Distinct, NoChain, chain_at, no_chain, is_right, behind_bit, below, hung};
+ghost use Rattle.xc_intents.specs.Slots.{loose, is_used};
+
+use crate::slots::Chain;
+
+const HIGHEST_BIT: u32 = 1 << 31;
+
+// What is left of a transaction's number behind its first bit.
+#[inline]
+fn behind_bit(rest: u32) -> u32
+    ensures { result ≡ behind_bit rest }
+{
+    rest.wrapping_mul(2)
+}
+
+// The chain on the side of the node on which a walk goes on, by what is left of the transaction's number.
+#[inline]
+fn below(chain: &Chain, rest: u32) -> Option<u32>
+    ensures { result ≡ below (is_right rest) chain.now }
+{
+    if rest >= HIGHEST_BIT {
+        chain.right
+    } else {
+        chain.left
+    }
+}
+
+// Puts the chain `n` there.
+fn hang(chain: &mut Chain, rest: u32, n: u32)
+    ensures { chain.new ≡ hung (is_right rest) n chain.old }
+{
+    if rest >= HIGHEST_BIT {
+        chain.right = Some(n);
+    } else {
+        chain.left = Some(n);
+    }
+}
+
+// The chain of the transaction, if it has one, looked for from the top of the tree.
+fn search(chains: &[Chain], txn: u32) -> Option<usize>
+    requires { IsTree chains.now (length chains.now) }
+    ensures { MatchOption result (NoChain chains.now txn)
+        (λ e. (e < length chains.now) × ((chain_at chains.now e).txn ≡ txn)) }
+{
+    if chains.is_empty() {
+        return None;
+    }
+    let mut rest = txn;
+    let mut cur: usize = 0;
+    while chains[cur].txn != txn {
+        match below(&chains[cur], rest) {
+            None => return None,
+            Some(next) => {
+                cur = next as usize;
+                rest = behind_bit(rest);
+            }
+        }
+    }
+    Some(cur)
+}
+
+/// The chain of the transaction, if it has one, which is most often the one that was asked for last.
+#[inline]
+pub(crate) fn find(chains: &[Chain], recent: usize, txn: u32) -> Option<usize>
+    requires { IsTree chains.now (length chains.now) }
+    ensures { MatchOption result (NoChain chains.now txn)
+        (λ e. (e < length chains.now) × ((chain_at chains.now e).txn ≡ txn)) }
+{
+    if recent < chains.len() && chains[recent].txn == txn {
+        Some(recent)
+    } else {
+        search(chains, txn)
+    }
+}
+
+// Puts the chain `n` into the tree of those before it.
+fn plant(chains: &mut [Chain], n: usize)
+    requires tree { IsTree chains.old n }
+    requires within { n < length chains.old }
+    requires small { n < 2 ^ 32 }
+    requires other { (k : ℕ) → k < n → (chain_at chains.old k).txn ≢ (chain_at chains.old n).txn }
+    requires loose { loose (chain_at chains.old n) ≡ chain_at chains.old n }
+    ensures tree { IsTree chains.new (n + 1) }
+    ensures same { map loose chains.new ≡ map loose chains.old }
+    ensures behind { (k : ℕ) → n ≤ k → chain_at chains.new k ≡ chain_at chains.old k }
+{
+    if n == 0 {
+        return;
+    }
+    let txn = chains[n].txn;
+    let mut rest = txn;
+    let mut cur: usize = 0;
+    while let Some(next) = below(&chains[cur], rest) {
+        cur = next as usize;
+        rest = behind_bit(rest);
+    }
+    hang(&mut chains[cur], rest, n as u32);
+}
+
+// Takes the chain out of the tree.
+fn uproot_one(chain: &mut Chain)
+    ensures { chain.new ≡ loose chain.old }
+{
+    chain.left = None;
+    chain.right = None;
+}
+
+// Takes all chains out of the tree.
+fn uproot(chains: &mut [Chain])
+    ensures { chains.new ≡ map loose chains.old }
+{
+    for chain in chains.iter_mut() {
+        uproot_one(chain);
+    }
+}
+
+// Puts all chains into the tree.
+fn plant_all(chains: &mut [Chain])
+    requires distinct { Distinct chains.old }
+    requires few { length chains.old ≤ 2 ^ 32 }
+    requires loose { map loose chains.old ≡ chains.old }
+    ensures tree { IsTree chains.new (length chains.new) }
+    ensures same { map loose chains.new ≡ map loose chains.old }
+{
+    for n in 0..chains.len() {
+        plant(chains, n);
+    }
+}
+
+// Makes the tree anew.
+fn replant(chains: &mut [Chain])
+    requires distinct { Distinct chains.old }
+    requires few { length chains.old ≤ 2 ^ 32 }
+    ensures tree { IsTree chains.new (length chains.new) }
+    ensures same { map loose chains.new ≡ map loose chains.old }
+{
+    uproot(chains);
+    plant_all(chains);
+}
+
+// Keeps the chains with slots, which are in no tree then.
+fn retain_used(chains: &mut Vec<Chain>)
+    ensures chains { chains.new.items ≡ filter is_used chains.old.items }
+    ensures len { vec_len chains.new ≤ vec_len chains.old }
+    ensures capacity { vec_capacity chains.new ≡ vec_capacity chains.old }
+{
+    chains.retain(|chain| chain.first.is_some());
+}
+
+/// Drops the chains without slots.
+pub(crate) fn drop_unused(chains: &mut Vec<Chain>)
+    requires tree { IsTree chains.old.items (length chains.old.items) }
+    requires few { length chains.old.items ≤ 2 ^ 32 }
+    ensures tree { IsTree chains.new.items (length chains.new.items) }
+    ensures chains { map loose chains.new.items ≡ map loose (filter is_used chains.old.items) }
+    ensures len { vec_len chains.new ≤ vec_len chains.old }
+    ensures capacity { vec_capacity chains.new ≡ vec_capacity chains.old }
+{
+    retain_used(chains);
+    replant(chains);
+}
+
+// Puts a chain without slots behind all others, in no tree yet.
+fn put_chain(chains: &mut Vec<Chain>, txn: u32)
+    requires room { vec_len chains.old < vec_capacity chains.old }
+    ensures chains { chains.new.items ≡ chains.old.items ++ no_chain txn ∷ [] }
+    ensures len { vec_len chains.new ≡ vec_len chains.old + 1 }
+    ensures capacity { vec_capacity chains.new ≡ vec_capacity chains.old }
+{
+    chains.push_reserved(Chain {
+        txn,
+        first: None,
+        last: None,
+        lo: 0,
+        hi: 0,
+        passed: None,
+        left: None,
+        right: None,
+    });
+}
+
+/// The chain of the transaction, which is made where there is none.
+pub(crate) fn open(chains: &mut Vec<Chain>, recent: usize, txn: u32) -> usize
+    requires tree { IsTree chains.old.items (length chains.old.items) }
+    requires room { vec_len chains.old < vec_capacity chains.old }
+    requires few { vec_len chains.old < 2 ^ 32 }
+    ensures linked { (xs : List Slot) (n : ℕ) → Linked xs chains.old.items n → Linked xs chains.new.items n }
+    ensures chain { result < length chains.new.items }
+    ensures txn { (chain_at chains.new.items result).txn ≡ txn }
+    ensures len { vec_len chains.new ≤ vec_len chains.old + 1 }
+    ensures capacity { vec_capacity chains.new ≡ vec_capacity chains.old }
+{
+    if let Some(e) = find(chains, recent, txn) {
+        return e;
+    }
+    let e = chains.len();
+    put_chain(chains, txn);
+    plant(chains, e);
+    e
+}

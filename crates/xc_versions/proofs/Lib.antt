@@ -8,3 +8,4 @@ pub mod AddLaws
 pub mod PruneLaws
 pub mod SubLaws
 pub mod ShrinkLaws
+pub mod DueLaws

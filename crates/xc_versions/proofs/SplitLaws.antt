@@ -83,3 +83,10 @@ narrows-back p low high xs n f i d l h e =
     let w = n.within in
     let lt : i < length xs = omega arith in
     record { rises = l; within = omega arith; front = n.front; back = back-from p xs i d f lt e }
+
+-- where the last passes, all do
+pub splits-whole : {X : Type 0} (p : X → Bool) (xs : List X) (i : ℕ) (d : X) → Falls p xs → i + 1 ≡ length xs → p (get_or xs i d) ≡ true
+    → Splits p (length xs) xs
+splits-whole {X} p xs i d f e t =
+    let whole = narrows-front p 0 (length xs) xs (narrows-whole p xs) f i d (omega arith) t in
+    narrows-done p (length xs) (length xs) xs (subst (λ (k : ℕ). Narrows p k (length xs) xs) e whole) (omega arith)

@@ -4,3 +4,4 @@ pub mod RowsSeen
 pub mod Pages
 pub mod Pool
 pub mod Around
+pub mod Dues

@@ -1,12 +1,14 @@
 -- Pages of versions beside empty pages.
 --     HasRoom pages pool      both can hold all pages and all empty pages
-use Rattle.std.specs.Prelude.{◌+◌, ◌≤◌, length, vec_capacity, Vec}
+--     IsStored pages pool least      and what is said of each 64 pages holds
+use Rattle.std.specs.Prelude.{ℕ, ◌+◌, ◌≤◌, length, vec_capacity, Vec}
 use Rattle.std.specs.List.{AllByRecursion}
 use Rattle.std.specs.declared.alloc.Global.{Global}
 use Rattle.xc_versions.specs.declared.stored.StoredVersion.{StoredVersion}
 use Rattle.xc_versions.specs.declared.page.Page.{Page}
 use Rattle.std.specs.Prelude.{[]}
 use Rattle.xc_versions.specs.Pages.{IsPaged, IsEmptyPage}
+use Rattle.xc_versions.specs.Dues.{dues_of, Covers}
 
 pub record HasRoom (pages : Vec Page Global) (pool : Vec (Vec StoredVersion Global) Global) : Type 0 where
   pub pages_room : length pages.items + length pool.items ≤ vec_capacity pages
@@ -16,3 +18,7 @@ pub record IsStore (pages : Vec Page Global) (pool : Vec (Vec StoredVersion Glob
   pub paged : IsPaged pages.items []
   pub empty : AllByRecursion IsEmptyPage pool.items
   pub room : HasRoom pages pool
+
+pub record IsStored (pages : Vec Page Global) (pool : Vec (Vec StoredVersion Global) Global) (least : Vec ℕ Global) : Type 0 where
+  pub store : IsStore pages pool
+  pub dues : Covers (dues_of pages.items) least.items

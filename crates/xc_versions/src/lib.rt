@@ -3,8 +3,11 @@
 
 ghost use Rattle.std.specs.Prelude.{◌≤◌, length};
 
+mod least;
 mod page;
 mod pages;
+#[cfg(test)]
+mod plain;
 mod prune;
 mod rows;
 mod shrink;

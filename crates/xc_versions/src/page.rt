@@ -1,5 +1,5 @@
 // A page of versions, and the search among pages.
-ghost use Rattle.std.specs.Prelude.{◌≡◌, ◌<◌, ◌≤◌, ◌+◌, min, length, take, drop, nat_lt, vec_capacity};
+ghost use Rattle.std.specs.Prelude.{◌≡◌, ◌<◌, ◌≤◌, ◌+◌, min, length, take, drop, nat_lt, vec_capacity, true};
 ghost use Rattle.std.specs.Ordering.{is_gt};
 ghost use Rattle.std.specs.List.{AllByRecursion};
 ghost use Rattle.xc_versions.specs.Stored.{stored_cmp, InOrder, IsNew, with_version, reaches};
@@ -20,12 +20,31 @@ pub struct Page {
     pub due: u64,
 }
 
-/// How many pages begin before the version.
+// Whether all pages begin before the version: the last does.
+#[inline]
+fn all_begin_before(pages: &[Page], version: &StoredVersion) -> bool
+    requires pages { AllByRecursion IsPage pages.now }
+    requires ordered { InOrder (items_of pages.now) }
+    ensures { result ≡ true
+        → Splits (λ p. is_first_passed (λ x. is_gt (stored_cmp version.now x)) p.items.items) (length pages.now) pages.now }
+{
+    let count = pages.len();
+    if count == 0 {
+        return false;
+    }
+    let page = &pages[count - 1];
+    begins_before(&page.items, version)
+}
+
+/// How many pages begin before the version. Often all do.
 pub fn pages_before(pages: &[Page], version: &StoredVersion) -> usize
     requires pages { AllByRecursion IsPage pages.now }
     requires ordered { InOrder (items_of pages.now) }
     ensures { Splits (λ p. is_first_passed (λ x. is_gt (stored_cmp version.now x)) p.items.items) result pages.now }
 {
+    if all_begin_before(pages, version) {
+        return pages.len();
+    }
     let mut low = 0;
     let mut high = pages.len();
     while low < high {

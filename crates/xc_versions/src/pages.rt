@@ -1,5 +1,5 @@
 // Pages of versions beside a pool of empty ones.
-ghost use Rattle.std.specs.Prelude.{◌≡◌, ◌<◌, ◌≤◌, ◌+◌, [], length, insert, min, ◌/◌, vec_capacity};
+ghost use Rattle.std.specs.Prelude.{◌≡◌, ◌<◌, ◌≤◌, ◌+◌, [], ◌∷◌, length, insert, min, ◌/◌, vec_capacity};
 ghost use Rattle.std.specs.Prelude.{List, OnOk, filter};
 ghost use Rattle.std.specs.List.{AllByRecursion};
 ghost use Rattle.std.specs.Option.{option_copied, option_to_list};
@@ -11,7 +11,9 @@ ghost use Rattle.xc_versions.specs.Stored.{InOrder, IsNew, reaches, stored_cmp, 
 ghost use Rattle.xc_versions.specs.Around.{Around};
 ghost use Rattle.xc_versions.specs.Pages.{IsEmptyPage, IsPaged, items_of, spare_of};
 ghost use Rattle.xc_versions.specs.Pool.{IsStore};
+ghost use Rattle.xc_versions.specs.Dues.{dues_of, Covers, Grew};
 
+use crate::least::{grown, lower_at};
 use crate::page::{PAGE, Page, pages_before, pages_reaching, take_empty};
 use crate::rows::put_versions;
 use crate::stored::{StoredVersion, reached};
@@ -27,6 +29,7 @@ fn add_first(pages: &mut Vec<Page>, pool: &mut Vec<Vec<StoredVersion>>, version:
     ensures items { items_of pages.new.items ≡ with_version version (items_of pages.old.items) }
     ensures spare { spare_of pages.old.items (length pool.old.items) ≤ spare_of pages.new.items (length pool.new.items)
         + 1 }
+    ensures dues { dues_of pages.new.items ≡ version.commit ∷ [] }
 {
     let mut page = Page {
         items: take_empty(pool),
@@ -61,6 +64,8 @@ fn add_at(
     ensures items { items_of pages.new.items ≡ with_version version (items_of pages.old.items) }
     ensures spare { spare_of pages.old.items (length pool.old.items) ≤ spare_of pages.new.items (length pool.new.items)
         + 1 }
+    ensures dues { Grew i version.commit (dues_of pages.old.items) (dues_of pages.new.items) }
+    ensures len { length pages.old.items ≤ length pages.new.items }
 {
     let page = &mut pages[i];
     page.put(version);
@@ -71,20 +76,31 @@ fn add_at(
 }
 
 /// Puts the version at its place.
-pub fn add(pages: &mut Vec<Page>, pool: &mut Vec<Vec<StoredVersion>>, version: StoredVersion)
+pub fn add(
+    pages: &mut Vec<Page>,
+    pool: &mut Vec<Vec<StoredVersion>>,
+    least: &mut Vec<u64>,
+    version: StoredVersion,
+)
     requires store { IsStore pages.old pool.old }
     requires fresh { IsNew version (items_of pages.old.items) }
     requires room { 1 ≤ spare_of pages.old.items (length pool.old.items) }
+    requires least { Covers (dues_of pages.old.items) least.old.items }
     ensures store { IsStore pages.new pool.new }
     ensures items { items_of pages.new.items ≡ with_version version (items_of pages.old.items) }
     ensures spare { spare_of pages.old.items (length pool.old.items) ≤ spare_of pages.new.items (length pool.new.items)
         + 1 }
+    ensures least { Covers (dues_of pages.new.items) least.new.items }
 {
+    let commit = version.commit;
     if pages.is_empty() {
         add_first(pages, pool, version);
+        lower_at(least, 0, commit);
     } else {
-        let before = pages_before(pages, &version);
-        add_at(pages, pool, before.saturating_sub(1), version);
+        let count = pages.len();
+        let i = pages_before(pages, &version).saturating_sub(1);
+        add_at(pages, pool, i, version);
+        grown(least, pages, i, commit, count);
     }
 }
 

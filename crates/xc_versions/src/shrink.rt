@@ -6,7 +6,9 @@ ghost use Rattle.xc_versions.specs.Stored.{kept, pruned_before, up_to};
 ghost use Rattle.xc_versions.specs.Pages.{IsPage, IsEmptyPage, items_of, spare_of};
 ghost use Rattle.xc_versions.specs.declared.page.Page.{Page};
 ghost use Rattle.xc_versions.specs.Pool.{IsStore};
+ghost use Rattle.xc_versions.specs.Dues.{dues_of, Covers, Shrunk};
 
+use crate::least::{GROUP, fill, least_of, raise_at, settle};
 use crate::page::Page;
 use crate::stored::{StoredVersion, drop_later};
 
@@ -49,6 +51,8 @@ fn prune_at(pages: &mut Vec<Page>, pool: &mut Vec<Vec<StoredVersion>>, i: usize,
         → items_of (drop i pages.new.items)
         ≡ pruned_before cutoff q.items.items (items_of (drop (i + 1) pages.old.items)) }
     ensures spare { spare_of pages.old.items (length pool.old.items) ≤ spare_of pages.new.items (length pool.new.items) }
+    ensures dues { Shrunk i (dues_of pages.old.items) (dues_of pages.new.items) }
+    ensures len { i ≤ length pages.new.items }
 {
     if is_idle(pages, i, cutoff) {
         return;
@@ -71,18 +75,56 @@ fn is_idle(pages: &[Page], i: usize, cutoff: u64) -> bool
     cutoff < page.due
 }
 
-/// Of each key's versions with commit at most the cutoff only the last stays. A page that loses none is not looked
-/// into.
-pub fn prune(pages: &mut Vec<Page>, pool: &mut Vec<Vec<StoredVersion>>, cutoff: u64)
-    requires { IsStore pages.old pool.old }
+// The same, and what is said of the page's group holds. At the group's first page it is what the pages are due for.
+fn prune_page(
+    pages: &mut Vec<Page>,
+    pool: &mut Vec<Vec<StoredVersion>>,
+    least: &mut Vec<u64>,
+    i: usize,
+    cutoff: u64,
+)
+    requires store { IsStore pages.old pool.old }
+    requires within { i < length pages.old.items }
+    requires least { Covers (dues_of pages.old.items) least.old.items }
+    ensures store { IsStore pages.new pool.new }
+    ensures front { take i pages.new.items ≡ take i pages.old.items }
+    ensures tail { (q : Page) → q ≡ slice_index_or pages.old.items i q
+        → items_of (drop i pages.new.items)
+        ≡ pruned_before cutoff q.items.items (items_of (drop (i + 1) pages.old.items)) }
+    ensures spare { spare_of pages.old.items (length pool.old.items) ≤ spare_of pages.new.items (length pool.new.items) }
+    ensures least { Covers (dues_of pages.new.items) least.new.items }
+{
+    let count = pages.len();
+    prune_at(pages, pool, i, cutoff);
+    settle(least, pages, i, count);
+    raise_at(least, pages, i);
+}
+
+/// Of each key's versions with commit at most the cutoff only the last stays. Of 64 pages that lose none, none is looked
+/// at.
+pub fn prune(
+    pages: &mut Vec<Page>,
+    pool: &mut Vec<Vec<StoredVersion>>,
+    least: &mut Vec<u64>,
+    cutoff: u64,
+)
+    requires store { IsStore pages.old pool.old }
+    requires least { Covers (dues_of pages.old.items) least.old.items }
     ensures store { IsStore pages.new pool.new }
     ensures items { items_of pages.new.items ≡ kept cutoff (items_of pages.old.items) }
     ensures spare { spare_of pages.old.items (length pool.old.items) ≤ spare_of pages.new.items (length pool.new.items) }
+    ensures least { Covers (dues_of pages.new.items) least.new.items }
 {
+    fill(least, pages.len() / GROUP + 1);
     let mut i = pages.len();
     while i > 0 {
-        i -= 1;
-        prune_at(pages, pool, i, cutoff);
+        let group = (i - 1) / GROUP;
+        if cutoff < least_of(least, group) {
+            i = group * GROUP;
+        } else {
+            i -= 1;
+            prune_page(pages, pool, least, i, cutoff);
+        }
     }
 }
 
@@ -95,6 +137,8 @@ fn drop_at(pages: &mut Vec<Page>, pool: &mut Vec<Vec<StoredVersion>>, i: usize, 
     ensures tail { (q : Page) → q ≡ slice_index_or pages.old.items i q
         → items_of (drop i pages.new.items) ≡ up_to t q.items.items ++ items_of (drop (i + 1) pages.old.items) }
     ensures spare { spare_of pages.old.items (length pool.old.items) ≤ spare_of pages.new.items (length pool.new.items) }
+    ensures dues { Shrunk i (dues_of pages.old.items) (dues_of pages.new.items) }
+    ensures len { i ≤ length pages.new.items }
 {
     let page = &mut pages[i];
     drop_later(&mut page.items, t);
@@ -104,15 +148,24 @@ fn drop_at(pages: &mut Vec<Page>, pool: &mut Vec<Vec<StoredVersion>>, i: usize, 
 }
 
 /// The versions with commit above t go, and all others stay.
-pub fn drop_after(pages: &mut Vec<Page>, pool: &mut Vec<Vec<StoredVersion>>, t: u64)
-    requires { IsStore pages.old pool.old }
+pub fn drop_after(
+    pages: &mut Vec<Page>,
+    pool: &mut Vec<Vec<StoredVersion>>,
+    least: &mut Vec<u64>,
+    t: u64,
+)
+    requires store { IsStore pages.old pool.old }
+    requires least { Covers (dues_of pages.old.items) least.old.items }
     ensures store { IsStore pages.new pool.new }
     ensures items { items_of pages.new.items ≡ up_to t (items_of pages.old.items) }
     ensures spare { spare_of pages.old.items (length pool.old.items) ≤ spare_of pages.new.items (length pool.new.items) }
+    ensures least { Covers (dues_of pages.new.items) least.new.items }
 {
     let mut i = pages.len();
     while i > 0 {
         i -= 1;
+        let count = pages.len();
         drop_at(pages, pool, i, t);
+        settle(least, pages, i, count);
     }
 }

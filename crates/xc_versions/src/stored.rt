@@ -1,5 +1,5 @@
 // A version as it is kept, and the search among versions in order.
-ghost use Rattle.std.specs.Prelude.{◌≡◌, ◌<◌, ◌+◌, ◌≤◌, vec_len, vec_capacity};
+ghost use Rattle.std.specs.Prelude.{◌≡◌, ◌<◌, ◌+◌, ◌≤◌, length, vec_len, vec_capacity, true};
 ghost use Rattle.std.specs.Ordering.{is_gt};
 ghost use Rattle.xc_versions.specs.Stored.{stored_cmp, InOrder, IsNew, with_version, reaches, up_to};
 ghost use Rattle.xc_versions.specs.Splits.{Splits};
@@ -62,11 +62,24 @@ impl StoredVersion {
     }
 }
 
-/// How many of the versions stand before this one.
+// Whether all of the versions stand before this one: the last does.
+#[inline]
+fn is_behind_all(items: &[StoredVersion], version: &StoredVersion) -> bool
+    requires { InOrder items.now }
+    ensures { result ≡ true → Splits (λ x. is_gt (stored_cmp version.now x)) (length items.now) items.now }
+{
+    let count = items.len();
+    count > 0 && version.is_after(&items[count - 1])
+}
+
+/// How many of the versions stand before this one. It is often the last of all.
 pub fn place_of(items: &[StoredVersion], version: &StoredVersion) -> usize
     requires { InOrder items.now }
     ensures { Splits (λ x. is_gt (stored_cmp version.now x)) result items.now }
 {
+    if is_behind_all(items, version) {
+        return items.len();
+    }
     let mut low = 0;
     let mut high = items.len();
     while low < high {

@@ -20,6 +20,8 @@ pub struct Versions {
     pages: Vec<Page>,
     // Empty pages, for additions.
     pool: Vec<Vec<StoredVersion>>,
+    // For each 64 pages at most the least cutoff that takes something from one of them. 0 where it has no entry.
+    least: Vec<u64>,
     alloc: Global,
 }
 
@@ -27,13 +29,13 @@ impl Model for Versions {
     ghost use Rattle.std.specs.Prelude.{length};
     ghost use Rattle.xc_versions.specs.Stored.{Store};
     ghost use Rattle.xc_versions.specs.Pages.{items_of, spare_of};
-    ghost use Rattle.xc_versions.specs.Pool.{IsStore};
+    ghost use Rattle.xc_versions.specs.Pool.{IsStored};
 
     ghost Value = { Store };
 
     ghost view = { λ v. record { items = items_of v.pages.items; spare = spare_of v.pages.items (length v.pool.items) } };
 
-    ghost invariant = { λ v. IsStore v.pages v.pool };
+    ghost invariant = { λ v. IsStored v.pages v.pool v.least };
 }
 
 impl Versions {
@@ -44,6 +46,7 @@ impl Versions {
         Versions {
             pages: Vec::new(alloc),
             pool: Vec::new(alloc),
+            least: Vec::new(alloc),
             alloc,
         }
     }
@@ -94,7 +97,7 @@ impl Versions {
             value,
             key,
         };
-        add(&mut self.pages, &mut self.pool, version);
+        add(&mut self.pages, &mut self.pool, &mut self.least, version);
     }
 
     /// What the key is set to at t: by its last version with commit at most t. None comes exactly where there is none
@@ -128,14 +131,14 @@ impl Versions {
     }
 
     /// Of each key's versions with commit at most the cutoff only the last stays, also where it is a removal. All
-    /// others stay. A page that loses none is not looked into.
+    /// others stay. Of pages that lose none only one number of each 64 is looked at.
     pub fn keep_from(&mut self, cutoff: u64)
         ensures items { self.new.items ≡ kept cutoff self.old.items }
         ensures spare { self.old.spare ≤ self.new.spare }
         ensures was_ordered { InOrder self.old.items }
         ensures ordered { InOrder self.new.items }
     {
-        prune(&mut self.pages, &mut self.pool, cutoff);
+        prune(&mut self.pages, &mut self.pool, &mut self.least, cutoff);
     }
 
     /// The versions with commit above t go, and all others stay.
@@ -145,6 +148,6 @@ impl Versions {
         ensures was_ordered { InOrder self.old.items }
         ensures ordered { InOrder self.new.items }
     {
-        drop_after(&mut self.pages, &mut self.pool, t);
+        drop_after(&mut self.pages, &mut self.pool, &mut self.least, t);
     }
 }

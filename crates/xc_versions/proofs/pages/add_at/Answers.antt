@@ -7,6 +7,7 @@ use Rattle.xc_versions.specs.Stored.{with_version}
 use Rattle.xc_versions.specs.Pages.{items_of, IsPage, spare_of}
 use Rattle.xc_versions.proofs.AddLaws.{Grown, in_page, added-at, set-cut, insert-cut, spare-one, spare-two, pool-there, page-at, halves}
 use Rattle.xc_versions.proofs.AddLaws.{length-set-insert}
+use Rattle.xc_versions.proofs.DueLaws.{grew-one, grew-two}
 use Rattle.xc_versions.proofs.pages.add_at.Goals as goal
 use Rattle.xc_versions.proofs.pages.add_at.Goals.{After-pages-else-is_over-1, After-insert_page}
 
@@ -132,3 +133,14 @@ returns-then-is_over-clause-spare c =
     subst (λ (ps : List Page). spare_of old n ≤ spare_of ps m + 1) (sym (new-pages c))
     (spare-two old c.args.i c.index_mut-page.result.now r s n m c.requires.within c.index_mut-page.ensures.value full low high
     (sym c.take_empty.ensures.len))
+
+pub returns-then-is_over-clause-dues : goal.returns-then-is_over-clause-dues
+returns-then-is_over-clause-dues c =
+    grew-two c.args.pages.now.items c.insert_page.new.pages.items c.args.i c.args.version.commit c.index_mut-page.result.now
+    c.split-upper.new.self c.split-upper.result c.requires.within c.index_mut-page.ensures.value
+    (c.split-upper.ensures.lower_due ∙ c.put.ensures.due) (c.split-upper.ensures.upper_due ∙ c.put.ensures.due) (new-pages c)
+
+pub returns-else-is_over-clause-dues : goal.returns-else-is_over-clause-dues
+returns-else-is_over-clause-dues c =
+    grew-one c.args.pages.now.items c.args.i c.args.version.commit c.index_mut-page.result.now c.put.new.self c.requires.within
+    c.index_mut-page.ensures.value c.put.ensures.due

@@ -11,6 +11,7 @@ use Rattle.xc_versions.proofs.AddLaws.{set-cut, page-at}
 use Rattle.xc_versions.proofs.SubLaws.{Sub, sub-filter, sub-behind, idle-sub}
 use Rattle.xc_versions.proofs.ShrinkLaws.{shrunk-at, remove-cut, length-removed, behind-removed, idle-at, dues-one, spare-shrunk}
 use Rattle.xc_versions.proofs.ShrinkLaws.{spare-gone, length-kept}
+use Rattle.xc_versions.proofs.DueLaws.{shrunk-gone, shrunk-set}
 use Rattle.xc_versions.proofs.shrink.drop_at.Goals as goal
 use Rattle.xc_versions.proofs.shrink.drop_at.Goals.{After-free}
 
@@ -114,3 +115,11 @@ returns-else-is_empty-clause-spare c =
     subst (λ (ps : List Page). spare_of old n ≤ spare_of ps n) (sym (set-cut old c.args.i r c.requires.within))
     (spare-shrunk old c.args.i q r n c.requires.within c.index_mut-page.ensures.value
     (rw c.drop_later.ensures.items (length-kept (λ x. nat_le x.commit c.args.t) q.items.items)))
+
+pub returns-then-is_empty-clause-dues : goal.returns-then-is_empty-clause-dues
+returns-then-is_empty-clause-dues c = shrunk-gone c.args.pages.now.items c.free.new.pages.items c.args.i (new-pages c)
+
+pub returns-else-is_empty-clause-dues : goal.returns-else-is_empty-clause-dues
+returns-else-is_empty-clause-dues c =
+    let r : Page = record { items = c.drop_later.new.items; due = c.index_mut-page.result.now.due } in
+    shrunk-set c.args.pages.now.items c.args.i r c.requires.within

@@ -12,6 +12,7 @@ use Rattle.xc_versions.proofs.PageLaws.{items-from}
 use Rattle.xc_versions.proofs.SubLaws.{Sub, sub-pruned}
 use Rattle.xc_versions.proofs.ShrinkLaws.{shrunk-at, remove-cut, length-removed, behind-removed, idle-at, order-at, pruned-idle, dues-one}
 use Rattle.xc_versions.proofs.ShrinkLaws.{idle-from-next, spare-shrunk, spare-gone}
+use Rattle.xc_versions.proofs.DueLaws.{shrunk-gone, shrunk-set}
 use Rattle.xc_versions.proofs.shrink.prune_at.Goals as goal
 use Rattle.xc_versions.proofs.shrink.prune_at.Goals.{After-free}
 
@@ -120,3 +121,9 @@ returns-else-is_empty-clause-spare c =
     subst (λ (ps : List Page). spare_of old n ≤ spare_of ps n) (sym (set-cut old c.args.i c.prune.new.self c.requires.within))
     (spare-shrunk old c.args.i c.index_mut-page.result.now c.prune.new.self n c.requires.within c.index_mut-page.ensures.value
     c.prune.ensures.len)
+
+pub returns-then-is_empty-clause-dues : goal.returns-then-is_empty-clause-dues
+returns-then-is_empty-clause-dues c = shrunk-gone c.args.pages.now.items c.free.new.pages.items c.args.i (new-pages c)
+
+pub returns-else-is_empty-clause-dues : goal.returns-else-is_empty-clause-dues
+returns-else-is_empty-clause-dues c = shrunk-set c.args.pages.now.items c.args.i c.prune.new.self c.requires.within

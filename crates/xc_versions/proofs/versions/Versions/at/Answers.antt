@@ -13,7 +13,7 @@ returns-then-eq-clause-value c =
     let last = rw c.deref.ensures.value at c.in-Some.ensures in
     c.as_ref.ensures.value ∙ ap (λ b. cond b x.value None) c.if-eq.ensures ∙ ap (value_at k) last
     ∙ sym (ap (λ s. shown c.args.t (stored_at k s.items)) (sym c.self.view_is)
-    ∙ shown-reaching k c.args.t xs c.self.invariant.paged.ordered)
+    ∙ shown-reaching k c.args.t xs c.self.invariant.store.paged.ordered)
 
 pub returns-else-eq-clause-value : goal.returns-else-eq-clause-value
 returns-else-eq-clause-value c =
@@ -23,7 +23,7 @@ returns-else-eq-clause-value c =
     let last = rw c.deref.ensures.value at c.in-Some.ensures in
     ap (λ b. cond b x.value None) c.if-eq.ensures ∙ ap (value_at k) last
     ∙ sym (ap (λ s. shown c.args.t (stored_at k s.items)) (sym c.self.view_is)
-    ∙ shown-reaching k c.args.t xs c.self.invariant.paged.ordered)
+    ∙ shown-reaching k c.args.t xs c.self.invariant.store.paged.ordered)
 
 pub returns-in-None-clause-value : goal.returns-in-None-clause-value
 returns-in-None-clause-value c =
@@ -32,4 +32,4 @@ returns-in-None-clause-value c =
     let last = rw c.deref.ensures.value at c.in-None.ensures in
     ap (value_at k) last
     ∙ sym (ap (λ s. shown c.args.t (stored_at k s.items)) (sym c.self.view_is)
-    ∙ shown-reaching k c.args.t xs c.self.invariant.paged.ordered)
+    ∙ shown-reaching k c.args.t xs c.self.invariant.store.paged.ordered)

@@ -9,7 +9,7 @@ returns-clause-some c =
     let ps = c.self.inside.pages.items in
     let count : c.len.result ≡ length ps = grind (arith, common_steps) in
     let same : length (items_of ps) ≡ length c.args.self.now.items = ap (λ s. length s.items) c.self.view_is in
-    let some = some-pages ps c.self.invariant.paged.pages in
+    let some = some-pages ps c.self.invariant.store.paged.pages in
     omega arith
 
 pub returns-clause-few : goal.returns-clause-few
@@ -17,5 +17,5 @@ returns-clause-few c =
     let ps = c.self.inside.pages.items in
     let count : c.len.result ≡ length ps = grind (arith, common_steps) in
     let same : length (items_of ps) ≡ length c.args.self.now.items = ap (λ s. length s.items) c.self.view_is in
-    let few = few-pages ps c.self.invariant.paged.pages in
+    let few = few-pages ps c.self.invariant.store.paged.pages in
     omega arith

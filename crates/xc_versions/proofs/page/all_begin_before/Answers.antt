@@ -1,0 +1,18 @@
+use Rattle.std.proofs.Common.{◌-◌, length, arith, ap, sym, ◌∙◌}
+use Rattle.std.specs.Ordering.{is_gt}
+use Rattle.xc_versions.specs.Stored.{stored_cmp}
+use Rattle.xc_versions.specs.declared.page.Page.{Page}
+use Rattle.xc_versions.specs.Pages.{is_first_passed}
+use Rattle.xc_versions.proofs.SplitLaws.{splits-whole, above-falls}
+use Rattle.xc_versions.proofs.PageLaws.{pages-fall}
+use Rattle.xc_versions.proofs.page.all_begin_before.Goals as goal
+
+pub returns : goal.returns
+returns c t =
+    let v = c.args.version.now in
+    let ps = c.args.pages.now in
+    let falls = pages-fall (λ x. is_gt (stored_cmp v x)) ps c.requires.pages (above-falls v _ c.requires.ordered) in
+    let seen = rw c.deref.ensures.value at c.begins_before.ensures in
+    splits-whole (λ p. is_first_passed (λ x. is_gt (stored_cmp v x)) p.items.items) ps (length ps - 1) c.index-pages-count.result falls
+    (omega arith)
+    (ap (λ (p : Page). is_first_passed (λ x. is_gt (stored_cmp v x)) p.items.items) (sym c.index-pages-count.is) ∙ sym seen ∙ t)

@@ -1,0 +1,108 @@
+// What the least due of each 64 pages is, or something below it, so that a prune passes by those where nothing is due.
+ghost use Rattle.std.specs.Prelude.{◌≡◌, ◌<◌, ◌≤◌, ◌*◌, ◌%◌, ◌/◌, ℕ, List, length, slice_index_or};
+ghost use Rattle.xc_versions.specs.Dues.{dues_of, Covers, NotAbove, Shrunk, Grew};
+
+use crate::page::Page;
+
+/// How many pages are a group, of which one number is kept.
+pub const GROUP: usize = 64;
+
+/// What is said of the group, or 0 where nothing is.
+#[inline]
+pub fn least_of(least: &[u64], group: usize) -> u64
+    ensures { result ≡ slice_index_or least.now group 0 }
+{
+    if group < least.len() { least[group] } else { 0 }
+}
+
+// Says of the group no more than this.
+#[inline]
+pub fn lower_at(least: &mut Vec<u64>, group: usize, due: u64)
+    ensures lower { NotAbove least.old.items least.new.items }
+    ensures here { slice_index_or least.new.items group 0 ≤ due }
+{
+    if group < least.len() {
+        if due < least[group] {
+            least[group] = due;
+        }
+    }
+}
+
+// Says no more than the pages `first`, `first` + 64 and so on are due for, of the groups that they are in.
+fn lower_from(least: &mut Vec<u64>, pages: &[Page], first: usize)
+    ensures lower { NotAbove least.old.items least.new.items }
+    ensures here { (k : ℕ) → first ≤ k → k < length pages.now → k % 64 ≡ first % 64
+        → slice_index_or least.new.items (k / 64) 0 ≤ slice_index_or (dues_of pages.now) k 0 }
+{
+    let mut i = first;
+    while i < pages.len() {
+        let page = &pages[i];
+        lower_at(least, i / GROUP, page.due);
+        i += GROUP;
+    }
+}
+
+/// Holds what is said after the page i of so many got other versions, or is gone.
+pub fn settle(least: &mut Vec<u64>, pages: &[Page], i: usize, before: usize)
+    requires { i ≤ length pages.now }
+    ensures { (ds : List ℕ) → length ds ≡ before → i < before → Shrunk i ds (dues_of pages.now)
+        → Covers ds least.old.items → Covers (dues_of pages.now) least.new.items }
+{
+    if pages.len() < before {
+        lower_from(least, pages, i / GROUP * GROUP + 63);
+    } else if i < pages.len() {
+        let page = &pages[i];
+        lower_at(least, i / GROUP, page.due);
+    }
+}
+
+/// Holds what is said after the page i of so many got a version of this commit, and may have been split.
+pub fn grown(least: &mut Vec<u64>, pages: &[Page], i: usize, commit: u64, before: usize)
+    requires { i ≤ length pages.now }
+    ensures { (ds : List ℕ) → length ds ≡ before → i < before → Grew i commit ds (dues_of pages.now)
+        → Covers ds least.old.items → Covers (dues_of pages.now) least.new.items }
+{
+    lower_at(least, i / GROUP, commit);
+    if before < pages.len() {
+        lower_from(least, pages, (i / GROUP + 1) * GROUP);
+    }
+}
+
+// Says of the group what its pages are due for.
+fn raise(least: &mut Vec<u64>, pages: &[Page], group: usize)
+    requires { 64 * group ≤ length pages.now }
+    ensures { Covers (dues_of pages.now) least.old.items → Covers (dues_of pages.now) least.new.items }
+{
+    if group >= least.len() {
+        return;
+    }
+    let end = pages.len().min(group * GROUP + GROUP);
+    let mut due = u64::MAX;
+    for i in group * GROUP..end {
+        let page = &pages[i];
+        due = due.min(page.due);
+    }
+    least[group] = due;
+}
+
+/// Says of a group what its pages are due for, where the page i is its first.
+#[inline]
+pub fn raise_at(least: &mut Vec<u64>, pages: &[Page], i: usize)
+    requires { i ≤ length pages.now }
+    ensures { Covers (dues_of pages.now) least.old.items → Covers (dues_of pages.now) least.new.items }
+{
+    if i % GROUP == 0 {
+        raise(least, pages, i / GROUP);
+    }
+}
+
+/// Says 0 of the groups of which nothing is said yet, as far as memory allows.
+pub fn fill(least: &mut Vec<u64>, groups: usize)
+    ensures { NotAbove least.old.items least.new.items }
+{
+    while least.len() < groups {
+        if least.push(0).is_err() {
+            return;
+        }
+    }
+}

@@ -1,6 +1,6 @@
 -- The room that is left behind a record, and the keys of its operations.
 use Rattle.std.proofs.Common.{◌≡◌, ℕ, ◌+◌, ◌≤◌, Bool, true, false, cond, List, [], ◌∷◌, length, map, Option, refl, ap, sym, ◌∙◌, arith}
-use Rattle.std.proofs.Common.{⊎_elim, ◌||◌}
+use Rattle.std.proofs.Common.{⊎_elim, ◌||◌, ◌&&◌}
 use Rattle.std.specs.Prelude.{bytes_eq, nat_le}
 use Rattle.std.specs.List.{list_all}
 use Rattle.std.proofs.lemmas.Bool.{cases_Bool, true≢false, and_parts}
@@ -16,7 +16,7 @@ use Rattle.xc_record.specs.Path.{Event, Written, puts}
 use Rattle.xc_record.specs.Kept.{steps}
 use Rattle.xc_record.specs.Valid.{ops_keep, keeps_header}
 use Rattle.xc_tablet.specs.declared.contents.Contents.{Contents}
-use Rattle.xc_tablet.specs.Contents.{kept_in, Changes, keys_keep}
+use Rattle.xc_tablet.specs.Contents.{kept_in, Changes, all_held, keys_keep, all_keep}
 use Rattle.xc_tablet.specs.Room.{Settles, HasRoom, puts_of, holds_of, is_apply, puts_in, holds_in, has_apply}
 
 -- ---- keys that the header's tablet owns
@@ -57,6 +57,18 @@ keys-of_header h pair (kind.Apply txn commit without) e = refl
 keys-of_header h pair (kind.Abort txn) e = refl
 keys-of_header h pair (kind.Safe value) e = refl
 keys-of_header h pair (kind.Split at left right) e = refl
+
+-- the first of operations that are all held, and those behind it
+pub all-next : (h : Header) (op : Op) (rest ops : List Op) → ops ≡ op ∷ rest → all_held h ops ≡ true
+    → (holds h (hash_of op.key) ≡ true) × (all_held h rest ≡ true)
+all-next h op rest ops e keep = and_parts (holds h (hash_of op.key)) (all_held h rest) (ap (all_held h) (sym e) ∙ keep)
+
+pub all-of_header : (h : Header) (pair : Option (Header × Header)) (rs : List Record)
+    → list_all (λ r. keeps_header h pair r.kind) rs ≡ true → all_keep h rs ≡ true
+all-of_header h pair [] e = refl
+all-of_header h pair (r ∷ rs) e =
+    let p = and_parts (keeps_header h pair r.kind) (list_all (λ (q : Record). keeps_header h pair q.kind) rs) e in
+    ap (λ b. b && all_keep h rs) (keys-of_header h pair r.kind p.0) ∙ all-of_header h pair rs p.1
 
 -- ---- room
 

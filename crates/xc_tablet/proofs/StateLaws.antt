@@ -27,9 +27,9 @@ use Rattle.xc_model.specs.Floors.{Floors, new_floors, has_closed, has_started, s
 use Rattle.xc_model.specs.Stands.{TargetTablet, KeepsWithin, TakesIn, past}
 use Rattle.xc_tablet.specs.declared.contents.Contents.{Contents}
 use Rattle.xc_tablet.specs.declared.state.State.{State}
-use Rattle.xc_tablet.specs.Contents.{in_hashes, has_key, kept_in, IsContents, Alike, Changes}
+use Rattle.xc_tablet.specs.Contents.{in_hashes, has_key, kept_in, IsContents, Alike, Changes, all_keep}
 use Rattle.xc_tablet.specs.Room.{HasRoom}
-use Rattle.xc_tablet.proofs.RoomLaws.{room-first}
+use Rattle.xc_tablet.proofs.RoomLaws.{room-first, all-of_header}
 use Rattle.xc_tablet.specs.Batch.{splits_end, records_keep, CanTake}
 use Rattle.xc_tablet.specs.State.{seen, IsState, Ready, names_children}
 
@@ -359,6 +359,9 @@ module _ (id from : ℕ) (h : Header) (rs : List Record) (s : State) (is : IsSta
   keep-past : list_all (λ r. keeps_header h (children s.floor.headers id) r.kind) (past (slice_index s.places.items id) from rs) ≡ true
   keep-past = all-drop (λ (r : Record). keeps_header h (children s.floor.headers id) r.kind) rs (slice_index s.places.items id + 1 - from)
       (keep-all s.floor.headers id h rs header can.keep)
+
+  pub held-past : all_keep h (past (slice_index s.places.items id) from rs) ≡ true
+  held-past = all-of_header h (children s.floor.headers id) (past (slice_index s.places.items id) from rs) keep-past
 
   pub small-past : list_all (λ r. nat_le (ops_in r.kind) 64) (past (slice_index s.places.items id) from rs) ≡ true
   small-past = small-all h (children s.floor.headers id) (past (slice_index s.places.items id) from rs) keep-past

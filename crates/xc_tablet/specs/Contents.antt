@@ -7,14 +7,16 @@
 --     put_events time ops, hold_events txn sub time ops      what operations do at a key, of a write and of an intent
 --     LeavesAlike txn commit without lo hi c d      an apply of what waits still at the hashes from lo to hi gives the same after c and
 --         after d
---     keys_keep header kind      a record's keys are of the tablet with this header
+--     all_held header ops      the operations' keys are of the tablet with this header
+--     keys_keep header kind, all_keep header rs      a record's keys are, and those of all records
 use Rattle.std.specs.Prelude.{◌≡◌, ℕ, ◌<◌, Bool, true, ◌&&◌, nat_le, List, map, filter}
-use Rattle.std.specs.List.{AllByRecursion}
+use Rattle.std.specs.List.{AllByRecursion, list_all}
 use Rattle.xc_record.specs.declared.record.Header.{Header}
 use Rattle.xc_record.specs.declared.record.Kind.{Kind}
 use Rattle.xc_record.specs.declared.record.Kind.TheVariants as kind
 use Rattle.xc_record.specs.declared.record.Op.{Op}
-use Rattle.xc_record.specs.Hash.{hash_of}
+use Rattle.xc_record.specs.declared.record.Record.{Record}
+use Rattle.xc_record.specs.Hash.{hash_of, holds}
 use Rattle.xc_record.specs.Path.{Put, Hold, puts}
 use Rattle.xc_record.specs.Kept.{Kept, steps, add_all, is_kept, waiting_at}
 use Rattle.xc_record.specs.Valid.{ops_keep}
@@ -69,6 +71,9 @@ pub record LeavesAlike (txn commit : ℕ) (without : List ℕ) (lo hi : ℕ) (c 
   pub keys : (k : List ℕ) → has_key c k ≡ true → applied txn commit without lo hi d k ≡ applied txn commit without lo hi c k
   pub is : IsContents d
 
+abbrev pub all_held : Header → List Op → Bool
+all_held header ops = list_all (λ op. holds header (hash_of op.key)) ops
+
 abbrev pub keys_keep : Header → Kind → Bool
 keys_keep header (kind.Write ops) = ops_keep header ops
 keys_keep header (kind.Intent txn sub ops) = ops_keep header ops
@@ -76,3 +81,6 @@ keys_keep header (kind.Apply txn commit without) = true
 keys_keep header (kind.Abort txn) = true
 keys_keep header (kind.Safe value) = true
 keys_keep header (kind.Split at left right) = true
+
+abbrev pub all_keep : Header → List Record → Bool
+all_keep header rs = list_all (λ r. keys_keep header r.kind) rs

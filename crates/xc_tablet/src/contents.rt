@@ -9,14 +9,14 @@ ghost use Rattle.xc_record.specs.Kept.{step, steps};
 ghost use Rattle.xc_record.specs.Valid.{ops_in};
 ghost use Rattle.xc_intents.specs.HeldOps.{is_part};
 ghost use Rattle.xc_tablet.specs.Contents.{in_hashes, has_key, kept_in, IsContents, Alike, Changes, put_events};
-ghost use Rattle.xc_tablet.specs.Contents.{hold_events, LeavesAlike, keys_keep};
+ghost use Rattle.xc_tablet.specs.Contents.{hold_events, LeavesAlike, all_held, keys_keep, all_keep};
 ghost use Rattle.xc_tablet.specs.Room.{count_in, Adds, Settles, HasRoom};
 
-use crate::room::Room;
+use crate::room::{Room, is_in};
 use std::alloc::Global;
 use xc_base::NoMemory;
 use xc_intents::Intents;
-use xc_record::{Header, Kind, OpAt, Ops, Record, Subs, hash_bytes};
+use xc_record::{Header, Kind, OpAt, Ops, Record, Subs};
 use xc_versions::Versions;
 
 /// The versions and the operations that wait of the keys whose hashes are from `lo` to `hi`.
@@ -51,62 +51,67 @@ impl Contents {
         }
     }
 
+    // Whether the operation of a source tablet with this header is of a key of the range.
     #[inline]
-    fn has(&self, op: &OpAt<'_>) -> bool
+    fn has(&self, header: &Header, op: &OpAt<'_>) -> bool
+        requires { holds header.now (hash_of op.now.key) ≡ true }
         ensures { result ≡ has_key self.now op.now.key }
     {
-        let hash = hash_bytes(op.key_bytes());
-        self.lo <= hash && hash <= self.hi
+        is_in(header, self.lo, self.hi, op)
     }
 
     // Adds an operation of a write, if its key is in the range.
-    fn put(&mut self, time: u64, op: &OpAt<'_>)
+    fn put(&mut self, header: &Header, time: u64, op: &OpAt<'_>)
         requires is { IsContents self.old }
+        requires keep { holds header.now (hash_of op.now.key) ≡ true }
         requires room { count_in self.old.lo self.old.hi (op.now ∷ []) ≤ self.old.versions.spare }
         requires next { self.old.next + 1 < 2 ^ 64 }
         ensures changes { Changes (put_events time (op.now ∷ [])) self.old self.new }
         ensures adds { Adds (count_in self.old.lo self.old.hi (op.now ∷ [])) 0 self.old self.new }
     {
-        if self.has(op) {
+        if self.has(header, op) {
             self.versions.add(op.key(), time, 0, self.next, op.value());
             self.next += 1;
         }
     }
 
     // Adds the operations of a write.
-    fn put_all(&mut self, time: u64, ops: &Ops)
+    fn put_all(&mut self, header: &Header, time: u64, ops: &Ops)
         requires is { IsContents self.old }
+        requires keep { all_held header.now ops.now ≡ true }
         requires room { count_in self.old.lo self.old.hi ops.now ≤ self.old.versions.spare }
         requires next { self.old.next + length ops.now < 2 ^ 64 }
         ensures changes { Changes (put_events time ops.now) self.old self.new }
         ensures adds { Adds (count_in self.old.lo self.old.hi ops.now) 0 self.old self.new }
     {
         for op in ops.iter() {
-            self.put(time, &op);
+            self.put(header, time, &op);
         }
     }
 
     // Holds an operation of an intent, if its key is in the range.
-    fn hold(&mut self, txn: u32, sub: u8, op: &OpAt<'_>)
+    fn hold(&mut self, header: &Header, txn: u32, sub: u8, op: &OpAt<'_>)
         requires is { IsContents self.old }
+        requires keep { holds header.now (hash_of op.now.key) ≡ true }
         requires room { count_in self.old.lo self.old.hi (op.now ∷ []) ≤ self.old.held.spare }
         ensures changes { (time : ℕ) → Changes (hold_events txn sub time (op.now ∷ [])) self.old self.new }
         ensures adds { Adds 0 (count_in self.old.lo self.old.hi (op.now ∷ [])) self.old self.new }
     {
-        if self.has(op) {
+        if self.has(header, op) {
             self.held.hold(txn, sub, op.get());
         }
     }
 
     // Holds the operations of an intent.
-    fn hold_all(&mut self, txn: u32, sub: u8, ops: &Ops)
+    fn hold_all(&mut self, header: &Header, txn: u32, sub: u8, ops: &Ops)
         requires is { IsContents self.old }
+        requires keep { all_held header.now ops.now ≡ true }
         requires room { count_in self.old.lo self.old.hi ops.now ≤ self.old.held.spare }
         ensures changes { (time : ℕ) → Changes (hold_events txn sub time ops.now) self.old self.new }
         ensures adds { Adds 0 (count_in self.old.lo self.old.hi ops.now) self.old self.new }
     {
         for op in ops.iter() {
-            self.hold(txn, sub, &op);
+            self.hold(header, txn, sub, &op);
         }
     }
 
@@ -169,8 +174,8 @@ impl Contents {
             ≤ self.old.next + length self.old.held.held + ops_in item.now.kind }
     {
         match &item.kind {
-            Kind::Write { ops } => self.put_all(item.time.get(), ops),
-            Kind::Intent { txn, sub, ops } => self.hold_all(*txn, *sub, ops),
+            Kind::Write { ops } => self.put_all(header, item.time.get(), ops),
+            Kind::Intent { txn, sub, ops } => self.hold_all(header, *txn, *sub, ops),
             Kind::Apply {
                 txn,
                 commit,
@@ -181,16 +186,17 @@ impl Contents {
         }
     }
 
-    /// Makes room for the records, of at most 64 operations each. `NoMemory` where memory is out; what is kept is as
-    /// before then.
-    pub fn make_room(&mut self, records: &[Record]) -> Result<(), NoMemory>
+    /// Makes room for the records of a source tablet with this header, of at most 64 operations each. `NoMemory` where
+    /// memory is out; what is kept is as before then.
+    pub fn make_room(&mut self, header: &Header, records: &[Record]) -> Result<(), NoMemory>
+        requires keep { all_keep header.now records.now ≡ true }
         requires few { length records.now ≤ 2 ^ 20 }
         requires small { list_all (λ r. nat_le (ops_in r.kind) 64) records.now ≡ true }
         requires waits { length self.old.held.held ≤ 2 ^ 32 }
         ensures alike { Alike self.old self.new }
         ensures room { OnOk result (HasRoom records.now self.new) }
     {
-        let room = Room::of(records, self.lo, self.hi);
+        let room = Room::of(header, records, self.lo, self.hi);
         let versions = room.versions(self.held.len());
         if self.held.reserve(room.holds).is_err() {
             return Err(NoMemory);

@@ -1,10 +1,12 @@
 // How much room records need.
 ghost use Rattle.std.specs.Prelude.{◌≡◌, ◌≤◌, ◌<◌, ◌+◌, ◌*◌, ◌^◌, ◌||◌, true, length, nat_le, if◌then◌else◌};
 ghost use Rattle.std.specs.List.{list_all};
+ghost use Rattle.xc_record.specs.Hash.{hash_of, holds};
 ghost use Rattle.xc_record.specs.Valid.{ops_in};
+ghost use Rattle.xc_tablet.specs.Contents.{in_hashes, all_held, keys_keep, all_keep};
 ghost use Rattle.xc_tablet.specs.Room.{count_in, puts_of, holds_of, is_apply, puts_in, holds_in, has_apply};
 
-use xc_record::{Kind, Ops, Record, hash_bytes};
+use xc_record::{Header, Kind, OpAt, Ops, Record, hash_bytes};
 
 /// What records need, of operations whose keys are in a range.
 #[derive(Drop, Debug)]
@@ -17,14 +19,31 @@ pub struct Room {
     pub applies: bool,
 }
 
+/// Whether the operation of a source tablet with this header is of a key whose hash is from `lo` to `hi`. The hash is
+/// asked only where the tablet's range tells neither.
+#[inline]
+pub fn is_in(header: &Header, lo: u16, hi: u16, op: &OpAt<'_>) -> bool
+    requires { holds header.now (hash_of op.now.key) ≡ true }
+    ensures { result ≡ in_hashes lo hi op.now.key }
+{
+    if lo <= header.lo && header.hi <= hi {
+        return true;
+    }
+    if header.hi < lo || hi < header.lo {
+        return false;
+    }
+    let hash = hash_bytes(op.key_bytes());
+    lo <= hash && hash <= hi
+}
+
 /// How many of the operations are of keys whose hashes are from `lo` to `hi`.
-fn count_in(ops: &Ops, lo: u16, hi: u16) -> usize
+fn count_in(header: &Header, ops: &Ops, lo: u16, hi: u16) -> usize
+    requires { all_held header.now ops.now ≡ true }
     ensures { result ≡ count_in lo hi ops.now }
 {
     let mut count: usize = 0;
     for op in ops.iter() {
-        let hash = hash_bytes(op.key_bytes());
-        if lo <= hash && hash <= hi {
+        if is_in(header, lo, hi, &op) {
             count += 1;
         }
     }
@@ -33,7 +52,8 @@ fn count_in(ops: &Ops, lo: u16, hi: u16) -> usize
 
 impl Room {
     // Counts a record in.
-    fn count(&mut self, kind: &Kind, lo: u16, hi: u16)
+    fn count(&mut self, header: &Header, kind: &Kind, lo: u16, hi: u16)
+        requires keep { keys_keep header.now kind.now ≡ true }
         requires puts { self.old.puts + ops_in kind.now < 2 ^ 64 }
         requires holds { self.old.holds + ops_in kind.now < 2 ^ 64 }
         ensures puts { self.new.puts ≡ self.old.puts + puts_of lo hi kind.now }
@@ -41,15 +61,16 @@ impl Room {
         ensures applies { self.new.applies ≡ (self.old.applies || is_apply kind.now) }
     {
         match kind {
-            Kind::Write { ops } => self.puts += count_in(ops, lo, hi),
-            Kind::Intent { ops, .. } => self.holds += count_in(ops, lo, hi),
+            Kind::Write { ops } => self.puts += count_in(header, ops, lo, hi),
+            Kind::Intent { ops, .. } => self.holds += count_in(header, ops, lo, hi),
             Kind::Apply { .. } => self.applies = true,
             Kind::Abort { .. } | Kind::Safe { .. } | Kind::Split { .. } => {}
         }
     }
 
-    /// What the records need, of at most 64 operations each.
-    pub fn of(records: &[Record], lo: u16, hi: u16) -> Room
+    /// What the records of a source tablet with this header need, of at most 64 operations each.
+    pub fn of(header: &Header, records: &[Record], lo: u16, hi: u16) -> Room
+        requires keep { all_keep header.now records.now ≡ true }
         requires few { length records.now ≤ 2 ^ 20 }
         requires small { list_all (λ r. nat_le (ops_in r.kind) 64) records.now ≡ true }
         ensures puts { result.puts ≡ puts_in lo hi records.now }
@@ -64,7 +85,7 @@ impl Room {
             applies: false,
         };
         for item in records {
-            room.count(&item.kind, lo, hi);
+            room.count(header, &item.kind, lo, hi);
         }
         room
     }

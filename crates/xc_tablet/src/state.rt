@@ -117,7 +117,7 @@ impl State {
     {
         let header = self.header(id);
         let past = past(records, self.places[id as usize], from);
-        self.contents.make_room(past)?;
+        self.contents.make_room(&header, past)?;
         self.take_all(id, &header, past);
         Ok(())
     }

@@ -1,4 +1,4 @@
-use Rattle.std.proofs.Common.{◌≡◌, refl}
+use Rattle.std.proofs.Common.{refl}
 use Rattle.xc_record.specs.Headers.{are_headers, headers_fit}
 use Rattle.xc_tablet.proofs.tests.tablet.Goals as goal
 

@@ -3,7 +3,12 @@ use Rattle.xc_record.specs.Path.{Hold}
 use Rattle.xc_record.specs.declared.record.Op.{Op}
 use Rattle.xc_tablet.specs.Room.{count_in}
 use Rattle.xc_tablet.proofs.ContentsLaws.{Left, HoldsLeft, left-more, left-none, holds-more, room-first, room-rest}
+use Rattle.xc_tablet.proofs.RoomLaws.{all-next}
 use Rattle.xc_tablet.proofs.contents.Contents.hold_all.Goals as goal
+
+pub hold-requires-clause-keep : goal.hold-requires-clause-keep
+hold-requires-clause-keep c =
+    (all-next c.args.header.now c.in-Some.op c.next.new.self c.loop-op.op-iterator c.in-Some.ensures.steps c.loop-op.invariant.keep).0
 
 pub hold-requires-clause-is : goal.hold-requires-clause-is
 hold-requires-clause-is c = c.loop-op.invariant.is
@@ -21,7 +26,10 @@ loop-op-preserved c =
     let d = c.loop-op.self in
     let adds : HoldsLeft ops (c.in-Some.op ∷ c.next.new.self) s d =
     subst (λ (rest : List Op). HoldsLeft ops rest s d) c.in-Some.ensures.steps c.loop-op.invariant.adds in
+    let keep = all-next c.args.header.now c.in-Some.op c.next.new.self c.loop-op.op-iterator c.in-Some.ensures.steps
+    c.loop-op.invariant.keep in
     record {
+      keep = keep.1;
       left = λ time. left-more (Hold c.args.txn c.args.sub time) ops c.in-Some.op c.next.new.self s d _
           (subst (λ (rest : List Op). Left (Hold c.args.txn c.args.sub time) ops rest s d) c.in-Some.ensures.steps
           (c.loop-op.invariant.left time)) (c.hold.ensures.changes time);

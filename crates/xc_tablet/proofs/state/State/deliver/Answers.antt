@@ -4,10 +4,20 @@ use Rattle.std.specs.List.{list_all}
 use Rattle.xc_record.specs.declared.record.Record.{Record}
 use Rattle.xc_record.specs.Valid.{ops_in}
 use Rattle.xc_model.specs.Stands.{TargetTablet, TakesAll}
+use Rattle.xc_tablet.specs.Contents.{all_keep}
 use Rattle.xc_tablet.specs.Room.{HasRoom}
 use Rattle.xc_tablet.specs.State.{seen, Ready}
-use Rattle.xc_tablet.proofs.StateLaws.{alike-state, alike-seen, few-at_all, small-past, ready-past, past-is}
+use Rattle.xc_tablet.proofs.StateLaws.{alike-state, alike-seen, few-at_all, small-past, held-past, ready-past, past-is}
 use Rattle.xc_tablet.proofs.state.State.deliver.Goals as goal
+
+pub make_room-requires-clause-keep : goal.make_room-requires-clause-keep
+make_room-requires-clause-keep c =
+    let s = c.args.self.now in
+    let h = c.header-header.result in
+    let e = past-is s c.args.id c.args.from h c.args.records.now c.past-past.result.now c.index.result.now c.requires.is
+    c.header-header.ensures c.index.ensures c.past-past.ensures in
+    subst (λ (rs : List Record). all_keep h rs ≡ true) (sym e)
+    (held-past c.args.id c.args.from h c.args.records.now s c.requires.is c.requires.can c.header-header.ensures)
 
 pub make_room-requires-clause-small : goal.make_room-requires-clause-small
 make_room-requires-clause-small c =

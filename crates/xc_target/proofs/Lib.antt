@@ -7,6 +7,7 @@ pub mod PollLaws
 pub mod PollFacts
 pub mod PollFits
 pub mod PollSteps
+mod PruneLaws
 pub mod ScanLaws
 pub mod CursorLaws
 pub mod DrainLaws

@@ -26,7 +26,7 @@ use Rattle.xc_poller.specs.Polled.{CanPoll, KeepStanding, IsPolled as PollerPoll
 use Rattle.xc_target.specs.declared.answers.TargetFail.{TargetFail}
 use Rattle.xc_target.specs.Target.{TargetState, headers_of_pollers, opened_by, FitsFeed, Opens}
 use Rattle.xc_target.specs.Stands.{Polls, StandsForSession}
-use Rattle.xc_target.specs.Answers.{Made, IsPolled, IsStopped, fail_of}
+use Rattle.xc_target.specs.Answers.{Made, IsPolled, IsStopped, GaveFirst, fail_of}
 use Rattle.xc_target.proofs.SessionLaws.{get-there, length-pollers, position-is}
 use Rattle.xc_target.proofs.MoveLaws.{get-set-here}
 use Rattle.xc_target.proofs.PollFacts.{IsIdle, Rested, Says, Ended, Delivered, delivered, CutOff, cut-off, grows-of, ranges-of}
@@ -277,3 +277,15 @@ headers-here hs cs t id q x f at whole is = go t.tablets f.tablets whole is
     go (y ∷ xs) h w e =
         let can : CanPoll hs cs q y = each-get (λ (p : PollerState). CanPoll hs cs p y) t.pollers id q h.0 at in
         ap (λ (z : TargetTablet). z.floors.headers) e ∙ can.fits.same ∙ sym f.headers_are
+
+-- ---- where the records of a poll cut off went
+
+pub gave-first : (hs : List Header) (cs : List ℕ) (n last id : ℕ) (p q : PollerState) (t u : TargetState) (r : Result PollAnswer NextFail)
+    → slice_get t.pollers id ≡ Some p → PollerStopped hs cs n last p q t.tablets u.tablets r → IfOk (told r) (GaveFirst id last t u)
+gave-first hs cs n last id p q t u (Ok (poll.Polled k)) at h =
+    let batch = h.1.0 in
+    (p, (batch.from, (batch.records, (at, (h.1.1.1.0, h.1.1.1.1.1)))))
+gave-first hs cs n last id p q t u (Ok (poll.Waits parent)) at h = h.tablets
+gave-first hs cs n last id p q t u (Ok poll.AtEnd) at h = h.tablets
+gave-first hs cs n last id p q t u (Ok (poll.Halted number kind)) at h = h.tablets
+gave-first hs cs n last id p q t u (Err e) at h = tt

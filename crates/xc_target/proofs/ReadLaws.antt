@@ -1,5 +1,6 @@
 -- What a target shows are the rows of the logs.
-use Rattle.std.proofs.Common.{◌≡◌, ℕ, ◌+◌, ◌*◌, ◌%◌, ◌<◌, ◌≤◌, true, false, ◌&&◌, cond, List, [], ◌∷◌, map, Option, Some, None, ap, ◌∙◌}
+use Rattle.std.proofs.Common.{◌≡◌, ℕ, ◌+◌, ◌*◌, ◌%◌, ◌<◌, ◌≤◌, true, false, ◌&&◌, cond, List, [], ◌∷◌, map, Option, Some, None, Err, ap}
+use Rattle.std.proofs.Common.{sym, subst, ◌∙◌}
 use Rattle.std.proofs.Common.{arith, ⊎_elim}
 use Rattle.std.specs.Prelude.{nat_le, MatchOption}
 use Rattle.std.proofs.lemmas.Bool.{cases_lt}
@@ -16,6 +17,10 @@ use Rattle.xc_model.specs.Rows.{range_of}
 use Rattle.xc_model.specs.Stands.{TargetTablet, in_range, kept_at}
 use Rattle.xc_model.proofs.ListLaw.{restored-show}
 use Rattle.xc_model.proofs.ReadLaw.{reads-show-rows}
+use Rattle.xc_retain.specs.Retention.{IsReadable}
+use Rattle.xc_retain.specs.declared.retention.NotReadable.{NotReadable}
+use Rattle.xc_retain.specs.declared.retention.NotReadable.TheVariants as why
+use Rattle.xc_target.specs.Answers.{IsNotReadable}
 use Rattle.xc_target.specs.Target.{TargetState, shown_at}
 use Rattle.xc_target.specs.Stands.{IsAhead, WasAhead, AreKept, StandsForSession}
 use Rattle.xc_target.proofs.MoveLaws.{each-to, covers-safe}
@@ -61,3 +66,10 @@ module _ (logs : Logs) (m : Session) (t : TargetState) (is : IsSession logs m) (
 
   pub shows-row : IsPartition (map range_of t.tablets) → (k : List ℕ) → shown_at v k t.tablets ≡ row logs v k
   shows-row p k = shown-from logs v 0 t.tablets k p each-shows (omega arith)
+
+-- why a time can't be read, said of the session
+pub not-readable : (logs : Logs) (m : Session) (cutoff safe u : ℕ) (e : NotReadable) → cutoff ≡ m.cutoff → safe ≡ safe_now logs m
+    → IsReadable cutoff safe u (Err e) → IsNotReadable logs m u e
+not-readable logs m cutoff safe u (why.Ahead named) at now r = (r.0 ∙ now, subst (λ n. n < u) (sym r.0) r.1)
+not-readable logs m cutoff safe u (why.Pruned named) at now r =
+    (subst (λ n. u ≤ n) now r.1.0, (r.0 ∙ at, subst (λ n. u < n) (sym r.0) r.1.1))

@@ -1,10 +1,11 @@
 -- What each call of a target makes of the session that it stands for, and what it answers.
 use Rattle.std.specs.Prelude.{◌≡◌, ℕ, ◌+◌, ◌<◌, ◌≤◌, max, true, false, List, [], ◌∷◌, Option, None, Some, Result, Ok, Err, slice_get}
-use Rattle.std.specs.Prelude.{slice_index}
+use Rattle.std.specs.Prelude.{slice_index, length}
 use Rattle.std.specs.List.{filter_map}
 use Rattle.std.specs.Option.{option_map, option_map_or}
 use Rattle.xc_record.specs.declared.record.Break.{Break}
 use Rattle.xc_record.specs.declared.record.Logs.{Logs}
+use Rattle.xc_record.specs.declared.record.Record.{Record}
 use Rattle.xc_record.specs.declared.session.PollAnswer.{PollAnswer}
 use Rattle.xc_record.specs.declared.session.PollAnswer.TheVariants as poll
 use Rattle.xc_record.specs.SafeTime.{is_started}
@@ -13,10 +14,12 @@ use Rattle.xc_record.specs.Step.{with_position, acknowledge, set_back, poll_answ
 use Rattle.xc_record.specs.Accepted.{AcceptedTablet, accepted_tablets, halt}
 use Rattle.xc_change.specs.declared.batch.NextFail.{NextFail}
 use Rattle.xc_change.specs.declared.batch.NextFail.TheVariants as next
+use Rattle.xc_poller.specs.Poller.{PollerState}
+use Rattle.xc_poller.specs.Polled.{TookFirst}
 use Rattle.xc_target.specs.declared.answers.Closed.{Closed}
 use Rattle.xc_target.specs.declared.answers.Halt.{Halt}
-use Rattle.xc_target.specs.declared.answers.NotReadable.{NotReadable}
-use Rattle.xc_target.specs.declared.answers.NotReadable.TheVariants.{Ahead, Pruned}
+use Rattle.xc_retain.specs.declared.retention.NotReadable.{NotReadable}
+use Rattle.xc_retain.specs.declared.retention.NotReadable.TheVariants.{Ahead, Pruned}
 use Rattle.xc_target.specs.declared.answers.PruneFail.{PruneFail}
 use Rattle.xc_target.specs.declared.answers.PruneFail.TheVariants as prune
 use Rattle.xc_target.specs.declared.answers.TargetFail.{TargetFail}
@@ -133,3 +136,12 @@ MovesOn counts id old new (poll.Polled k) =
 MovesOn counts id old new (poll.Waits parent) = Unit {0}
 MovesOn counts id old new poll.AtEnd = Unit {0}
 MovesOn counts id old new (poll.Halted number kind) = Unit {0}
+
+-- records of the source tablet went to the target tablets 0 to last alone, as many as a poll told that was cut off
+abbrev pub GaveFirst : ℕ → ℕ → TargetState → TargetState → PollAnswer → Type 0
+GaveFirst id last old new (poll.Polled k) =
+    (p : PollerState) × ((from : ℕ) × ((rs : List Record) × ((slice_get old.pollers id ≡ Some p) × ((k ≡ length rs)
+    × TookFirst p.header.id from rs (last + 1) old.tablets new.tablets))))
+GaveFirst id last old new (poll.Waits parent) = new.tablets ≡ old.tablets
+GaveFirst id last old new poll.AtEnd = new.tablets ≡ old.tablets
+GaveFirst id last old new (poll.Halted number kind) = new.tablets ≡ old.tablets

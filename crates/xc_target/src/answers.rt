@@ -12,15 +12,6 @@ pub struct Closed {
     pub t: u64,
 }
 
-/// Why a time can't be read.
-#[derive(Clone, Copy, PartialEq, Eq, Debug)]
-pub enum NotReadable {
-    /// It is later than the safe time, which is named.
-    Ahead { safe: u64 },
-    /// It is before the cutoff, which is named: no history is kept of it.
-    Pruned { cutoff: u64 },
-}
-
 /// Why nothing was pruned. All is as before.
 #[derive(Clone, Copy, PartialEq, Eq, Debug)]
 pub enum PruneFail {

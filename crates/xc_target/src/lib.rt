@@ -7,13 +7,13 @@ mod answers;
 mod draining;
 mod looks;
 mod opening;
-mod pruning;
 mod scanning;
 mod target;
 
-pub use answers::{Closed, Halt, NotReadable, PruneFail, SessionLine, TargetFail};
+pub use answers::{Closed, Halt, PruneFail, SessionLine, TargetFail};
 pub use target::Target;
 pub use xc_poller::{Parts, PollAnswer, Pollers, Targets};
+pub use xc_retain::NotReadable;
 pub use xc_versions::Rows;
 
 #[cfg(test)]

@@ -16,13 +16,12 @@ ghost use Rattle.xc_record.specs.Step.{drained};
 ghost use Rattle.xc_target.specs.Target.{new_target, of_parts, IsTarget, FitsFeed};
 ghost use Rattle.xc_target.specs.Stands.{StandsForSession};
 ghost use Rattle.xc_target.specs.Answers.{Made, IsAcknowledged, IsRestarted, IsNotReadable, IsPruned, IsClosed};
-ghost use Rattle.xc_target.specs.Answers.{IsPolled, IsStopped, MovesOn, halts, IsDrainFail};
+ghost use Rattle.xc_target.specs.Answers.{IsPolled, IsStopped, GaveFirst, MovesOn, halts, IsDrainFail};
 
-use crate::answers::{Closed, Halt, NotReadable, PruneFail, SessionLine, TargetFail, failed};
+use crate::answers::{Closed, Halt, PruneFail, SessionLine, TargetFail, failed};
 use crate::draining::drain_tablet;
 use crate::looks::{least_open, shown};
 use crate::opening::{new_pollers, new_tablets, open_children};
-use crate::pruning::{keep_all_from, restore_all};
 use crate::scanning::rows_of_all;
 use std::alloc::Global;
 use std::marker::Model;
@@ -30,6 +29,7 @@ use xc_base::{Key, NoMemory, Value};
 use xc_logs::Feed;
 use xc_poller::{Parts, PollAnswer, Poller, Pollers, Targets};
 use xc_record::Header;
+use xc_retain::{NotReadable, Retention};
 use xc_tablet::TargetTablet;
 use xc_versions::Rows;
 
@@ -39,7 +39,7 @@ use xc_versions::Rows;
 pub struct Target {
     tablets: Vec<TargetTablet>,
     pollers: Vec<Poller>,
-    cutoff: u64,
+    retention: Retention,
     closed: Option<u64>,
 }
 
@@ -51,14 +51,14 @@ impl Model for Target {
     ghost view = { λ t. record {
       tablets = t.tablets.items;
       pollers = t.pollers.items;
-      cutoff = t.cutoff;
+      cutoff = t.retention;
       closed = t.closed;
     } };
 
     ghost invariant = { λ t. IsTarget (record {
       tablets = t.tablets.items;
       pollers = t.pollers.items;
-      cutoff = t.cutoff;
+      cutoff = t.retention;
       closed = t.closed;
     }) };
 }
@@ -81,7 +81,7 @@ impl Target {
         Ok(Target {
             tablets,
             pollers,
-            cutoff: 0,
+            retention: Retention::new(),
             closed: None,
         })
     }
@@ -95,7 +95,7 @@ impl Target {
         Target {
             tablets: parts.tablets.into_vec(),
             pollers: parts.pollers.into_vec(),
-            cutoff: parts.cutoff,
+            retention: Retention::at(parts.cutoff),
             closed: parts.closed,
         }
     }
@@ -108,7 +108,7 @@ impl Target {
         Parts {
             tablets: Targets::from_vec(self.tablets),
             pollers: Pollers::from_vec(self.pollers),
-            cutoff: self.cutoff,
+            cutoff: self.retention.cutoff(),
             closed: self.closed,
         }
     }
@@ -188,7 +188,8 @@ impl Target {
         ensures step { IfSome (F.logs feed.old) (λ logs. (m : Session) → IsSession logs m
             → StandsForSession logs m self.old → IsStopped logs m id n self.new result) }
 
-        // Whatever the feed tells, nothing goes to the tablets past `last`.
+        // Whatever the feed tells, each of the tablets up to `last` gets the records, and no tablet past it.
+        ensures given { IfOk result (GaveFirst id last self.old self.new) }
         ensures others { drop (last + 1) self.new.tablets ≡ drop (last + 1) self.old.tablets }
         ensures same_closed { self.new.closed ≡ self.old.closed }
 
@@ -304,7 +305,7 @@ impl Target {
         ensures cutoff { result ≡ self.now.cutoff }
         ensures session { (logs : Logs) (m : Session) → StandsForSession logs m self.now → result ≡ m.cutoff }
     {
-        self.cutoff
+        self.retention.cutoff()
     }
 
     /// The hybrid time that the session was closed at, if it was.
@@ -375,15 +376,7 @@ impl Target {
         ensures refuses { (logs : Logs) (m : Session) → IsSession logs m → StandsForSession logs m self.now
             → IfErr result (IsNotReadable logs m u) }
     {
-        let safe = least_open(&self.pollers);
-        if u > safe {
-            return Err(NotReadable::Ahead { safe });
-        }
-        if u < self.cutoff {
-            return Err(NotReadable::Pruned {
-                cutoff: self.cutoff,
-            });
-        }
+        self.retention.readable(u, least_open(&self.pollers))?;
         Ok(shown(&self.tablets, key, u))
     }
 
@@ -401,13 +394,10 @@ impl Target {
             return Err(PruneFail::Closed(t));
         }
         let safe = least_open(&self.pollers);
-        if u > safe {
-            return Err(PruneFail::Ahead { safe });
+        match self.retention.prune(u, safe, &mut self.tablets) {
+            Ok(cutoff) => Ok(cutoff),
+            Err(ahead) => Err(PruneFail::Ahead { safe: ahead.safe }),
         }
-        let cutoff = self.cutoff.max(u);
-        keep_all_from(&mut self.tablets, cutoff);
-        self.cutoff = cutoff;
-        Ok(cutoff)
     }
 
     /// Restores each tablet to the safe time, which is answered, and closes the session at it. Reads go on at this
@@ -423,7 +413,7 @@ impl Target {
             return Err(Closed { t });
         }
         let t = least_open(&self.pollers);
-        restore_all(&mut self.tablets, t);
+        Retention::restore(t, &mut self.tablets);
         self.closed = Some(t);
         Ok(t)
     }

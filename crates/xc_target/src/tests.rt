@@ -133,6 +133,19 @@ fn written_logs(alloc: Global) -> Option<LogSet> {
     set_of(tablets)
 }
 
+// Two roots, one of which goes back in time.
+fn broken_logs(alloc: Global) -> Option<LogSet> {
+    let headers = [header(0, 0, 32767, None), header(1, 32768, 65535, None)];
+    let mut tablets = empty(alloc, &headers)?;
+    log(&mut tablets, 0, 10, write(alloc, "aaa", "1"))?;
+    log(&mut tablets, 0, 20, safe(20))?;
+    log(&mut tablets, 1, 11, write(alloc, "zzz", "2"))?;
+    log(&mut tablets, 1, 12, safe(12))?;
+    log(&mut tablets, 1, 12, write(alloc, "zzz", "3"))?;
+    log(&mut tablets, 1, 30, safe(30))?;
+    set_of(tablets)
+}
+
 // ---- what is asked, and answered
 
 #[derive(Clone, Copy, Debug)]
@@ -141,7 +154,9 @@ enum Ask {
     Stop(u32, u64, usize),
     Acknowledge(u32),
     Restart(u32),
+    Drain,
     Safe,
+    Scan,
     Read(&'static str),
     ReadAt(u64, &'static str),
     Prune(u64),
@@ -155,7 +170,11 @@ enum Answer {
     AtEnd,
     Halted(u64),
     Place(u64),
+    // How many halts there are, and the tablet and the record of the first.
+    Drained(usize, Option<(u32, u64)>),
     Safe(u64),
+    // How many rows there are, and the first bytes of the first key and of the last.
+    Rows(usize, Option<u8>, Option<u8>),
     // The first byte of a row's value.
     Row(Option<u8>),
     Ahead(u64),
@@ -178,6 +197,30 @@ fn polled(ended: Result<PollAnswer, TargetFail>) -> Answer {
         Err(TargetFail::ReadFault) => Answer::Fault,
         Err(TargetFail::NoMemory) => Answer::NoMemory,
     }
+}
+
+fn drained(ended: Result<Vec<Halt>, TargetFail>) -> Answer {
+    match ended {
+        Ok(halts) => Answer::Drained(
+            halts.len(),
+            halts.first().map(|halt| (halt.id, halt.number)),
+        ),
+        Err(TargetFail::Closed(t)) => Answer::Closed(t),
+        Err(TargetFail::ReadFault) => Answer::Fault,
+        Err(TargetFail::NoMemory) => Answer::NoMemory,
+    }
+}
+
+fn begins(row: Option<&(Key, Value)>) -> Option<u8> {
+    row.and_then(|(key, _)| key.bytes().first().copied())
+}
+
+fn scanned(target: &Target, alloc: Global) -> Answer {
+    let Ok(rows) = target.scan(alloc) else {
+        return Answer::NoMemory;
+    };
+    let rows = rows.as_slice();
+    Answer::Rows(rows.len(), begins(rows.first()), begins(rows.last()))
 }
 
 fn row(value: Option<&Value>) -> Answer {
@@ -248,7 +291,9 @@ fn answered<F: Feed>(target: &mut Target, alloc: Global, feed: &mut F, ask: Ask)
             }
             place(target.restart(id))
         }
+        Ask::Drain => drained(target.drain(alloc, feed)),
         Ask::Safe => Answer::Safe(target.safe()),
+        Ask::Scan => scanned(target, alloc),
         Ask::Read(key) => read(target, key),
         Ask::ReadAt(u, key) => read_at(target, u, key),
         Ask::Prune(u) => pruned(target.prune(u)),
@@ -259,7 +304,7 @@ fn answered<F: Feed>(target: &mut Target, alloc: Global, feed: &mut F, ask: Ask)
     }
 }
 
-// A poll that the feed failed is asked again.
+// A poll or a drain that the feed failed is asked again.
 fn answered_at_last<F: Feed>(target: &mut Target, alloc: Global, feed: &mut F, ask: Ask) -> Answer
     requires { FitsFeed (F.headers feed.old) (F.counts feed.old) target.old }
     ensures { FitsFeed (F.headers feed.new) (F.counts feed.new) target.new }
@@ -410,6 +455,41 @@ fn a_failover_closes_at_the_safe_time_and_reads_go_on_there(rt: HostRuntime) -> 
 }
 
 #[test]
+fn a_drain_goes_on_to_the_ends_of_all_logs(rt: HostRuntime) -> Result<(), Fail> {
+    let alloc = rt.alloc();
+    let logs = split_logs(alloc).ok_or("memory")?;
+    let asks = [
+        (Ask::Scan, Answer::Rows(0, None, None)),
+        (Ask::Stop(0, 4, 0), Answer::Polled(4)),
+        (Ask::Drain, Answer::Drained(0, None)),
+        (Ask::Poll(1, 9), Answer::AtEnd),
+        (Ask::Poll(2, 9), Answer::AtEnd),
+        (Ask::Safe, Answer::Safe(17)),
+        (Ask::Scan, Answer::Rows(2, Some(b'a'), Some(b'z'))),
+        (Ask::Failover, Answer::Safe(17)),
+        (Ask::Drain, Answer::Closed(17)),
+    ];
+    assert_eq!(rt; other_in_memory(alloc, &logs, &asks), None);
+    Ok(())
+}
+
+#[test]
+fn a_drain_names_the_break_that_it_stops_at(rt: HostRuntime) -> Result<(), Fail> {
+    let alloc = rt.alloc();
+    let logs = broken_logs(alloc).ok_or("memory")?;
+    let asks = [
+        (Ask::Drain, Answer::Drained(1, Some((1, 3)))),
+        (Ask::Poll(1, 9), Answer::Halted(3)),
+        (Ask::Safe, Answer::Safe(12)),
+        (Ask::Read("zzz"), Answer::Row(Some(b'2'))),
+        (Ask::Scan, Answer::Rows(2, Some(b'a'), Some(b'z'))),
+        (Ask::Drain, Answer::Drained(1, Some((1, 3)))),
+    ];
+    assert_eq!(rt; other_in_memory(alloc, &logs, &asks), None);
+    Ok(())
+}
+
+#[test]
 fn a_session_goes_on_from_its_parts(rt: HostRuntime) -> Result<(), Fail> {
     let alloc = rt.alloc();
     let logs = split_logs(alloc).ok_or("memory")?;
@@ -484,6 +564,23 @@ impl<'a> Feed for FailingFeed<'a> {
     ghost shape = { λ f. f.given.shape };
 }
 
+// What came that isn't as wanted, where the feed fails at this call, and how often it failed.
+fn other_with_a_fault(
+    alloc: Global,
+    logs: &LogSet,
+    asks: &[(Ask, Answer)],
+    fails_at: u64,
+) -> (Option<(usize, Answer)>, u64) {
+    let mut feed = FailingFeed::new(logs, fails_at);
+    match begin(alloc, logs, &feed) {
+        Some(mut target) => {
+            let other = first_other(&mut target, alloc, &mut feed, asks);
+            (other, feed.faults)
+        }
+        None => (Some((0, Answer::NoMemory)), 0),
+    }
+}
+
 #[test]
 fn a_session_goes_on_after_its_feed_failed(rt: HostRuntime) -> Result<(), Fail> {
     let alloc = rt.alloc();
@@ -501,14 +598,30 @@ fn a_session_goes_on_after_its_feed_failed(rt: HostRuntime) -> Result<(), Fail> 
         (Ask::Read("zzz"), Answer::Row(Some(b'9'))),
     ];
     for fails_at in 1..=7 {
-        let mut feed = FailingFeed::new(&logs, fails_at);
-        let mut target = begin(alloc, &logs, &feed).ok_or("memory")?;
         assert_eq!(rt;
-            first_other(&mut target, alloc, &mut feed, &asks),
-            None,
+            other_with_a_fault(alloc, &logs, &asks, fails_at),
+            (None, 1),
             "{fails_at}"
         );
-        assert_eq!(rt; feed.faults, 1, "{fails_at}");
+    }
+    Ok(())
+}
+
+#[test]
+fn a_drain_goes_on_after_its_feed_failed(rt: HostRuntime) -> Result<(), Fail> {
+    let alloc = rt.alloc();
+    let logs = split_logs(alloc).ok_or("memory")?;
+    let asks = [
+        (Ask::Drain, Answer::Drained(0, None)),
+        (Ask::Safe, Answer::Safe(17)),
+        (Ask::Scan, Answer::Rows(2, Some(b'a'), Some(b'z'))),
+    ];
+    for fails_at in 1..=3 {
+        assert_eq!(rt;
+            other_with_a_fault(alloc, &logs, &asks, fails_at),
+            (None, 1),
+            "{fails_at}"
+        );
     }
     Ok(())
 }

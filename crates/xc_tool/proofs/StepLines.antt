@@ -23,8 +23,8 @@ use Rattle.xc_model.proofs.SessionLaws.{is-open, steps-keep}
 use Rattle.xc_model.proofs.TimeLaws.{failover-closes}
 use Rattle.xc_script.specs.Lines.{line_text, lines_text, is_halt}
 use Rattle.xc_target.specs.Answers.{Made, Refused, IsPolled, IsStopped, IsPruned, IsNotReadable, IsDrainFail, halts}
-use Rattle.xc_target.specs.declared.answers.NotReadable.{NotReadable}
-use Rattle.xc_target.specs.declared.answers.NotReadable.TheVariants as unreadable
+use Rattle.xc_retain.specs.declared.retention.NotReadable.{NotReadable}
+use Rattle.xc_retain.specs.declared.retention.NotReadable.TheVariants as unreadable
 use Rattle.xc_target.specs.declared.answers.PruneFail.{PruneFail}
 use Rattle.xc_target.specs.declared.answers.PruneFail.TheVariants as prune
 use Rattle.xc_target.specs.declared.answers.TargetFail.{TargetFail}

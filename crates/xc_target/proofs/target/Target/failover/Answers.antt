@@ -13,19 +13,19 @@ use Rattle.xc_target.proofs.MoveLaws.{is-closed, ranges-thin, length-thin, fits-
 use Rattle.xc_target.proofs.target.Target.failover.Goals as goal
 
 restored : (c : goal.After-self-2-1) → AllZip (λ x y. y ≡ restore c.least_open-t.result x) c.self.inside.tablets.items
-    (with_items c.self.inside.tablets c.restore_all.new.tablets).items
+    (with_items c.self.inside.tablets c.restore.new.tablets).items
 restored c =
     let z = subst (λ (xs : _). AllZip
-    (λ x y. y ≡ restore c.least_open-t.result x) xs c.restore_all.new.tablets) c.deref_mut.ensures.value c.restore_all.ensures in
-    let long = length-thin (λ x y. y ≡ restore c.least_open-t.result x) c.self.inside.tablets.items c.restore_all.new.tablets z in
+    (λ x y. y ≡ restore c.least_open-t.result x) xs c.restore.new.tablets) c.deref_mut.ensures.value c.restore.ensures.restored in
+    let long = length-thin (λ x y. y ≡ restore c.least_open-t.result x) c.self.inside.tablets.items c.restore.new.tablets z in
     subst (AllZip (λ x y. y ≡ restore c.least_open-t.result x) c.self.inside.tablets.items)
-    (sym (with_items_is c.self.inside.tablets c.restore_all.new.tablets (long ∙ sym c.self.inside.tablets.ok.0))) z
+    (sym (with_items_is c.self.inside.tablets c.restore.new.tablets (long ∙ sym c.self.inside.tablets.ok.0))) z
 
 pub invariant_of-self : goal.invariant_of-self
 invariant_of-self c = record {
   ranges = subst IsPartition
       (sym (ranges-thin (λ x y. y ≡ restore c.least_open-t.result x) (restore-thins c.least_open-t.result) c.self.inside.tablets.items
-      (with_items c.self.inside.tablets c.restore_all.new.tablets).items (restored c))) c.self.invariant.ranges;
+      (with_items c.self.inside.tablets c.restore.new.tablets).items (restored c))) c.self.invariant.ranges;
 }
 
 pub returns-clause-step : goal.returns-clause-step
@@ -34,14 +34,14 @@ returns-clause-step c = λ logs m is st.
     record {
       tablets = c.self.inside.tablets.items;
       pollers = c.self.inside.pollers.items;
-      cutoff = c.self.inside.cutoff;
+      cutoff = c.self.inside.retention;
       closed =
           c.self.inside.closed;
     } in
     let safe : c.least_open-t.result ≡ safe_now logs m = c.least_open-t.ensures ∙ ap least_open c.deref.ensures.value
     ∙ ap (λ (t : TargetState). least_open t.pollers) c.self.view_is ∙ safe-is logs m c.args.self.now is st in
     is-closed logs m t is (subst (StandsForSession logs m) (sym c.self.view_is) st) c.in_default.is c.least_open-t.result
-    (with_items c.self.inside.tablets c.restore_all.new.tablets).items safe (restored c)
+    (with_items c.self.inside.tablets c.restore.new.tablets).items safe (restored c)
 
 pub returns-clause-fits : goal.returns-clause-fits
 returns-clause-fits c = λ headers counts f.
@@ -49,16 +49,16 @@ returns-clause-fits c = λ headers counts f.
     record {
       tablets = c.self.inside.tablets.items;
       pollers = c.self.inside.pollers.items;
-      cutoff = c.self.inside.cutoff;
+      cutoff = c.self.inside.retention;
       closed =
           c.self.inside.closed;
     } in
     fits-thin headers counts t (λ x y. y ≡ restore c.least_open-t.result x) (restore-thins c.least_open-t.result)
-    (with_items c.self.inside.tablets c.restore_all.new.tablets).items c.self.inside.cutoff (Some c.least_open-t.result) (restored c)
+    (with_items c.self.inside.tablets c.restore.new.tablets).items c.self.inside.retention (Some c.least_open-t.result) (restored c)
     (subst (FitsFeed headers counts) (sym c.self.view_is) f)
 
 pub returns-clause-ranges : goal.returns-clause-ranges
 returns-clause-ranges c =
     ranges-thin (λ x y. y ≡ restore c.least_open-t.result x) (restore-thins c.least_open-t.result) c.self.inside.tablets.items
-    (with_items c.self.inside.tablets c.restore_all.new.tablets).items (restored c)
+    (with_items c.self.inside.tablets c.restore.new.tablets).items (restored c)
     ∙ ap (λ (t : TargetState). map range_of t.tablets) c.self.view_is

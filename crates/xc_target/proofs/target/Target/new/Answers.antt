@@ -8,17 +8,17 @@ use Rattle.xc_target.specs.Stands.{StandsForSession}
 use Rattle.xc_target.proofs.NewLaws.{new-ranges, new-target-stands, new-target-fits}
 use Rattle.xc_target.proofs.target.Target.new.Goals as goal
 
-is-new : (c : goal.In_ok-pollers)
+is-new : (c : goal.After-new)
     → ◌≡◌ {A = TargetState} (record {
       tablets = c.in_ok-tablets.tablets.items;
       pollers = c.in_ok-pollers.pollers.items;
-      cutoff =
-          0;
+      cutoff = c.new.result;
       closed = None;
     }) (new_target c.args.headers.now c.args.bounds.now)
 is-new c =
     let tablets = c.in_ok-tablets.ensures in
     let pollers = c.in_ok-pollers.ensures in
+    let cutoff = c.new.ensures in
     cc
 
 pub invariant_of-result : goal.invariant_of-result

@@ -35,7 +35,7 @@ abbrev before : (g : Over) → After-poll-polled g → TargetState
 before g c = record {
   tablets = c.self.inside.tablets.items;
   pollers = c.self.inside.pollers.items;
-  cutoff = c.self.inside.cutoff;
+  cutoff = c.self.inside.retention;
   closed = c.self.inside.closed;
 }
 

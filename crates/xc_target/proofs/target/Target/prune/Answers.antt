@@ -1,43 +1,43 @@
-use Rattle.std.proofs.Common.{◌≡◌, ◌≤◌, ◌∙◌, map, ap, subst, arith, sym}
+use Rattle.std.proofs.Common.{◌≡◌, ◌∙◌, ℕ, List, Result, map, ap, subst, sym}
 use Rattle.std.specs.List.{AllZip}
 use Rattle.std.specs.Vec.{with_items}
 use Rattle.std.proofs.lemmas.List.{with_items_is}
 use Rattle.xc_record.specs.Bounds.{IsPartition}
 use Rattle.xc_record.specs.Session.{safe_now}
 use Rattle.xc_model.specs.Rows.{range_of}
-use Rattle.xc_model.specs.Stands.{KeepsFrom}
+use Rattle.xc_model.specs.Stands.{TargetTablet}
+use Rattle.xc_retain.specs.Retention.{IsPruned as IsKept}
+use Rattle.xc_retain.specs.declared.retention.Ahead.{Ahead}
 use Rattle.xc_target.specs.Target.{TargetState, least_open, FitsFeed}
 use Rattle.xc_target.specs.Stands.{StandsForSession}
 use Rattle.xc_target.proofs.SessionLaws.{safe-is}
-use Rattle.xc_target.proofs.MoveLaws.{stays-open, is-pruned, ranges-thin, length-thin, fits-thin, keeps-thins}
+use Rattle.xc_target.proofs.MoveLaws.{Thins, ranges-thin, length-thin, fits-thin}
+use Rattle.xc_target.proofs.PruneLaws.{thinned, same-thins, pruned-at, refused-as}
 use Rattle.xc_target.proofs.target.Target.prune.Goals as goal
+use Rattle.xc_target.proofs.target.Target.prune.Goals.{in-Ok, in-Err}
 
-pub returns-then-u-safe-clause-step : goal.returns-then-u-safe-clause-step
-returns-then-u-safe-clause-step c = λ logs m is st.
-    let safe : c.least_open-safe.result ≡ safe_now logs m = c.least_open-safe.ensures ∙ ap least_open c.deref.ensures.value
-    ∙ ap (λ (t : TargetState). least_open t.pollers) c.self.view_is ∙ safe-is logs m c.args.self.now is st in (
-      safe,
-      (
-        c.if-u-safe.true,
-        stays-open logs m c.args.self.now is st
-            (sym (ap (λ (t : TargetState). t.closed) c.self.view_is) ∙ c.in_default.is),
-      ),
-    )
+abbrev after : goal.Joined-prune → List TargetTablet
+after c = (with_items c.self.inside.tablets c.prune.new.tablets).items
 
-kept : (c : goal.After-self-2-1) → AllZip (KeepsFrom c.max-cutoff.result) c.self.inside.tablets.items
-    (with_items c.self.inside.tablets c.keep_all_from.new.tablets).items
+-- what the retention says of all tablets, where it answers r
+abbrev Kept : goal.Joined-prune → Result ℕ Ahead → Type 0
+Kept c r = IsKept c.args.u c.least_open-safe.result c.self.inside.retention c.prune.new.self c.self.inside.tablets.items (after c) r
+
+kept : (c : goal.Joined-prune) → Kept c c.prune.result
 kept c =
-    let z = subst (λ (xs : _). AllZip
-    (KeepsFrom c.max-cutoff.result) xs c.keep_all_from.new.tablets) c.deref_mut.ensures.value c.keep_all_from.ensures in
-    let long = length-thin (KeepsFrom c.max-cutoff.result) c.self.inside.tablets.items c.keep_all_from.new.tablets z in
-    subst (AllZip (KeepsFrom c.max-cutoff.result) c.self.inside.tablets.items)
-    (sym (with_items_is c.self.inside.tablets c.keep_all_from.new.tablets (long ∙ sym c.self.inside.tablets.ok.0))) z
+    let p = subst (λ (xs : _). IsKept c.args.u c.least_open-safe.result c.self.inside.retention c.prune.new.self xs c.prune.new.tablets
+    c.prune.result) c.deref_mut.ensures.value c.prune.ensures.pruned in
+    let long = length-thin Thins c.self.inside.tablets.items c.prune.new.tablets
+    (thinned _ _ _ _ c.self.inside.tablets.items c.prune.new.tablets c.prune.result p) in
+    subst (λ (ys : _). IsKept c.args.u c.least_open-safe.result c.self.inside.retention c.prune.new.self c.self.inside.tablets.items ys
+    c.prune.result) (sym (with_items_is c.self.inside.tablets c.prune.new.tablets (long ∙ sym c.self.inside.tablets.ok.0))) p
+
+thin : (c : goal.Joined-prune) → AllZip Thins c.self.inside.tablets.items (after c)
+thin c = thinned _ _ _ _ c.self.inside.tablets.items (after c) c.prune.result (kept c)
 
 pub invariant_of-self : goal.invariant_of-self
 invariant_of-self c = record {
-  ranges = subst IsPartition
-      (sym (ranges-thin (KeepsFrom c.max-cutoff.result) (keeps-thins c.max-cutoff.result) c.self.inside.tablets.items
-      (with_items c.self.inside.tablets c.keep_all_from.new.tablets).items (kept c))) c.self.invariant.ranges;
+  ranges = subst IsPartition (sym (ranges-thin Thins same-thins c.self.inside.tablets.items (after c) (thin c))) c.self.invariant.ranges;
 }
 
 pub returns-clause-step : goal.returns-clause-step
@@ -46,17 +46,20 @@ returns-clause-step c = λ logs m is st.
     record {
       tablets = c.self.inside.tablets.items;
       pollers = c.self.inside.pollers.items;
-      cutoff = c.self.inside.cutoff;
+      cutoff = c.self.inside.retention;
       closed =
           c.self.inside.closed;
     } in
     let safe : c.least_open-safe.result ≡ safe_now logs m = c.least_open-safe.ensures ∙ ap least_open c.deref.ensures.value
     ∙ ap (λ (t : TargetState). least_open t.pollers) c.self.view_is ∙ safe-is logs m c.args.self.now is st in
-    let low : c.args.u ≤ safe_now logs m = omega arith in (
-      low,
-      is-pruned logs m t is (subst (StandsForSession logs m) (sym c.self.view_is) st) c.in_default.is c.args.u c.max-cutoff.result
-          (with_items c.self.inside.tablets c.keep_all_from.new.tablets).items low c.max-cutoff.ensures (kept c),
-    )
+    let stands = subst (StandsForSession logs m) (sym c.self.view_is) st in
+    elim c.match-prune.branch [
+      | in-Ok w ↦ rw w.result-is (pruned-at logs m t is stands c.in_default.is c.args.u c.least_open-safe.result c.prune.new.self (after c)
+          safe w.in-Ok.cutoff (subst (Kept c) w.in-Ok.is (kept c)))
+      | in-Err w ↦ rw w.result-is (refused-as logs m t is stands c.in_default.is c.args.u c.least_open-safe.result c.prune.new.self
+          (after c)
+          safe w.in-Err.ahead (subst (Kept c) w.in-Err.is (kept c)))
+    ]
 
 pub returns-clause-fits : goal.returns-clause-fits
 returns-clause-fits c = λ headers counts f.
@@ -64,16 +67,14 @@ returns-clause-fits c = λ headers counts f.
     record {
       tablets = c.self.inside.tablets.items;
       pollers = c.self.inside.pollers.items;
-      cutoff = c.self.inside.cutoff;
+      cutoff = c.self.inside.retention;
       closed =
           c.self.inside.closed;
     } in
-    fits-thin headers counts t (KeepsFrom c.max-cutoff.result) (keeps-thins c.max-cutoff.result)
-    (with_items c.self.inside.tablets c.keep_all_from.new.tablets).items c.max-cutoff.result c.self.inside.closed (kept c)
+    fits-thin headers counts t Thins same-thins (after c) c.prune.new.self c.self.inside.closed (thin c)
     (subst (FitsFeed headers counts) (sym c.self.view_is) f)
 
 pub returns-clause-ranges : goal.returns-clause-ranges
 returns-clause-ranges c =
-    ranges-thin (KeepsFrom c.max-cutoff.result) (keeps-thins c.max-cutoff.result) c.self.inside.tablets.items
-    (with_items c.self.inside.tablets c.keep_all_from.new.tablets).items (kept c)
+    ranges-thin Thins same-thins c.self.inside.tablets.items (after c) (thin c)
     ∙ ap (λ (t : TargetState). map range_of t.tablets) c.self.view_is

@@ -12,7 +12,7 @@ returns-clause-step c = λ logs m is st.
     record {
       tablets = c.self.inside.tablets.items;
       pollers = c.self.inside.pollers.items;
-      cutoff = c.self.inside.cutoff;
+      cutoff = c.self.inside.retention;
       closed =
           c.self.inside.closed;
     } in
@@ -29,7 +29,7 @@ returns-clause-fits c = λ headers counts f.
     record {
       tablets = c.self.inside.tablets.items;
       pollers = c.self.inside.pollers.items;
-      cutoff = c.self.inside.cutoff;
+      cutoff = c.self.inside.retention;
       closed =
           c.self.inside.closed;
     } in

@@ -1,5 +1,6 @@
 -- A poll cut off makes the step of the session that one call of its poller makes.
 use Rattle.std.proofs.Common.{◌≡◌, ◌∙◌, ◌+◌, drop, ap, sym, subst, map, List}
+use Rattle.std.specs.Prelude.{IfOk}
 use Rattle.std.specs.Vec.{with_items}
 use Rattle.std.proofs.lemmas.List.{with_items_is}
 use Rattle.std.proofs.lemmas.Option.{IfSome_then}
@@ -8,10 +9,11 @@ use Rattle.xc_model.specs.Rows.{range_of}
 use Rattle.xc_model.specs.Stands.{TargetTablet}
 use Rattle.xc_target.specs.Target.{TargetState, FitsFeed}
 use Rattle.xc_target.specs.Stands.{StandsForSession}
-use Rattle.xc_target.specs.Answers.{IsStopped}
+use Rattle.xc_poller.specs.Polled.{IsStopped as PollerStopped}
+use Rattle.xc_target.specs.Answers.{IsStopped, GaveFirst}
 use Rattle.xc_target.proofs.PollFacts.{stopped-ended}
 use Rattle.xc_target.proofs.PollSteps.{Called, make-called, put_in, told, told-is, length-called, same-ranges, ranges-called, fits-called}
-use Rattle.xc_target.proofs.PollSteps.{fits-now, stopped-step}
+use Rattle.xc_target.proofs.PollSteps.{fits-now, stopped-step, gave-first}
 use Rattle.xc_target.proofs.target.Target.stopped_poll.Given.{Over}
 use Rattle.xc_target.proofs.target.Target.stopped_poll.Goals as goal
 use Rattle.xc_target.proofs.target.Target.stopped_poll.Goals.{After-stopped_poll-stopped}
@@ -20,7 +22,7 @@ abbrev before : (g : Over) → After-stopped_poll-stopped g → TargetState
 before g c = record {
   tablets = c.self.inside.tablets.items;
   pollers = c.self.inside.pollers.items;
-  cutoff = c.self.inside.cutoff;
+  cutoff = c.self.inside.retention;
   closed = c.self.inside.closed;
 }
 
@@ -74,6 +76,24 @@ returns-clause-step g c =
     (subst (λ (w : List TargetTablet). IsStopped logs m a.args.id a.args.n (put_in (before g a) a.args.id q w)
     (told a.stopped_poll-stopped.result)) (sym (tablets-are g a))
     (f m session (subst (StandsForSession logs m) (sym a.self.view_is) st))))
+
+pub returns-clause-given : goal.returns-clause-given
+returns-clause-given g c =
+    let a = (goal.at.returns-clause-given g c).After-stopped_poll-stopped in
+    let q = a.stopped_poll-stopped.new.self in
+    let r = a.stopped_poll-stopped.result in
+    let hs = g.F.Feed.headers a.args.feed.now in
+    let cs = g.F.Feed.counts a.args.feed.now in
+    let p = a.index_mut-poller.result.now in
+    let ys = a.stopped_poll-stopped.new.tablets in
+    let after = put_in (before g a) a.args.id q (with_items a.self.inside.tablets ys).items in
+    let went = gave-first hs cs a.args.n a.args.last a.args.id p q (before g a) (put_in (before g a) a.args.id q ys) r (called g a).at
+    (subst (λ (w : List TargetTablet). PollerStopped hs cs a.args.n a.args.last p q w ys r) a.deref_mut.ensures.value
+    a.stopped_poll-stopped.ensures.stopped) in
+    subst (λ (r : _). IfOk r (GaveFirst a.args.id a.args.last a.args.self.now after)) (told-is _ _ c.map_err.ensures.cases)
+    (subst (λ (t : TargetState). IfOk (told r) (GaveFirst a.args.id a.args.last t after)) a.self.view_is
+    (subst (λ (w : List TargetTablet). IfOk (told r) (GaveFirst a.args.id a.args.last (before g a) (put_in (before g a) a.args.id q w)))
+    (sym (tablets-are g a)) went))
 
 pub returns-clause-others : goal.returns-clause-others
 returns-clause-others g c =

@@ -30,7 +30,7 @@ use Rattle.xc_script.specs.Words.{ScriptLine, First, Target, Watch, Ask, End, ke
 use Rattle.xc_script.specs.Words.{command_key_fits, numbers_fit, keys_fit, line_of}
 use Rattle.xc_script.specs.ScriptText.{BadLine, begun, breaks_bounds, misplaced, is_unknown, is_too_many, is_scan, is_drain, kinds, moved}
 use Rattle.xc_script.specs.ScriptText.{step, step_by, unless_bad, ending, rest_of_text, go_on, lines_from, script_of}
-use Rattle.xc_script.specs.Allowed.{IsSource, IsPull, IsAllowed, IsScript, watch_lines}
+use Rattle.xc_script.specs.Allowed.{IsSource, IsPoll, IsAllowed, IsScript, watch_lines}
 
 -- ---- keys
 
@@ -118,7 +118,7 @@ keys_named v (word ∷ words) h = let parts = and_parts _ _ h in and_from _ _ (k
 
 -- ---- commands
 
-is_below : (a b : ℕ) → nat_le b a ≡ false → a < b
+pub is_below : (a b : ℕ) → nat_le b a ≡ false → a < b
 is_below a b h = grind (arith, nat_tests)
 
 lt_is : (a b : ℕ) → nat_lt a b ≡ true → a < b
@@ -127,15 +127,15 @@ lt_is a b h = grind (arith, nat_tests)
 le_is : (a b : ℕ) → nat_le a b ≡ true → a ≤ b
 le_is a b h = grind (arith, nat_tests)
 
-or_none : (a b : Bool) → a || b ≡ false → (a ≡ false) × (b ≡ false)
+pub or_none : (a b : Bool) → a || b ≡ false → (a ≡ false) × (b ≡ false)
 or_none true b h = absurd (true≢false h)
 or_none false b h = (refl, h)
 
 source_is : (sources id : ℕ) → nat_lt id 64 ≡ true → nat_le sources id ≡ false → IsSource sources id
 source_is sources id small known = record { known = is_below id sources known; small = lt_is id 64 small }
 
-pull_is : (sources id n : ℕ) → nat_lt id 64 && (nat_le 1 n && nat_le n (2 ^ 20)) ≡ true → nat_le sources id ≡ false → IsPull sources id n
-pull_is sources id n fit known =
+poll_is : (sources id n : ℕ) → nat_lt id 64 && (nat_le 1 n && nat_le n (2 ^ 20)) ≡ true → nat_le sources id ≡ false → IsPoll sources id n
+poll_is sources id n fit known =
     let parts = and_parts _ _ fit in
     let count = and_parts _ _ parts.1 in
     record { source = source_is sources id parts.0 known; least = le_is 1 n count.0; most = le_is n (2 ^ 20) count.1 }
@@ -145,11 +145,11 @@ stop_parts a b c h = let parts = and_parts a (b && c) h in and_from a b parts.0 
 
 command_allowed : (v : Version) (sources targets : ℕ) (c : Command) → command_numbers_fit c ≡ true → command_key_fits v c ≡ true
     → is_unknown sources targets (Ask c) ≡ false → IsAllowed sources targets (meant v c)
-command_allowed v sources targets (command.Poll id n) fit key known = pull_is sources id n fit known
+command_allowed v sources targets (command.Poll id n) fit key known = poll_is sources id n fit known
 command_allowed v sources targets (command.Stop id n last) fit key known =
     let there = or_none _ _ known in
     record {
-      pull = pull_is sources id n (stop_parts (nat_lt id 64) (nat_le 1 n && nat_le n (2 ^ 20))
+      poll = poll_is sources id n (stop_parts (nat_lt id 64) (nat_le 1 n && nat_le n (2 ^ 20))
           (nat_lt last 16) fit) there.0;
       known = is_below last targets there.1;
     }
@@ -251,7 +251,7 @@ passed (row ∷ rows) m after e = by row.0 refl e (λ e. passed rows m after e)
     by true is e more = cc
     by false is e more = let rest = more e in ((is, rest.0), rest.1)
 
-is_true : (b : Bool) → not b ≡ false → b ≡ true
+pub is_true : (b : Bool) → not b ≡ false → b ≡ true
 is_true true h = refl
 is_true false h = absurd (true≢false h)
 

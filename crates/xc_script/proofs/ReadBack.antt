@@ -47,37 +47,37 @@ line_words (Ask c) = command_words One c
 line_words End = codes "end" ∷ []
 
 -- a choice by the first word
-chosen : {X : Type 0} (P : Type 0) (b : Bool) (x y : Option X) (l : X) → (b ≡ true → x ≡ Some l → P) → (y ≡ Some l → P)
+pub chosen : {X : Type 0} (P : Type 0) (b : Bool) (x y : Option X) (l : X) → (b ≡ true → x ≡ Some l → P) → (y ≡ Some l → P)
     → (if b then x else y) ≡ Some l → P
 chosen _ true x y l e f h = e refl h
 chosen _ false x y l e f h = f h
 
-some_same : {X : Type 0} (a b : X) → Some a ≡ Some b → a ≡ b
+pub some_same : {X : Type 0} (a b : X) → Some a ≡ Some b → a ≡ b
 some_same a b e = cc
 
 -- what a form was made from
-record From {A X : Type 0} (f : A → X) (o : Option A) (x : X) : Type 0 where
-  part : A
-  is : o ≡ Some part
-  same : f part ≡ x
+pub record From {A X : Type 0} (f : A → X) (o : Option A) (x : X) : Type 0 where
+  pub part : A
+  pub is : o ≡ Some part
+  pub same : f part ≡ x
 
-made : {A X : Type 0} (f : A → X) (o : Option A) (x : X) → option_map f o ≡ Some x → From f o x
+pub made : {A X : Type 0} (f : A → X) (o : Option A) (x : X) → option_map f o ≡ Some x → From f o x
 made f None x h = cc
 made f (Some a) x h = record { part = a; is = refl; same = some_same (f a) x h }
 
-word_of : (word : List ℕ) (n bound : ℕ) → number_of word ≡ Some n → n < bound → bound ≤ 2 ^ 62 → word ≡ decimal n
+pub word_of : (word : List ℕ) (n bound : ℕ) → number_of word ≡ Some n → n < bound → bound ≤ 2 ^ 62 → word ≡ decimal n
 word_of word n bound is h k = sym (decimal-number_of word n (omega arith) is)
 
-lt_is : (a b : ℕ) → nat_lt a b ≡ true → a < b
+pub lt_is : (a b : ℕ) → nat_lt a b ≡ true → a < b
 lt_is a b h = grind (arith, nat_tests)
 
 le_is : (a b : ℕ) → nat_le a b ≡ true → a < b + 1
 le_is a b h = grind (arith, nat_tests)
 
-pair_same : (v w x y : List ℕ) → v ≡ x → w ≡ y → (v ∷ w ∷ []) ≡ (x ∷ y ∷ [])
+pub pair_same : (v w x y : List ℕ) → v ≡ x → w ≡ y → (v ∷ w ∷ []) ≡ (x ∷ y ∷ [])
 pair_same v w x y a b = cc
 
-triple_same : (u v w x y z : List ℕ) → u ≡ x → v ≡ y → w ≡ z → (u ∷ v ∷ w ∷ []) ≡ (x ∷ y ∷ z ∷ [])
+pub triple_same : (u v w x y z : List ℕ) → u ≡ x → v ≡ y → w ≡ z → (u ∷ v ∷ w ∷ []) ≡ (x ∷ y ∷ z ∷ [])
 triple_same u v w x y z a b c = cc
 
 four_same : (t u v w q x y z : List ℕ) → t ≡ q → u ≡ x → v ≡ y → w ≡ z → (t ∷ u ∷ v ∷ w ∷ []) ≡ (q ∷ x ∷ y ∷ z ∷ [])
@@ -233,7 +233,7 @@ version_back (word ∷ other ∷ words) v h = cc
 hash_small : (b : ℕ) → is_hash b ≡ true → b < 65536
 hash_small b h = lt_is b 65536 h
 
-cons_same : (v w : List ℕ) (vs ws : List (List ℕ)) → v ≡ w → vs ≡ ws → v ∷ vs ≡ w ∷ ws
+pub cons_same : (v w : List ℕ) (vs ws : List (List ℕ)) → v ≡ w → vs ≡ ws → v ∷ vs ≡ w ∷ ws
 cons_same v w vs ws a b = cc
 
 numbers_back : (words : List (List ℕ)) (ns : List ℕ) → all_numbers words ≡ Some ns → list_all is_hash ns ≡ true → words ≡ map decimal ns
@@ -401,7 +401,7 @@ watch_back s words stage.Target p shape some k = absurd (true≢false p)
 watch_back s words stage.Commands p shape some k = absurd (true≢false p)
 watch_back s words stage.Ended p shape some k = absurd (true≢false p)
 
-mapped_back : {A B : Type 0} (f : A → B) (xs : List A) (x : A) (y : B) → f x ≡ y → map f (xs ++ x ∷ []) ≡ map f xs ++ y ∷ []
+pub mapped_back : {A B : Type 0} (f : A → B) (xs : List A) (x : A) (y : B) → f x ≡ y → map f (xs ++ x ∷ []) ≡ map f xs ++ y ∷ []
 mapped_back f [] x y e = ap (λ z. z ∷ []) e
 mapped_back f (z ∷ xs) x y e = ap (λ l. f z ∷ l) (mapped_back f xs x y e)
 
@@ -435,7 +435,7 @@ last_back s stage.First p = absurd (true≢false p)
 last_back s stage.Target p = absurd (true≢false p)
 last_back s stage.Ended p = absurd (true≢false p)
 
-all_with : {X : Type 0} (p : X → Bool) (xs : List X) (x : X) → list_all p xs ≡ true → p x ≡ true → list_all p (xs ++ x ∷ []) ≡ true
+pub all_with : {X : Type 0} (p : X → Bool) (xs : List X) (x : X) → list_all p xs ≡ true → p x ≡ true → list_all p (xs ++ x ∷ []) ≡ true
 all_with p xs x h k = list_all-append p xs (x ∷ []) ∙ and_from _ _ h (and_from _ _ k refl)
 
 one_more : (s : Reading) (before : List (List (List ℕ))) (words : List (List ℕ)) (l : ScriptLine) → Back s before → words ≡ line_words l
@@ -530,14 +530,14 @@ rest_back : (s : Reading) (before : List (List (List ℕ))) (script : Script) (r
 rest_back s before script [] back e = no_rest before script (ended_back s before script s.stage refl back e)
 rest_back s before script (byte ∷ rest) back e = cc
 
-lines_more : (before : List (List (List ℕ))) (words : List (List ℕ))
+pub lines_more : (before : List (List (List ℕ))) (words : List (List ℕ))
     → flat_map words_line (before ++ words ∷ []) ≡ flat_map words_line before ++ words_line words
 lines_more [] words = append-nil (words_line words)
 lines_more (line ∷ before) words =
     ap (λ l. words_line line ++ l) (lines_more before words)
     ∙ sym (append_assoc (words_line line) (flat_map words_line before) (words_line words))
 
-line_of_bytes : (bytes rest : List ℕ) → words_line (split_on 32 bytes) ++ rest ≡ bytes ++ 10 ∷ rest
+pub line_of_bytes : (bytes rest : List ℕ) → words_line (split_on 32 bytes) ++ rest ≡ bytes ++ 10 ∷ rest
 line_of_bytes bytes rest = append_assoc (join_with_byte 32 (split_on 32 bytes)) (10 ∷ []) rest
     ∙ ap (λ l. l ++ 10 ∷ rest) (join-split_on 32 bytes)
 

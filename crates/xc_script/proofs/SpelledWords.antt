@@ -202,7 +202,7 @@ pub record IsSaid (v : Version) (sources targets : ℕ) (c : Command) : Type 0 w
   pub room : (before : List Command) → is_too_many before (Ask (written v c)) ≡ is_too_many before (Ask c)
   pub same : meant v (written v c) ≡ c
 
-is_lt : (a b : ℕ) → a < b → nat_lt a b ≡ true
+pub is_lt : (a b : ℕ) → a < b → nat_lt a b ≡ true
 is_lt a b h = grind (arith, nat_tests)
 
 is_le : (a b : ℕ) → a ≤ b → nat_le a b ≡ true
@@ -211,7 +211,7 @@ is_le a b h = grind (arith, nat_tests)
 not_le : (a b : ℕ) → a < b → nat_le b a ≡ false
 not_le a b h = grind (arith, nat_tests)
 
-small : (n bound : ℕ) → n < bound → bound ≤ 2 ^ 62 → n < 2 ^ 64
+pub small : (n bound : ℕ) → n < bound → bound ≤ 2 ^ 62 → n < 2 ^ 64
 small n bound h k = omega arith
 
 pub command_said : (v : Version) (sources targets : ℕ) (c : Command) → targets ≤ 16 → IsAllowed sources targets c
@@ -230,17 +230,17 @@ command_said v sources targets (command.Poll id n) few is name =
       same = refl;
     }
 command_said v sources targets (command.Stop id n last) few is name =
-    let a = decimal_is id (small id 64 is.pull.source.small (omega arith)) in
-    let b = decimal_is n (let most = is.pull.most in omega (arith, most)) in
+    let a = decimal_is id (small id 64 is.poll.source.small (omega arith)) in
+    let b = decimal_is n (let most = is.poll.most in omega (arith, most)) in
     let known = is.known in
     let c = decimal_is last (omega (arith, known)) in
     let low : last < 16 = omega (arith, known) in
     record {
       above = rw (a.above, b.above, c.above) refl;
       line = rw (a.word, b.word, c.word, a.number, b.number, c.number) refl;
-      numbers = rw (is_lt id 64 is.pull.source.small, is_le 1 n is.pull.least, is_le n (2 ^ 20) is.pull.most, is_lt last 16 low) refl;
+      numbers = rw (is_lt id 64 is.poll.source.small, is_le 1 n is.poll.least, is_le n (2 ^ 20) is.poll.most, is_lt last 16 low) refl;
       key = refl;
-      known = rw (not_le id sources is.pull.source.known, not_le last targets is.known) refl;
+      known = rw (not_le id sources is.poll.source.known, not_le last targets is.known) refl;
       room = λ before. refl;
       same = refl;
     }

@@ -134,7 +134,7 @@ mapped s f (Some a) out =
       kind.Key,
     ) ∷ later_kinds s (f a))) (moved s (f a))) (out a)
 
-is_text : (word text : List ℕ) → bytes_eq word text ≡ true → word ≡ text
+pub is_text : (word text : List ℕ) → bytes_eq word text ≡ true → word ≡ text
 is_text word text e = (bytes_eq-Decides word text).0 e
 
 no_command : (text word : List ℕ) (words : List (List ℕ)) → ((words : List (List ℕ)) → command_of text words ≡ None)

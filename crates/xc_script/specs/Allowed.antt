@@ -15,15 +15,15 @@ pub record IsSource (sources id : ℕ) : Type 0 where
   pub known : id < sources
   pub small : id < 64
 
--- a pull of up to n records of a source tablet
-pub record IsPull (sources id n : ℕ) : Type 0 where
+-- a poll of up to n records of a source tablet
+pub record IsPoll (sources id n : ℕ) : Type 0 where
   pub source : IsSource sources id
   pub least : 1 ≤ n
   pub most : n ≤ 2 ^ 20
 
--- a pull that stops after the target tablets 0 to last
+-- a poll that stops after the target tablets 0 to last
 pub record IsStop (sources targets id n last : ℕ) : Type 0 where
-  pub pull : IsPull sources id n
+  pub poll : IsPoll sources id n
   pub known : last < targets
 
 -- a read of a key at a time
@@ -32,7 +32,7 @@ pub record IsReadAt (u : ℕ) (key : List ℕ) : Type 0 where
   pub named : is_key key ≡ true
 
 abbrev pub IsAllowed : ℕ → ℕ → Command → Type 0
-IsAllowed sources targets (Poll id n) = IsPull sources id n
+IsAllowed sources targets (Poll id n) = IsPoll sources id n
 IsAllowed sources targets (Stop id n last) = IsStop sources targets id n last
 IsAllowed sources targets (Ack id) = IsSource sources id
 IsAllowed sources targets (Restart id) = IsSource sources id

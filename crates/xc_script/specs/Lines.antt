@@ -3,8 +3,8 @@
 --     value_word value      `=` and the value's word, or `absent`
 --     line_text line      a line with its end
 --     lines_text lines      lines one after the other
---     is_halt line      the line is that of a pull that met a break of the order rules
---     Appends result before text after      the text was put behind what was there; where memory ran out, a front of it may have been
+--     is_halt line      the line is that of a poll that met a break of the order rules
+--     Appends result before text after      the text was put behind what was there; where memory ran out, a prefix of it may have been
 use Rattle.std.specs.Prelude.{◌≡◌, ℕ, Bool, true, false, List, [], ◌∷◌, ◌++◌, codes, decimal, Option, Some, None, Result, Ok, Err, map}
 use Rattle.std.specs.Prelude.{flat_map}
 use Rattle.std.specs.List.{join_with_byte}
@@ -74,11 +74,11 @@ abbrev pub is_halt : Line → Bool
 is_halt (line.Halt id number kind) = true
 is_halt _ = false
 
--- a front of the text stands behind what was there before
+-- a prefix of the text stands behind what was there before
 pub record IsBegun (before text after : List ℕ) : Type 0 where
   pub written : List ℕ
   pub left : List ℕ
-  pub front : text ≡ written ++ left
+  pub prefix : text ≡ written ++ left
   pub behind : after ≡ before ++ written
 
 abbrev pub Appends : {X E : Type 0} → Result X E → List ℕ → List ℕ → List ℕ → Type 0

@@ -19,3 +19,4 @@ pub use laws::{no_text_spells_two_scripts, what_is_read_is_spelled, what_is_spel
 pub use print::{break_name, is_halt, print_line};
 pub use read::read_script;
 pub use script::{Bounds, Commands, Keys, Script};
+pub use words::{are_words, pieces};

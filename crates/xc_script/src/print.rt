@@ -12,7 +12,7 @@ use std::alloc::{AllocError, Global};
 use xc_base::{Bytes, Key, NoMemory, escape};
 use xc_record::{Break, Line};
 
-/// Whether the line is that of a pull that met a break of the order rules.
+/// Whether the line is that of a poll that met a break of the order rules.
 pub fn is_halt(line: &Line) -> bool
     ensures { result ≡ is_halt line.now }
 {
@@ -33,7 +33,7 @@ pub fn break_name(kind: Break) -> &'static str
     }
 }
 
-/// Puts the line last, with its end. Where memory ran out, a front of it may stand behind what was there before.
+/// Puts the line last, with its end. Where memory ran out, a prefix of it may stand behind what was there before.
 pub fn print_line(alloc: Global, line: &Line, out: &mut Bytes) -> Result<(), NoMemory>
     ensures { Appends result out.old (line_text line.now) out.new }
 {

@@ -14,8 +14,8 @@ use crate::script::{Bounds, Keys};
 use std::alloc::{AllocError, Global};
 use xc_base::{Key, NumberFail, read_key, read_number};
 
-// The bytes in pieces, cut at each separator.
-pub(crate) fn pieces<'a>(
+/// The bytes in pieces, cut at each separator: one at least, and an empty one where two separators touch.
+pub fn pieces<'a>(
     alloc: Global,
     bytes: &'a [u8],
     separator: u8,
@@ -25,8 +25,8 @@ pub(crate) fn pieces<'a>(
     bytes.split(|byte| *byte == separator).collect(alloc)
 }
 
-// Whether no word is empty.
-pub(crate) fn are_words(words: &[&[u8]]) -> bool
+/// Whether no word is empty, as it would be between two spaces, before the first or behind the last.
+pub fn are_words(words: &[&[u8]]) -> bool
     ensures { result ≡ list_all is_word (map (λ word. word.now) words.now) }
 {
     for word in words {

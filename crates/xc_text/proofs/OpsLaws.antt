@@ -13,6 +13,7 @@ use Rattle.xc_text.specs.declared.kind.LogKind.TheVariants.{Form, Key}
 use Rattle.xc_text.specs.Kinds.{judge}
 use Rattle.xc_text.specs.Lines.{op_written, op_meant, op_of, all_ops, ops_of, ops_in, op_is_named, with_op}
 use Rattle.xc_text.specs.Printed.{op_spelled}
+use Rattle.xc_text.specs.OneOp.{op_in}
 use Rattle.xc_text.proofs.PrintedWords.{plain_meant}
 
 -- the operations so far, and those that are left
@@ -182,3 +183,8 @@ plain_put v seen o h =
     let p = and_parts (op_is_named o) (op_spelled One o) h in
     subst (λ m. judge (λ ops. true) (λ ops. op_is_named m) (Some (seen ++ m ∷ [])) ≡ Ok (seen ++ o ∷ [])) (sym (plain_meant v o p.1))
     (rw p.0 refl)
+
+pub plain_op_in : (v : Version) (o : Op) → op_is_named o && op_spelled One o ≡ true → op_in (Some (op_meant v o)) ≡ Ok o
+plain_op_in v o h =
+    let p = and_parts (op_is_named o) (op_spelled One o) h in
+    subst (λ m. op_in (Some m) ≡ Ok o) (sym (plain_meant v o p.1)) (rw p.0 refl)

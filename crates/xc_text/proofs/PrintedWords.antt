@@ -245,7 +245,7 @@ pub op_plain : (v : Version) (op : Op) → op_is_named op ≡ true → op_spelle
 op_plain v op h s =
     let is : IsSaid v op = said v op h s in op_plain_by (name_word v op.key) (option_map (name_word v) op.value) is.key is.value
 
-op_is : (v : Version) (op : Op) → op_is_named op ≡ true → op_spelled v op ≡ true → op_of v (op_word v op) ≡ Some op
+pub op_is : (v : Version) (op : Op) → op_is_named op ≡ true → op_spelled v op ≡ true → op_of v (op_word v op) ≡ Some op
 op_is v op h s =
     let is : IsSaid v op = said v op h s in
     ap (option_map (op_meant v)) (op_is_by (name_word v op.key) (option_map (name_word v) op.value) is.key) ∙ ap Some is.back

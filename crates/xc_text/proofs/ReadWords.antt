@@ -147,7 +147,7 @@ value_back v None h = (refl, refl)
 value_back v (Some word) h = let back = name_back v word (value_there _ h) in (ap Some back.0, back.1)
 
 -- a word that is read as an operation is that operation's
-abbrev IsOp : Version → List ℕ → Op → Type 0
+abbrev pub IsOp : Version → List ℕ → Op → Type 0
 IsOp v w op = (w ≡ op_word v op) × (op_spelled v op ≡ true)
 
 meant_word : (v : Version) (w : List ℕ) (op : Op) → op_written w ≡ Some op → op_is_named (op_meant v op) ≡ true → IsOp v w (op_meant v op)
@@ -160,7 +160,7 @@ meant_word v w op is named =
       and_from _ _ key.1 value.1,
     )
 
-op_is_word : (v : Version) (w : List ℕ) (op : Op) → op_of v w ≡ Some op → op_is_named op ≡ true → IsOp v w op
+pub op_is_word : (v : Version) (w : List ℕ) (op : Op) → op_of v w ≡ Some op → op_is_named op ≡ true → IsOp v w op
 op_is_word v w op h named = by (op_written w) refl h
   where
     by : (o : Option Op) → op_written w ≡ o → option_map (op_meant v) o ≡ Some op → IsOp v w op

@@ -1,5 +1,6 @@
 pub mod Kinds
 pub mod Lines
+pub mod OneOp
 pub mod LogText
 pub mod Printed
 pub mod Spelled

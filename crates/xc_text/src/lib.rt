@@ -20,6 +20,8 @@ pub use laws::{
     no_text_spells_two_logs, what_is_printed_is_spelled, what_is_read_is_spelled,
     what_is_spelled_is_read,
 };
+pub use line::Version;
+pub use operations::{OpFail, read_op};
 pub use print::{print_logs, print_logs2};
 pub use read::read_logs;
 

@@ -15,12 +15,12 @@ use crate::record_line::{hash_in, is_tablet, is_time, read_kind, tablet_in, time
 use std::alloc::Global;
 use xc_record::{Header, Ops, Record};
 
-// How keys and values are written.
+/// How a text writes keys and values.
 #[derive(Clone, Copy, PartialEq, Eq, Debug)]
-pub(crate) enum Version {
-    // By their bytes, which are plain.
+pub enum Version {
+    /// By their bytes, which are plain.
     One,
-    // By words for any bytes.
+    /// By words for any bytes.
     Two,
 }
 

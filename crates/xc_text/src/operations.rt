@@ -3,7 +3,8 @@ ghost use Rattle.std.specs.Prelude.{◌≡◌, ◌&&◌, true, false, is_some, M
 ghost use Rattle.std.specs.List.{list_all};
 ghost use Rattle.std.specs.Option.{option_copied};
 ghost use Rattle.xc_text.specs.Kinds.{Answers};
-ghost use Rattle.xc_text.specs.Lines.{set_of, op_written, op_meant, op_is_named, ops_in, with_op};
+ghost use Rattle.xc_text.specs.Lines.{set_of, op_written, op_meant, op_of, op_is_named, ops_in, with_op};
+ghost use Rattle.xc_text.specs.OneOp.{op_in};
 ghost use Rattle.xc_text.specs.Printed.{op_spelled};
 ghost use Rattle.xc_text.specs.declared.line.Version.TheVariants.{One, Two};
 ghost use Rattle.xc_text.specs.declared.kind.Fail.TheVariants.{Bad};
@@ -11,7 +12,7 @@ ghost use Rattle.xc_text.specs.declared.kind.Fail.TheVariants.{Bad};
 use crate::cut::{Words, cut};
 use crate::kind::{Fail, LogKind};
 use crate::line::Version;
-use xc_base::{is_key, is_plain, is_value, read_key, read_value};
+use xc_base::{Key, Value, is_key, is_plain, is_value, read_key, read_value};
 use xc_record::{Op, Ops};
 
 // The key and the value of `key=value`.
@@ -134,4 +135,70 @@ pub(crate) fn read_ops(version: Version, ops: &mut Ops, mut words: Words<'_>) ->
         return Err(Fail::Bad(LogKind::Form));
     }
     Ok(())
+}
+
+/// Why a word is no operation.
+#[derive(Clone, Copy, PartialEq, Eq, Debug)]
+pub enum OpFail {
+    /// It is neither `+key=value` nor `-key`.
+    Form,
+    /// The key or the value is too long or too short, or its word is none of a name in a text of the version.
+    Name,
+}
+
+/// The operation that a word spells in a text of the version: `+key=value` sets a key, `-key` removes it. `Form` comes
+/// exactly where the word is neither, and `Name` exactly where it is, and the key or the value isn't well formed.
+pub fn read_op(version: Version, word: &[u8]) -> Result<Op, OpFail>
+    ensures { result ≡ op_in (op_of version word.now) }
+{
+    match parts(word) {
+        None => Err(OpFail::Form),
+        Some((key, value)) => named_op(version, key, value),
+    }
+}
+
+// The operation that is written so.
+#[tactic(auto, using(crate::proofs::OpsLaws::plain_op_in))]
+fn named_op(version: Version, key: &[u8], value: Option<&[u8]>) -> Result<Op, OpFail>
+    ensures { result
+        ≡ op_in (Some (op_meant version (record { key = key.now; value = option_copied value.entry }))) }
+{
+    if are_plain(key, value) {
+        return Ok(op_from(key, value));
+    }
+    match version {
+        Version::One => Err(OpFail::Name),
+        Version::Two => op_of_words(key, value),
+    }
+}
+
+fn op_from(key: &[u8], value: Option<&[u8]>) -> Op
+    requires { op_is_named (record { key = key.now; value = option_copied value }) ≡ true }
+    ensures { result ≡ record { key = key.now; value = option_copied value.entry } }
+{
+    let key = Key::of(key);
+    match value {
+        None => Op { key, value: None },
+        Some(value) => Op {
+            key,
+            value: Some(Value::of(value)),
+        },
+    }
+}
+
+// The operation that the words of any key and value stand for.
+fn op_of_words(key: &[u8], value: Option<&[u8]>) -> Result<Op, OpFail>
+    ensures { result ≡ op_in (Some (op_meant Two (record { key = key.now; value = option_copied value.entry }))) }
+{
+    let Ok(key) = read_key(key) else {
+        return Err(OpFail::Name);
+    };
+    let value = match value {
+        None => None,
+        Some(word) => match read_value(word) {
+            Ok(value) => Some(value),
+            Err(_) => return Err(OpFail::Name),
+        },
+    };
+    Ok(Op { key, value })
 }

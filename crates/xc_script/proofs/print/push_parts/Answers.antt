@@ -1,5 +1,5 @@
 use Rattle.xc_script.specs.Parts.{part_text}
-use Rattle.xc_script.proofs.Fronts.{begun_at, failed}
+use Rattle.xc_script.proofs.Prefixes.{begun_at, failed}
 use Rattle.xc_script.proofs.print.push_parts.Goals as goal
 
 pub returns-in_err-push_part : goal.returns-in_err-push_part

@@ -11,7 +11,7 @@ pub begun_after : (before first middle rest after : List ℕ) → middle ≡ bef
 begun_after before first middle rest after e b = record {
   written = first ++ b.written;
   left = b.left;
-  front = ap (λ t. first ++ t) b.front ∙ sym (append_assoc first b.written b.left);
+  prefix = ap (λ t. first ++ t) b.prefix ∙ sym (append_assoc first b.written b.left);
   behind = b.behind ∙ ap (λ t. t ++ b.written) e ∙ append_assoc before first b.written;
 }
 
@@ -20,7 +20,7 @@ pub begun_within : (before first rest after : List ℕ) → IsBegun before first
 begun_within before first rest after b = record {
   written = b.written;
   left = b.left ++ rest;
-  front = ap (λ t. t ++ rest) b.front ∙ append_assoc b.written b.left rest;
+  prefix = ap (λ t. t ++ rest) b.prefix ∙ append_assoc b.written b.left rest;
   behind = b.behind;
 }
 

@@ -1,0 +1,9 @@
+use Rattle.std.proofs.Common.{◌≡◌, ◌++◌, map, filter, drop}
+use Rattle.std.specs.List.{enumerate_from}
+use Rattle.xc_source.specs.Machine.{is_open}
+use Rattle.xc_source.proofs.universe.SourceUniverse.open_tablets.Given as goal
+
+abbrev pub invariant-loop-id : goal.invariant-loop-id
+invariant-loop-id l =
+    l.ids.items ++ map (λ p. p.0) (filter (λ p. is_open p.1) (enumerate_from l.id (drop l.id l.self.tablets)))
+    ≡ map (λ p. p.0) (filter (λ p. is_open p.1) (enumerate_from 0 l.self.tablets))

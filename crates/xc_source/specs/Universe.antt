@@ -1,0 +1,60 @@
+-- What the source universe keeps beside the machine, and what holds of it.
+use Rattle.std.specs.Prelude.{◌≡◌, ◌≤◌, ◌<◌, ◌+◌, ◌-◌, ◌^◌, ◌++◌, ◌∷◌, [], ℕ, List, Some, length, sum_by}
+use Rattle.xc_record.specs.declared.record.Kind.{Kind}
+use Rattle.xc_record.specs.declared.record.Kind.TheVariants.{Split}
+use Rattle.xc_record.specs.declared.record.Header.{Header}
+use Rattle.xc_record.specs.declared.record.Record.{Record}
+use Rattle.xc_record.specs.declared.record.Tablet.{Tablet}
+use Rattle.xc_record.specs.Grown.{with_record}
+use Rattle.xc_source.specs.declared.transaction.Provisional.{Provisional}
+use Rattle.xc_source.specs.declared.transaction.Stage.{Stage}
+use Rattle.xc_source.specs.Machine.{Transaction, records_in, commit_of, empty_tablet}
+
+-- a transaction with a write logged it before its commit, so that it commits at 2 at the earliest
+pub record IsTransaction (writes : List Provisional) (current : ℕ) (stage : Stage) : Type 0 where
+  pub few : current ≤ 64
+  pub late : (commit : ℕ) → commit_of stage ≡ Some commit → 0 < length writes → 2 ≤ commit
+
+-- how many writes there are
+abbrev pub writes_in : List Transaction → ℕ
+writes_in txns = sum_by (λ t. length t.writes) txns
+
+-- the clock and the tablets of a machine
+pub record Logged : Type 0 where
+  pub time : ℕ
+  pub tablets : List Tablet
+
+abbrev pub stepped : Logged → Logged
+stepped j = record j { time = j.time + 1 }
+
+abbrev pub logged_in : ℕ → Kind → Logged → Logged
+logged_in id kind j = record {
+  time = j.time + 1;
+  tablets = with_record id (record { time = j.time + 1; kind = kind }) j.tablets;
+}
+
+-- the tablet gets the record behind its others, and two tablets with these headers stand behind all
+abbrev pub split_tablets : ℕ → Record → Header → Header → List Tablet → List Tablet
+split_tablets id r left right ts = with_record id r ts ++ empty_tablet left ∷ empty_tablet right ∷ []
+
+-- a tablet with the header h is split at the hash `at`
+abbrev pub split_in : ℕ → ℕ → Header → Logged → Logged
+split_in id at h j =
+    let left = length j.tablets in
+    record {
+      time = j.time + 1;
+      tablets = split_tablets id (record { time = j.time + 1; kind = Split at left (left + 1) })
+          (record { id = left; lo = h.lo; hi = at - 1; parent = Some id }) (record { id = left + 1; lo = at; hi = h.hi; parent = Some id })
+          j.tablets;
+    }
+
+-- count is the number of records, and they and the tablets are within the limits
+pub record IsJournal (tablets : List Tablet) (count : ℕ) : Type 0 where
+  pub all : count ≡ records_in tablets
+  pub most : count ≤ 2 ^ 20
+  pub few : length tablets ≤ 64
+
+pub record IsUniverse (time : ℕ) (txns : List Transaction) : Type 0 where
+  pub numbered : length txns < 2 ^ 32
+  -- each write took a time of the clock
+  pub timed : writes_in txns ≤ time

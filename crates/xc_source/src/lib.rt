@@ -1,0 +1,16 @@
+//! The source universe: a machine that makes the logs of a source, and its definition.
+#![tactic(auto)]
+
+mod command;
+mod commit;
+mod fail;
+mod journal;
+mod tablets;
+mod transaction;
+mod universe;
+
+pub use command::SourceCommand;
+pub use commit::Commit;
+pub use fail::SourceFail;
+pub use transaction::{Provisional, Stage};
+pub use universe::SourceUniverse;

@@ -1,0 +1,9 @@
+pub mod WordLists
+pub mod StepLaws
+pub mod AllowedLaws
+pub mod RunLaws
+pub mod SpelledWords
+pub mod SpelledRun
+pub mod ReadBack
+pub mod MadeLaws
+mod WorkedSources

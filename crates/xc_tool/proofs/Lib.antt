@@ -4,3 +4,5 @@ pub mod Pasts
 pub mod ReportLine
 pub mod Statuses
 pub mod Upgrades
+pub mod Makes
+pub mod Made

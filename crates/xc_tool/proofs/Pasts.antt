@@ -13,7 +13,8 @@ use Rattle.xc_record.specs.declared.session.PollAnswer.{PollAnswer}
 use Rattle.xc_record.specs.declared.session.PollAnswer.TheVariants as poll
 use Rattle.xc_record.specs.Agreement.{Disagreement, disagreement}
 use Rattle.xc_record.specs.Session.{Session, IsSession, safe_now, start}
-use Rattle.xc_record.specs.Step.{step, open_step, poll_answer, poll_step, stop_step, prune_step, read_at_line, refuses, lines_from}
+use Rattle.xc_record.specs.Step.{step, open_step, poll_answer, poll_step, stop_step, prune_step, read_at_line, refuses, is_change}
+use Rattle.xc_record.specs.Step.{lines_from}
 use Rattle.xc_record.specs.Valid.{is_valid}
 use Rattle.xc_model.proofs.SessionLaws.{steps-keep, steps-rise, stays-closed, sessions-start}
 use Rattle.xc_model.proofs.TimeLaws.{named-times-rise, closed-times}
@@ -35,57 +36,76 @@ use Rattle.xc_tool.proofs.Statuses.{never_ended}
 
 -- ---- one command
 
-poll-leads : (logs : Logs) (m : Session) (s : ℕ) (a : PollAnswer) → Leads logs (poll_step m s a).1
-poll-leads logs m s (poll.Polled k) = refl
-poll-leads logs m s (poll.Waits parent) = refl
-poll-leads logs m s poll.AtEnd = refl
-poll-leads logs m s (poll.Halted number kind) = refl
+poll-leads : (logs : Logs) (m : Session) (id n : ℕ) (a : PollAnswer) → Leads logs (command.Poll id n) (poll_step m id a).1
+poll-leads logs m id n (poll.Polled k) = (refl, refl)
+poll-leads logs m id n (poll.Waits parent) = (refl, refl)
+poll-leads logs m id n poll.AtEnd = (refl, refl)
+poll-leads logs m id n (poll.Halted number kind) = (refl, refl)
 
-stop-leads : (logs : Logs) (m : Session) (s : ℕ) (a : PollAnswer) → Leads logs (stop_step m s a).1
-stop-leads logs m s (poll.Polled k) = refl
-stop-leads logs m s (poll.Waits parent) = refl
-stop-leads logs m s poll.AtEnd = refl
-stop-leads logs m s (poll.Halted number kind) = refl
+stop-leads : (logs : Logs) (m : Session) (id n last : ℕ) (a : PollAnswer) → Leads logs (command.Stop id n last) (stop_step m id a).1
+stop-leads logs m id n last (poll.Polled k) = (refl, refl)
+stop-leads logs m id n last (poll.Waits parent) = (refl, refl)
+stop-leads logs m id n last poll.AtEnd = (refl, refl)
+stop-leads logs m id n last (poll.Halted number kind) = (refl, refl)
 
-open-leads : (logs : Logs) (m : Session) (c : Command) → Leads logs (open_step logs m c).1
+open-leads : (logs : Logs) (m : Session) (c : Command) → Leads logs c (open_step logs m c).1
 unfolding open_step
-open-leads logs m (command.Poll id n) = poll-leads logs m id (poll_answer logs m id n)
-open-leads logs m (command.Stop id n last) = stop-leads logs m id (poll_answer logs m id n)
-open-leads logs m (command.Ack id) = refl
-open-leads logs m (command.Restart id) = refl
-open-leads logs m command.Drain = refl
-open-leads logs m command.Safe = refl
-open-leads logs m (command.Read key) = refl
+open-leads logs m (command.Poll id n) = poll-leads logs m id n (poll_answer logs m id n)
+open-leads logs m (command.Stop id n last) = stop-leads logs m id n last (poll_answer logs m id n)
+open-leads logs m (command.Ack id) = (refl, refl)
+open-leads logs m (command.Restart id) = (refl, refl)
+open-leads logs m command.Drain = (tt, refl)
+open-leads logs m command.Safe = (tt, refl)
+open-leads logs m (command.Read key) = (refl, refl)
 open-leads logs m (command.ReadAt u key) = by (nat_lt (safe_now logs m) u) (nat_lt u m.cutoff)
   where
     by : (a b : Bool)
-        → Leads logs ((if a then line.Ahead u (safe_now logs m) else
+        → Leads logs (command.ReadAt u key) ((if a then line.Ahead u (safe_now logs m) else
         (if b then line.Pruned u m.cutoff else line.ReadAt u key (Rattle.xc_record.specs.Rows.row logs u key))) ∷ [])
-    by true b = refl
-    by false true = refl
-    by false false = refl
-open-leads logs m command.Scan = refl
+    by true b = (refl, refl)
+    by false true = (refl, refl)
+    by false false = ((refl, refl), refl)
+open-leads logs m command.Scan = (tt, refl)
 open-leads logs m (command.Prune u) = by (nat_lt (safe_now logs m) u)
   where
     either : Bool → Session × List Line
     either b = if b then (m, line.Ahead u (safe_now logs m) ∷ []) else
         (record m { cutoff = max m.cutoff u }, line.Prune (max m.cutoff u) ∷ [])
 
-    by : (b : Bool) → Leads logs (either b).1
-    by true = refl
-    by false = refl
-open-leads logs m command.Failover = refl
-open-leads logs m command.Report = refl
+    by : (b : Bool) → Leads logs (command.Prune u) (either b).1
+    by true = (refl, refl)
+    by false = (tt, refl)
+open-leads logs m command.Failover = (tt, refl)
+open-leads logs m command.Report = (tt, refl)
 
-leads : (logs : Logs) (m : Session) (c : Command) → Leads logs (step logs m c).1
+leads : (logs : Logs) (m : Session) (c : Command) → Leads logs c (step logs m c).1
 unfolding step
-leads logs m c = elim (refuses m c) as (λ o. Leads logs (option_map_or (λ t. (m, line.Closed t ∷ [])) o (open_step logs m c)).1) [
-  | Some t ↦ refl
-  | None ↦ open-leads logs m c
-]
+leads logs m c = elim (is_change c) as (λ b. is_change c ≡ b →
+    Leads logs c (option_map_or (λ t. (m, line.Closed t ∷ [])) (if b then m.closed else None) (open_step logs m c)).1) [
+      | true ↦ changes m.closed
+      | false ↦ λ e. open-leads logs m c
+    ] refl
+  where
+    refused : (c : Command) (t : ℕ) → is_change c ≡ true → Leads logs c (line.Closed t ∷ [])
+    refused (command.Poll id n) t e = (e, refl)
+    refused (command.Stop id n last) t e = (e, refl)
+    refused (command.Ack id) t e = (e, refl)
+    refused (command.Restart id) t e = (e, refl)
+    refused command.Drain t e = (e, refl)
+    refused command.Safe t e = cc
+    refused (command.Read key) t e = cc
+    refused (command.ReadAt u key) t e = cc
+    refused command.Scan t e = cc
+    refused (command.Prune u) t e = (e, refl)
+    refused command.Failover t e = (e, refl)
+    refused command.Report t e = cc
+
+    changes : (o : Option ℕ) → is_change c ≡ true → Leads logs c (option_map_or (λ t. (m, line.Closed t ∷ [])) o (open_step logs m c)).1
+    changes (Some t) e = refused c t e
+    changes None e = open-leads logs m c
 
 shown : (logs : Logs) (m : Session) (c : Command) → is_valid logs ≡ true → IsSession logs m
-    → IsShown logs m (step logs m c).0 (step logs m c).1
+    → IsShown logs m (step logs m c).0 c (step logs m c).1
 shown logs m c valid is = record {
   session = steps-keep logs m c valid is;
   says = lines-name logs m c is;

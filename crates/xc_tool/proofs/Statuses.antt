@@ -15,12 +15,18 @@ use Rattle.xc_agree.specs.Audit.{audit_of}
 use Rattle.xc_text.specs.LogText.{BadLine, logs_of}
 use Rattle.xc_tool.specs.declared.refusal.Refusal.{Refusal}
 use Rattle.xc_tool.specs.declared.refusal.Refusal.TheVariants.{LogsTooLong, BadLogs, Disagree, ScriptTooLong, BadScript}
+use Rattle.xc_tool.specs.declared.refusal.Refusal.TheVariants.{SourceTooLong, BadSource, RefusedCommand}
 use Rattle.xc_tool.specs.declared.words.Form.{Form}
-use Rattle.xc_tool.specs.declared.words.Form.TheVariants.{Audit as AuditForm, Replay, Upgrade}
+use Rattle.xc_tool.specs.declared.words.Form.TheVariants.{Audit as AuditForm, Make, Replay, Upgrade}
 use Rattle.xc_tool.specs.Outcome.{refusal_output, refusal_status, output_for, replay_input, replay_output, audit_input, audit_in}
 use Rattle.xc_tool.specs.Outcome.{unless_disagree, audit_output, upgrade_input, upgrade_output, reads_of, logs_input, logs_in, logs_spelled}
 use Rattle.xc_tool.specs.Outcome.{agreed, unless_contradicted, script_input, script_spelled, script_in, usage_output, RefusesLogs, InOrder}
-use Rattle.xc_tool.specs.Outcome.{StopsInOrder, IsUsage}
+use Rattle.xc_tool.specs.Outcome.{StopsInOrder, IsUsage, make_in, make_input, make_output, source_spelled, unless_refused}
+use Rattle.xc_source.specs.Machine.{Machine}
+use Rattle.xc_source.specs.declared.fail.SourceFail.{SourceFail}
+use Rattle.xc_source_script.specs.Made.{made_of}
+use Rattle.xc_source_script.specs.SourceText.{BadLine as BadSourceLine, source_of}
+use Rattle.xc_source_script.specs.declared.script.SourceScript.{SourceScript}
 use Rattle.xc_script.specs.ScriptText.{BadLine as BadScriptLine, script_of}
 use Rattle.xc_script.specs.declared.script.Script.{Script}
 use Rattle.xc_record.specs.Agreement.{Disagreement, disagreement}
@@ -32,6 +38,9 @@ never_ended (BadLogs line kind) e = elim e [ inl h ↦ cc | inr h ↦ cc ]
 never_ended (Disagree txn tablet kind) e = elim e [ inl h ↦ cc | inr h ↦ cc ]
 never_ended ScriptTooLong e = elim e [ inl h ↦ cc | inr h ↦ cc ]
 never_ended (BadScript line kind) e = elim e [ inl h ↦ cc | inr h ↦ cc ]
+never_ended SourceTooLong e = elim e [ inl h ↦ cc | inr h ↦ cc ]
+never_ended (BadSource line kind) e = elim e [ inl h ↦ cc | inr h ↦ cc ]
+never_ended (RefusedCommand line fail) e = elim e [ inl h ↦ cc | inr h ↦ cc ]
 
 -- ---- usage
 
@@ -44,6 +53,9 @@ not_usage (Err (BadLogs line kind)) output never e = cc
 not_usage (Err (Disagree txn tablet kind)) output never e = cc
 not_usage (Err ScriptTooLong) output never e = cc
 not_usage (Err (BadScript line kind)) output never e = cc
+not_usage (Err SourceTooLong) output never e = cc
+not_usage (Err (BadSource line kind)) output never e = cc
+not_usage (Err (RefusedCommand line fail)) output never e = cc
 
 -- a status that is neither that of a halt nor that of a whole run
 abbrev IsOther : Status → Type 0
@@ -66,6 +78,7 @@ usage_only (Some Replay) a b e =
 usage_only (Some AuditForm) a b e =
     absurd (not_usage (audit_input a) audit_output (λ x e. not_end _ status.Usage ((λ h. cc), (λ h. cc)) e) e)
 usage_only (Some Upgrade) a b e = absurd (not_usage (upgrade_input a) upgrade_output (λ x h. cc) e)
+usage_only (Some Make) a b e = absurd (not_usage (make_input b) make_output (λ x h. cc) e)
 
 pub usage_ran : (form : Option Form) (reads : Reads) (result : Status) (logs script out : Stream)
     → Ran (Is (output_for form)) reads result logs script out → result ≡ status.Usage → form ≡ None
@@ -209,6 +222,36 @@ upgrade_stops_in_order (stop.Refused r) logs script took same = record {
 upgrade_stops_in_order stop.ReadFault logs script took same = tt
 upgrade_stops_in_order stop.NoMemory logs script took same = tt
 
+made_status : (d : Result Machine (ℕ × SourceFail)) (r : Refusal) → unless_refused d ≡ Err r → refusal_status r ≡ status.BadScript
+made_status (Ok m) r e = cc
+made_status (Err refused) r e = let s : RefusedCommand refused.0 refused.1 ≡ r = cc in ap refusal_status (sym s)
+
+source_status : (d : Result SourceScript BadSourceLine) (r : Refusal)
+    → (source_spelled d >>= (λ script. unless_refused (made_of script))) ≡ Err r → refusal_status r ≡ status.BadScript
+source_status (Ok script) r e = made_status (made_of script) r e
+source_status (Err bad) r e = let s : BadSource bad.line bad.kind ≡ r = cc in ap refusal_status (sym s)
+
+make_refused : (text : List ℕ) (r : Refusal) → make_input text ≡ Err r → refusal_status r ≡ status.BadScript
+make_refused text r e =
+    elim (nat_lt (2 ^ 20) (length text)) as (λ b. (if b then Err SourceTooLong else make_in text) ≡ Err r
+    → refusal_status r ≡ status.BadScript) [
+      | true ↦ λ h. let s : SourceTooLong ≡ r = cc in ap refusal_status (sym s)
+      | false ↦ λ h. source_status (source_of text) r h
+    ] e
+
+abbrev script_alone : Reads
+script_alone = record { logs = false; script = true }
+
+-- the source script stopped
+pub make_stops_in_order : (s : Stop Refusal) (logs script : Stream) → Took make_input (Err s) script → IsUntouched logs
+    → StopsInOrder script_alone s logs script
+make_stops_in_order (stop.Refused r) logs script took same = record {
+  logs_first = λ e. absurd (not_of_script (refusal_status r) e (make_refused took.bytes r took.found));
+  script_next = λ e. same;
+}
+make_stops_in_order stop.ReadFault logs script took same = tt
+make_stops_in_order stop.NoMemory logs script took same = tt
+
 shown_status : (output : Output) (s result : Status) (out : Stream) → ((o : Output) → Shows o s out → s ≡ o.status)
     → Shows output result out → result ≡ s → s ≡ output.status
 shown_status output s result out reads shown e = reads output (subst (λ r. Shows output r out) e shown)
@@ -245,6 +288,11 @@ pub upgrade_in_order : (upgraded : Logs) (reads : Reads) (result : Status) (logs
     → Wrote (upgrade_output upgraded) ⊥ result out → InOrder reads result logs script
 upgrade_in_order upgraded reads result logs script out wrote =
     written_in_order (upgrade_output upgraded) reads result logs script out (not_refused false) (λ e. cc) wrote
+
+pub make_in_order : (made : Machine) (reads : Reads) (result : Status) (logs script out : Stream)
+    → Wrote (make_output made) ⊥ result out → InOrder reads result logs script
+make_in_order made reads result logs script out wrote =
+    written_in_order (make_output made) reads result logs script out (not_refused false) (λ e. cc) wrote
 
 -- the input stopped, and its line was written
 pub ended_in_order : (reads : Reads) (s : Stop Refusal) (result : Status) (logs script out : Stream) → StopsInOrder reads s logs script

@@ -12,6 +12,7 @@ use Rattle.xc_text.proofs.SpelledRun.{spelled_is_read}
 use Rattle.xc_text.proofs.ReadBack.{read_is_spelled}
 use Rattle.xc_tool.specs.declared.refusal.Refusal.{Refusal}
 use Rattle.xc_tool.specs.declared.refusal.Refusal.TheVariants.{LogsTooLong, BadLogs, Disagree, ScriptTooLong, BadScript}
+use Rattle.xc_tool.specs.declared.refusal.Refusal.TheVariants.{SourceTooLong, BadSource, RefusedCommand}
 use Rattle.xc_tool.specs.Outcome.{logs_spelled, audit_input, audit_output, unless_disagree, upgrade_input, upgrade_output, refusal_output}
 use Rattle.xc_tool.specs.Outcome.{refusal_status}
 use Rattle.xc_tool.specs.Upgrades.{UpgradeKeepsLogs, UpgradeKeepsAudit}
@@ -20,12 +21,15 @@ pub keeps_logs : UpgradeKeepsLogs
 keeps_logs text logs read = spelled_is_read _ logs (printed_is_spelled _ logs (read_is_spelled text logs read).valid (logs_two logs))
 
 -- a refusal's status isn't that of a whole run
-not_ok : (r : Refusal) → refusal_status r ≡ status.Ok → ⊥
+pub not_ok : (r : Refusal) → refusal_status r ≡ status.Ok → ⊥
 not_ok LogsTooLong e = cc
 not_ok (BadLogs line kind) e = cc
 not_ok (Disagree txn tablet kind) e = cc
 not_ok ScriptTooLong e = cc
 not_ok (BadScript line kind) e = cc
+not_ok SourceTooLong e = cc
+not_ok (BadSource line kind) e = cc
+not_ok (RefusedCommand line fail) e = cc
 
 spelled_as : (d : Result Logs BadLine) (logs : Logs) → logs_spelled d ≡ Ok logs → d ≡ Ok logs
 spelled_as (Ok l) logs e = let same : l ≡ logs = cc in ap (λ l. Ok l) same

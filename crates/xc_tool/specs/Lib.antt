@@ -2,6 +2,8 @@ pub mod Words
 pub mod AuditLines
 pub mod Steps
 pub mod Answers
+pub mod Sources
 pub mod Outcome
 pub mod Headline
 pub mod Upgrades
+pub mod Makes

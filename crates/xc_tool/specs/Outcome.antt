@@ -22,16 +22,24 @@ use Rattle.xc_record.specs.Session.{start}
 use Rattle.xc_record.specs.Step.{lines_from}
 use Rattle.xc_text.specs.Kinds.{kind_name}
 use Rattle.xc_text.specs.LogText.{BadLine, logs_of}
-use Rattle.xc_text.specs.Printed.{text2_of}
+use Rattle.xc_text.specs.Printed.{least_version, text2_of, text_of}
 use Rattle.xc_tool.specs.declared.refusal.Refusal.{Refusal}
 use Rattle.xc_tool.specs.declared.refusal.Refusal.TheVariants.{LogsTooLong, BadLogs, Disagree, ScriptTooLong, BadScript}
+use Rattle.xc_tool.specs.declared.refusal.Refusal.TheVariants.{SourceTooLong, BadSource, RefusedCommand}
 use Rattle.xc_tool.specs.declared.words.Form.{Form}
-use Rattle.xc_tool.specs.declared.words.Form.TheVariants.{Audit as AuditForm, Replay, Upgrade}
+use Rattle.xc_tool.specs.declared.words.Form.TheVariants.{Audit as AuditForm, Make, Replay, Upgrade}
 use Rattle.xc_tool.specs.AuditLines.{agree_name, audit_text, is_halted}
 use Rattle.xc_script.specs.declared.script.Script.{Script}
 use Rattle.xc_script.specs.Kinds.{kind_name as script_kind_name}
 use Rattle.xc_script.specs.Lines.{lines_text, is_halt}
 use Rattle.xc_script.specs.ScriptText.{BadLine as BadScriptLine, script_of}
+use Rattle.xc_source.specs.Machine.{Machine, logs_of as made_logs}
+use Rattle.xc_source.specs.declared.fail.SourceFail.{SourceFail}
+use Rattle.xc_source_script.specs.Kinds.{kind_name as source_kind_name}
+use Rattle.xc_source_script.specs.Made.{made_of}
+use Rattle.xc_source_script.specs.SourceText.{BadLine as BadSourceLine, source_of}
+use Rattle.xc_source_script.specs.declared.script.SourceScript.{SourceScript}
+use Rattle.xc_tool.specs.Sources.{bad_source, fail_name}
 use Rattle.xc_tool.specs.Words.{form_of}
 
 -- an output, or why the input is refused
@@ -90,6 +98,24 @@ script_in sources text = script_spelled (script_of sources text)
 abbrev pub script_input : ℕ → List ℕ → Result Script Refusal
 script_input sources = within (2 ^ 20) ScriptTooLong (script_in sources)
 
+abbrev pub source_spelled : Result SourceScript BadSourceLine → Result SourceScript Refusal
+source_spelled (Ok script) = Ok script
+source_spelled (Err bad) = Err (BadSource bad.line bad.kind)
+
+-- the source after all commands, where none is refused
+abbrev pub unless_refused : Result Machine (ℕ × SourceFail) → Result Machine Refusal
+unless_refused (Ok machine) = Ok machine
+unless_refused (Err refused) = Err (RefusedCommand refused.0 refused.1)
+
+abbrev pub make_in : List ℕ → Result Machine Refusal
+make_in text = do
+  script ← source_spelled (source_of text)
+  unless_refused (made_of script)
+
+-- what a source script makes
+abbrev pub make_input : List ℕ → Result Machine Refusal
+make_input = within (2 ^ 20) SourceTooLong make_in
+
 -- ---- the commands of the command line, each in its order of work
 
 abbrev pub replay_input : List ℕ → List ℕ → Result (Logs × Script) Refusal
@@ -98,7 +124,7 @@ replay_input logs script = do
   s ← script_input (length l.tablets) script
   Ok (l, s)
 
--- halted where a pull met a break
+-- halted where a poll met a break
 abbrev pub lines_output : List Line → Output
 lines_output lines = record { text = lines_text lines; status = if list_any is_halt lines then status.Halted else status.Ok }
 
@@ -128,6 +154,15 @@ upgrade_run logs script = do
   l ← upgrade_input logs
   Ok (upgrade_output l)
 
+-- the log text, of version 1 exactly where all keys and values are plain
+abbrev pub make_output : Machine → Output
+make_output m = record { text = text_of (least_version (made_logs m)) (made_logs m); status = status.Ok }
+
+abbrev pub make_run : List ℕ → List ℕ → Defined
+make_run logs script = do
+  m ← make_input script
+  Ok (make_output m)
+
 abbrev pub usage_output : Output
 usage_output = record { text = codes "usage: the words after xcr do not form a command\n"; status = status.Usage }
 
@@ -136,12 +171,14 @@ run_of None logs script = Ok usage_output
 run_of (Some Replay) logs script = replay_run logs script
 run_of (Some AuditForm) logs script = audit_run logs script
 run_of (Some Upgrade) logs script = upgrade_run logs script
+run_of (Some Make) logs script = make_run logs script
 
 abbrev pub reads_of : Option Form → Reads
 reads_of None = record { logs = false; script = false }
 reads_of (Some Replay) = record { logs = true; script = true }
 reads_of (Some AuditForm) = record { logs = true; script = false }
 reads_of (Some Upgrade) = record { logs = true; script = false }
+reads_of (Some Make) = record { logs = false; script = true }
 
 -- ---- the line of a refusal, and the statuses
 
@@ -152,6 +189,9 @@ line_of (Disagree txn tablet kind) =
     codes "disagree " ++ decimal txn ++ codes " " ++ decimal tablet ++ codes " " ++ agree_name kind ++ codes "\n"
 line_of ScriptTooLong = codes "script too long\n"
 line_of (BadScript line kind) = codes "bad script " ++ decimal line ++ codes " " ++ script_kind_name kind ++ codes "\n"
+line_of SourceTooLong = codes "source too long\n"
+line_of (BadSource line kind) = bad_source line (source_kind_name kind)
+line_of (RefusedCommand line fail) = bad_source line (fail_name fail)
 
 abbrev pub refusal_status : Refusal → Status
 refusal_status LogsTooLong = status.BadLogs
@@ -159,6 +199,9 @@ refusal_status (BadLogs line kind) = status.BadLogs
 refusal_status (Disagree txn tablet kind) = status.Disagree
 refusal_status ScriptTooLong = status.BadScript
 refusal_status (BadScript line kind) = status.BadScript
+refusal_status SourceTooLong = status.BadScript
+refusal_status (BadSource line kind) = status.BadScript
+refusal_status (RefusedCommand line fail) = status.BadScript
 
 abbrev pub refusal_output : Refusal → Output
 refusal_output refusal = record { text = line_of refusal; status = refusal_status refusal }

@@ -4,7 +4,7 @@
 use Rattle.std.specs.Prelude.{ℕ, Bool, false, not, ◌&&◌, ◌==◌, if◌then◌else◌, List, [], ◌∷◌, codes, Option, Some, None}
 use Rattle.std.specs.Str.{bytes_eq}
 use Rattle.xc_tool.specs.declared.words.Form.{Form}
-use Rattle.xc_tool.specs.declared.words.Form.TheVariants.{Audit, Replay, Upgrade}
+use Rattle.xc_tool.specs.declared.words.Form.TheVariants.{Audit, Make, Replay, Upgrade}
 
 abbrev pub is_name : List ℕ → Bool
 is_name [] = false
@@ -14,5 +14,6 @@ abbrev pub form_of : List (List ℕ) → Option Form
 form_of (word ∷ logs ∷ script ∷ []) = if bytes_eq word (codes "replay") && (is_name logs && is_name script) then Some Replay else None
 form_of (word ∷ logs ∷ []) =
     if bytes_eq word (codes "audit") && is_name logs then Some Audit
-    else (if bytes_eq word (codes "upgrade") && is_name logs then Some Upgrade else None)
+    else (if bytes_eq word (codes "upgrade") && is_name logs then Some Upgrade
+    else (if bytes_eq word (codes "make") && is_name logs then Some Make else None))
 form_of words = None

@@ -5,6 +5,7 @@ mod answer;
 mod audit;
 mod commands;
 mod laws;
+mod make;
 mod quiet;
 mod refusal;
 mod replay;
@@ -14,7 +15,7 @@ mod top;
 mod upgrade;
 mod words;
 
-pub use laws::{an_upgrade_keeps_the_audit, replays_show_the_past};
+pub use laws::{an_upgrade_keeps_the_audit, made_logs_show_commits, replays_show_the_past};
 pub use quiet::run_quiet;
 pub use refusal::Refusal;
 pub use top::run;

@@ -7,7 +7,7 @@ use crate::top::run;
 use std::alloc::Global;
 use xc_base::{QuietSink, QuietSource, Sink, Source, Status};
 
-/// `run` over sources and a sink in memory, which never fail: the whole outcome comes, or want of memory.
+/// `run` over sources and a sink in memory, which never fail: the whole outcome comes, or memory ran out.
 pub fn run_quiet(
     alloc: Global,
     words: &[String],

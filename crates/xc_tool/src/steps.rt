@@ -24,7 +24,8 @@ use xc_text::{LogsFail, read_logs};
 
 const LOGS_LIMIT: u64 = 1 << 26;
 
-const SCRIPT_LIMIT: u64 = 1 << 20;
+/// The most bytes of a script, and of a source script.
+pub const SCRIPT_LIMIT: u64 = 1 << 20;
 
 const USAGE: &str = "usage: the words after xcr do not form a command\n";
 

@@ -269,3 +269,130 @@ fn each_command_has_its_lines_and_they_go_out_before_the_next(rt: HostRuntime) -
     }
     Ok(())
 }
+
+// The second of two roots is split while a committed transaction waits there.
+const SOURCE: &str = "xcsource 1
+start 100
+tablet 0 0 32767 root
+tablet 1 32768 65535 root
+put +aaa=1
+begin
+write 1 +aaa=2
+write 1 +zzz=3
+commit 1
+safe 0
+apply 1 0
+split 1 50000
+safe 0
+finish
+end
+";
+
+const MADE: &str = "xclog 1
+tablet 0 0 32767 root
+tablet 1 32768 65535 root
+tablet 2 32768 49999 child 1
+tablet 3 50000 65535 child 1
+0 101 write +aaa=1
+0 102 intent 1 +aaa=2
+0 105 safe 103
+0 106 apply 1 104
+0 108 safe 108
+0 110 safe 110
+1 103 intent 1 +zzz=3
+1 107 split 50000 2 3
+2 111 safe 111
+3 109 apply 1 104
+3 112 safe 112
+end
+";
+
+const SAVEPOINTS: &str = "xcsource 2
+start 0
+tablet 0 0 65535 root
+begin
+write 1 +aaa=1
+savepoint 1
+write 1 +a%20b=2
+rollback 1 1
+write 1 +ccc=3
+commit 1
+finish
+end
+";
+
+const SAVEPOINTS_MADE: &str = "xclog 2
+tablet 0 0 65535 root
+0 1 intent 1 +aaa=1
+0 2 intent 1 sub 1 +a%20b=2
+0 3 intent 1 sub 2 +ccc=3
+0 5 apply 1 4 without 1
+0 6 safe 6
+end
+";
+
+// A source script of version 2 with one root from time 0, and these commands.
+fn source(alloc: Global, commands: &str) -> Result<Bytes, Fail> {
+    let mut text = bytes(alloc, "xcsource 2\nstart 0\ntablet 0 0 65535 root\n")?;
+    text.extend(commands.as_bytes())?;
+    text.extend(b"end\n")?;
+    Ok(text)
+}
+
+// What `make` writes for a source script, with its status.
+fn made(alloc: Global, text: Bytes) -> Result<(Status, QuietSink), Fail> {
+    let mut logs = QuietSource::new(Bytes::new(alloc));
+    let mut script = QuietSource::new(text);
+    let mut out = QuietSink::new(alloc);
+    let asked = words(alloc, "make source")?;
+    let found = run_quiet(alloc, &asked, &mut logs, &mut script, &mut out);
+    Ok((found, out))
+}
+
+#[test]
+fn a_source_script_makes_its_logs(rt: HostRuntime) -> Result<(), Fail> {
+    let alloc = rt.alloc();
+    for (text, status, output) in [
+        (SOURCE, Status::Ok, MADE),
+        (SAVEPOINTS, Status::Ok, SAVEPOINTS_MADE),
+        ("", Status::BadScript, "bad source 1 no-end\n"),
+        (
+            "xcsource 1\nstart 0\nend\n",
+            Status::BadScript,
+            "bad source 3 header\n",
+        ),
+    ] {
+        let (found, out) = made(alloc, bytes(alloc, text)?)?;
+        assert_eq!(rt; found, status);
+        assert_eq!(rt; out.written(), output.as_bytes());
+    }
+    Ok(())
+}
+
+#[test]
+fn the_first_refused_command_is_told_by_its_line(rt: HostRuntime) -> Result<(), Fail> {
+    let alloc = rt.alloc();
+    for (commands, output) in [
+        ("commit 1\n", "bad source 4 unknown\n"),
+        ("begin\ncommit 1\ncommit 1\n", "bad source 6 ended\n"),
+        (
+            "begin\nwrite 1 -a\nput -a\ncommit 2\n",
+            "bad source 6 conflict\n",
+        ),
+        ("safe 1\n", "bad source 4 not-open\n"),
+        ("begin\napply 1 0\n", "bad source 5 not-committed\n"),
+        ("begin\ncommit 1\napply 1 0\n", "bad source 6 not-there\n"),
+        ("split 0 0\n", "bad source 4 bad-place\n"),
+        ("begin\nrollback 1 1\n", "bad source 5 no-savepoint\n"),
+        ("put -a\ntick 0\n", "bad source 5 back\n"),
+        (
+            "tick 4611686018427387903\nput -a\n",
+            "bad source 5 clock-end\n",
+        ),
+    ] {
+        let (found, out) = made(alloc, source(alloc, commands)?)?;
+        assert_eq!(rt; found, Status::BadScript);
+        assert_eq!(rt; out.written(), output.as_bytes());
+    }
+    Ok(())
+}

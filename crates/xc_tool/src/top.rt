@@ -8,6 +8,7 @@ ghost use Rattle.xc_tool.specs.Outcome.{outcome, output_for, reads_of, InOrder, 
 ghost use Rattle.xc_tool.specs.Words.{form_of};
 
 use crate::audit::audit;
+use crate::make::make;
 use crate::replay::replay;
 use crate::steps::usage;
 use crate::upgrade::upgrade;
@@ -102,5 +103,6 @@ fn command<L: Source, S: Source, O: Sink>(
         Form::Replay => replay(alloc, logs, script, out),
         Form::Audit => audit(alloc, logs, out),
         Form::Upgrade => upgrade(alloc, logs, out),
+        Form::Make => make(alloc, script, out),
     }
 }

@@ -5,12 +5,14 @@ ghost use Rattle.xc_tool.specs.Words.{form_of, is_name};
 /// A command of the command line.
 #[derive(Clone, Copy, Debug, PartialEq, Eq)]
 pub enum Form {
-    /// `replay LOGS SCRIPT` pulls the logs as the script asks, and prints what it answers.
+    /// `replay LOGS SCRIPT` polls the logs as the script asks, and prints what it answers.
     Replay,
     /// `audit LOGS` says how far each log is accepted and whether the tablets agree.
     Audit,
     /// `upgrade LOGS` prints the logs as a text of version 2.
     Upgrade,
+    /// `make SOURCE` prints the logs that a source script makes.
+    Make,
 }
 
 fn is_name(word: &str) -> bool
@@ -33,6 +35,7 @@ pub fn form_of(words: &[String]) -> Option<Form>
         }
         [word, logs] if word.as_str() == "audit" && is_name(logs.as_str()) => Some(Form::Audit),
         [word, logs] if word.as_str() == "upgrade" && is_name(logs.as_str()) => Some(Form::Upgrade),
+        [word, source] if word.as_str() == "make" && is_name(source.as_str()) => Some(Form::Make),
         _ => None,
     }
 }

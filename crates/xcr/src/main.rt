@@ -23,6 +23,14 @@ fn source<'a>(rt: &'a HostRuntime, word: Option<&'a String>) -> FileSource<'a> {
     FileSource::new(rt, word.map(|word| word.as_str()))
 }
 
+// The word for the source of the script, which `make` has as its only one.
+fn script_word(words: &[String]) -> Option<&String> {
+    match words.get(0) {
+        Some(word) if word.as_str() == "make" => words.get(1),
+        _ => words.get(2),
+    }
+}
+
 fn main(rt: HostRuntime) -> ExitCode {
     let words = match words(&rt) {
         Ok(words) => words,
@@ -33,7 +41,7 @@ fn main(rt: HostRuntime) -> ExitCode {
         Err(_) => Vec::new(rt.alloc()),
     };
     let mut logs = source(&rt, words.get(1));
-    let mut script = source(&rt, words.get(2));
+    let mut script = source(&rt, script_word(&words));
     let mut out = StdSink::new(io::writer(&rt));
     let status = run(rt.alloc(), &words, &mut logs, &mut script, &mut out);
     ExitCode::from(status.code())

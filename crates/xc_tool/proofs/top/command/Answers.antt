@@ -12,3 +12,9 @@ returns-in-Upgrade-clause-ran g c = rw c.in-Upgrade.is (c.upgrade.ensures.ran _ 
 
 pub returns-in-Upgrade-clause-order : goal.returns-in-Upgrade-clause-order
 returns-in-Upgrade-clause-order g c = rw c.in-Upgrade.is (c.upgrade.ensures.order _ (record { same = refl; faults = refl }))
+
+pub returns-in-Make-clause-ran : goal.returns-in-Make-clause-ran
+returns-in-Make-clause-ran g c = rw c.in-Make.is (c.make.ensures.ran _ (record { same = refl; faults = refl }))
+
+pub returns-in-Make-clause-order : goal.returns-in-Make-clause-order
+returns-in-Make-clause-order g c = rw c.in-Make.is (c.make.ensures.order _ (record { same = refl; faults = refl }))

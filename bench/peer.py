@@ -3,7 +3,7 @@
 The peer stands in ../shared/peer. It is copied to a folder under the system's temporary one, built there, and makes its
 inputs there (about 600 MB, once).
 """
-import math, os, shutil, subprocess, sys, tempfile, time
+import json, math, os, shutil, subprocess, sys, tempfile
 from collections import namedtuple
 
 ROOT = os.path.dirname(os.path.dirname(os.path.abspath(__file__)))
@@ -60,19 +60,27 @@ def prepare():
 Run = namedtuple("Run", "wall processor memory answer errors")
 
 
+# A process of little memory that starts the program: what a process had before it became the program counts as its own.
+START = """
+import json, os, sys, time
+began = time.perf_counter()
+_, status, usage = os.wait4(os.posix_spawn(sys.argv[2], sys.argv[2:], os.environ), 0)
+wall = time.perf_counter() - began
+told = [wall, usage.ru_utime + usage.ru_stime, usage.ru_maxrss / 1024, os.waitstatus_to_exitcode(status)]
+os.write(int(sys.argv[1]), json.dumps(told).encode())
+"""
+
+
 def run(program, words):
     """One run of a program over the inputs."""
-    with tempfile.TemporaryFile() as output, tempfile.TemporaryFile() as errors:
-        began = time.perf_counter()
+    with tempfile.TemporaryFile() as output, tempfile.TemporaryFile() as errors, tempfile.TemporaryFile() as told:
         env = {**os.environ, "XCR_TIMES": "1"}
-        child = subprocess.Popen([program] + words, cwd=INPUTS, stdout=output, stderr=errors, env=env)
-        _, status, usage = os.wait4(child.pid, 0)
-        wall = time.perf_counter() - began
-        child.returncode = os.waitstatus_to_exitcode(status)
-        output.seek(0)
-        errors.seek(0)
-        processor, memory = usage.ru_utime + usage.ru_stime, usage.ru_maxrss / 1024
-        return Run(wall, processor, memory, (child.returncode, output.read()), errors.read().decode())
+        start = [sys.executable, "-S", "-c", START, str(told.fileno()), program] + words
+        subprocess.run(start, cwd=INPUTS, stdout=output, stderr=errors, env=env, pass_fds=[told.fileno()], check=True)
+        for file in (output, errors, told):
+            file.seek(0)
+        wall, processor, memory, code = json.load(told)
+        return Run(wall, processor, memory, (code, output.read()), errors.read().decode())
 
 
 def logs(only):

@@ -4,6 +4,7 @@ set -u
 cd "$(dirname "$0")/.." || exit 1
 program=$PWD/crates/xcr/out/xcr
 drill=$PWD/docs/drill
+shop=$PWD/docs/shop
 folder=$(mktemp -d) || exit 1
 trap 'rm -rf "$folder"' EXIT
 cp crates/xcr/data/logs crates/xcr/data/script "$folder" && cd "$folder" || exit 1
@@ -60,6 +61,13 @@ if "$program" replay "$drill/logs" "$drill/script" | cmp -s - "$drill/lines"; th
     echo 'ok: the drill of the documents prints its lines'
 else
     echo 'FAILED: the drill of the documents prints its lines'
+    failed=1
+fi
+if "$program" make "$shop/source" | cmp -s - "$shop/logs" &&
+    "$program" replay "$shop/logs" "$shop/script" | cmp -s - "$shop/lines"; then
+    echo 'ok: the logs of the shop are made, and their replay prints its lines'
+else
+    echo 'FAILED: the logs of the shop are made, and their replay prints its lines'
     failed=1
 fi
 exit "$failed"

@@ -46,7 +46,7 @@ class Session:
     def safe(self):
         return [f"safe {self.safe_time()}"]
 
-    def pull(self, id, n):
+    def polled(self, id, n):
         """The line that a poll answers before it polls anything, and else None, and the number of records."""
         a = self.accepted[id]
         left = len(a.records) - self.cursors[id]
@@ -57,13 +57,13 @@ class Session:
         return (None if left else f"atend {id}"), min(n, left)
 
     def poll(self, id, n):
-        line, count = self.pull(id, n)
+        line, count = self.polled(id, n)
         self.cursors[id] += count
         self.places[id] = max(self.places[id], self.cursors[id])
         return [line or f"polled {id} {count}"]
 
     def stop(self, id, n, last):
-        line, count = self.pull(id, n)
+        line, count = self.polled(id, n)
         if line is None:
             self.cursors[id] = self.acks[id]
         return [line or f"stopped {id} {count}"]

@@ -36,7 +36,7 @@ def examples(path):
 def run(program, example):
     """The output and the status of the program over the example's files."""
     with tempfile.TemporaryDirectory() as folder:
-        for name in ("logs", "script"):
+        for name in ("logs", "script", "source"):
             if name in example["files"]:
                 with open(os.path.join(folder, name), "w", encoding="latin-1", newline="") as file:
                     file.write(example["files"][name])

@@ -53,10 +53,10 @@ pub data EndsAt (h m p : ℕ) (q : Option ℕ) (bs : List AcceptedTablet) : Type
   Within : (j : ℕ) (b : AcceptedTablet) → p ≡ m + j → slice_get bs j ≡ Some b → holds b.header h ≡ true
       → at_hash h bs ≡ at_hash h (take (suc j) bs) → EndsAt h m p q bs
 
-at_hash-take : (h : ℕ) (j : ℕ) (b : AcceptedTablet) (bs : List AcceptedTablet) → at_hash h bs ≡ at_hash h (take j bs)
-    → at_hash h (b ∷ bs) ≡ at_hash h (b ∷ take j bs)
-at_hash-take h j b bs e =
-    elim (holds b.header h) as (λ c. cond c (b ∷ at_hash h bs) (at_hash h bs) ≡ cond c (b ∷ at_hash h (take j bs)) (at_hash h (take j bs))) [
+at_hash-take : (h : ℕ) (j : ℕ) (b : AcceptedTablet) (s : List AcceptedTablet) → at_hash h s ≡ at_hash h (take j s)
+    → at_hash h (b ∷ s) ≡ at_hash h (b ∷ take j s)
+at_hash-take h j b s e =
+    elim (holds b.header h) as (λ c. cond c (b ∷ at_hash h s) (at_hash h s) ≡ cond c (b ∷ at_hash h (take j s)) (at_hash h (take j s))) [
       | true ↦ ap (λ xs. b ∷ xs) e
       | false ↦ e
     ]

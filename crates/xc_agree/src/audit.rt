@@ -1,6 +1,7 @@
 // What an audit answers.
 ghost use Rattle.std.specs.Prelude.{◌≡◌};
 
+use std::alloc::AllocError;
 use std::marker::Model;
 use xc_record::{AgreeKind, Break};
 
@@ -76,4 +77,14 @@ pub enum AgreeFail {
     },
     /// There was too little memory, which says nothing of the logs.
     NoMemory,
+}
+
+impl From<AllocError> for AgreeFail {
+    ghost use Rattle.xc_agree.specs.declared.audit.AgreeFail.TheVariants as fail;
+
+    ghost from_gives = { λ _ e. e ≡ fail.NoMemory };
+
+    fn from(_error: AllocError) -> AgreeFail {
+        AgreeFail::NoMemory
+    }
 }

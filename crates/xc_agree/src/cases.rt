@@ -16,15 +16,15 @@ use xc_record::{AgreeKind, Record, Tablet};
 
 /// How the logs disagree on a transaction at a tablet.
 #[derive(Clone, Copy, PartialEq, Eq, Debug)]
-pub struct Case {
-    pub txn: u32,
-    pub tablet: u32,
-    pub kind: AgreeKind,
+pub(crate) struct Case {
+    pub(crate) txn: u32,
+    pub(crate) tablet: u32,
+    pub(crate) kind: AgreeKind,
 }
 
 // The lesser of the first case so far and what was found at the next tablet: where both are of one transaction, the
 // tablet before has it.
-pub fn first_of(first: Option<Case>, found: Option<Found>, tablet: u32) -> Option<Case>
+pub(crate) fn first_of(first: Option<Case>, found: Option<Found>, tablet: u32) -> Option<Case>
     ensures { (cases : ℕ → Option Disagreement) (kinds : ℕ → Option AgreeKind) → IsFirst first cases
         → IsLeast found kinds → IsFirst result (with_cases tablet kinds cases) }
 {
@@ -54,7 +54,7 @@ fn held_of(lefts: &[Vec<Held>], parent: Option<u32>) -> &[Held]
 }
 
 /// The accepted records of the tablet.
-pub fn accepted_part<'a>(t: &'a Tablet, run: &Run) -> &'a [Record]
+pub(crate) fn accepted_part<'a>(t: &'a Tablet, run: &Run) -> &'a [Record]
     requires { run.now.walk.accepted ≤ length t.now.records }
     ensures { result.now ≡ take run.now.walk.accepted t.now.records }
 {
@@ -63,7 +63,7 @@ pub fn accepted_part<'a>(t: &'a Tablet, run: &Run) -> &'a [Record]
 
 /// Judges the tablet after those before it, which left this waiting, by a look that is idle before and after. What it
 /// leaves itself is looked for at a tablet with children alone.
-pub fn judge_tablet(
+pub(crate) fn judge_tablet(
     alloc: Global,
     look: &mut Look,
     commits: &Commits,

@@ -9,16 +9,16 @@ use xc_record::Subs;
 
 /// A transaction that was applied, and its commit: that of its first apply.
 #[derive(Drop, Debug)]
-pub struct Commit {
-    pub txn: u32,
-    pub time: u64,
+pub(crate) struct Commit {
+    pub(crate) txn: u32,
+    pub(crate) time: u64,
     /// Its subtransactions that were rolled back.
-    pub without: Subs,
+    pub(crate) without: Subs,
 }
 
 /// The transactions that were applied, in the order of their numbers.
 #[derive(Drop, Debug)]
-pub struct Commits {
+pub(crate) struct Commits {
     items: Vec<Commit>,
 }
 
@@ -36,7 +36,7 @@ impl Model for Commits {
 
 impl Commits {
     /// The commits by some applies, in whose order the first of a transaction is the one that counts.
-    pub fn of_applies(applies: Vec<Commit>) -> Result<Commits, AllocError>
+    pub(crate) fn of_applies(applies: Vec<Commit>) -> Result<Commits, AllocError>
         ensures times { IfOk result (λ commits. (n : ℕ) → time_of commits n ≡ time_of applies.items n) }
         ensures undone { IfOk result (λ commits. (n : ℕ) → without_of commits n ≡ without_of applies.items n) }
         ensures count { IfOk result (λ commits. length commits ≡ length (distinct (map (λ c. c.txn) applies.items))) }
@@ -48,14 +48,14 @@ impl Commits {
     }
 
     /// How many transactions were applied.
-    pub fn len(&self) -> usize
+    pub(crate) fn len(&self) -> usize
         ensures { result ≡ length self.now }
     {
         self.items.len()
     }
 
     /// The transaction in this slot.
-    pub fn at(&self, slot: usize) -> &Commit
+    pub(crate) fn at(&self, slot: usize) -> &Commit
         requires { slot < length self.now }
         ensures { slice_get self.now slot ≡ Some result.now }
     {
@@ -63,7 +63,7 @@ impl Commits {
     }
 
     /// The commit time of the transaction in this slot, if there is such a slot.
-    pub fn time(&self, slot: usize) -> Option<u64>
+    pub(crate) fn time(&self, slot: usize) -> Option<u64>
         ensures { result ≡ option_map (λ c. c.time) (slice_get self.now slot) }
     {
         match self.items.get(slot) {
@@ -92,7 +92,7 @@ impl Commits {
     }
 
     /// The slot of the transaction, if it was applied. It is found at once in the slot `near` and beside it.
-    pub fn slot(&self, txn: u32, near: usize) -> Option<usize>
+    pub(crate) fn slot(&self, txn: u32, near: usize) -> Option<usize>
         ensures { result ≡ slot_of self.now txn }
     {
         let next = near.saturating_add(1);

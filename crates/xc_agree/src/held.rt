@@ -13,11 +13,11 @@ use xc_record::{Header, Kind, Ops, Record, hash_bytes};
 
 /// An operation of a transaction that commits waits at a key of this hash.
 #[derive(Clone, Copy, PartialEq, Eq, Debug)]
-pub struct Held {
-    pub txn: u32,
+pub(crate) struct Held {
+    pub(crate) txn: u32,
     /// The transaction's slot among those that commit.
-    pub slot: usize,
-    pub hash: u16,
+    pub(crate) slot: usize,
+    pub(crate) hash: u16,
 }
 
 fn keep(held: &mut Vec<Held>, stays: bool, x: Held) -> Result<(), AllocError>
@@ -99,7 +99,7 @@ fn hold_record(
 }
 
 /// What waits at the end of a tablet's records, at the hashes of its range.
-pub fn hold(
+pub(crate) fn hold(
     alloc: Global,
     look: &Look,
     commits: &Commits,

@@ -11,15 +11,15 @@ use xc_record::{Header, Record};
 
 /// What a tablet's records show.
 #[derive(Drop, Debug)]
-pub struct Judged {
-    pub found: Option<Found>,
+pub(crate) struct Judged {
+    pub(crate) found: Option<Found>,
     /// What waits at the end.
-    pub left: Vec<Held>,
+    pub(crate) left: Vec<Held>,
 }
 
 /// Judges a tablet's accepted records by a look that is idle before and after. What waits at the end is looked for at a
 /// tablet with children alone.
-pub fn judge(
+pub(crate) fn judge(
     alloc: Global,
     look: &mut Look,
     commits: &Commits,

@@ -63,15 +63,9 @@ pub fn agree(alloc: Global, logs: &LogSet) -> Result<Audit, AgreeFail>
     ensures fail { IfErr result (IsFail logs.now) }
 {
     let tablets = logs.tablets();
-    let Ok(runs) = run_tablets(alloc, tablets) else {
-        return Err(AgreeFail::NoMemory);
-    };
-    let Ok(tally) = note_commits(alloc, tablets, runs.as_slice()) else {
-        return Err(AgreeFail::NoMemory);
-    };
-    let Ok(first) = first_case(alloc, tablets, runs.as_slice(), &tally.commits) else {
-        return Err(AgreeFail::NoMemory);
-    };
+    let runs = run_tablets(alloc, tablets)?;
+    let tally = note_commits(alloc, tablets, runs.as_slice())?;
+    let first = first_case(alloc, tablets, runs.as_slice(), &tally.commits)?;
     if let Some(case) = first {
         return Err(AgreeFail::Disagree {
             txn: case.txn,
@@ -79,11 +73,8 @@ pub fn agree(alloc: Global, logs: &LogSet) -> Result<Audit, AgreeFail>
             kind: case.kind,
         });
     }
-    match ends_of(alloc, runs.as_slice()) {
-        Err(_) => Err(AgreeFail::NoMemory),
-        Ok(ends) => Ok(Audit {
-            ends,
-            commits: tally.count,
-        }),
-    }
+    Ok(Audit {
+        ends: ends_of(alloc, runs.as_slice())?,
+        commits: tally.count,
+    })
 }

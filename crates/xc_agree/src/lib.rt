@@ -120,25 +120,30 @@ mod tests {
         Header { id, lo, hi, parent }
     }
 
+    // The tablets, each with the key of its operations.
+    fn logs_of(
+        alloc: Global,
+        tablets: &[(Header, &[u8])],
+        steps: &[(u32, u64, Step)],
+    ) -> Result<Tablets, AllocError> {
+        let mut items = Vec::new(alloc);
+        for (header, key) in tablets {
+            items.push(Tablet {
+                header: *header,
+                records: records(alloc, header.id, key, steps)?,
+            })?;
+        }
+        Ok(Tablets::from_vec(items))
+    }
+
     // The audit of logs with these tablets, each with the key of its operations. None where they aren't valid.
     fn judged_of(
         alloc: Global,
         tablets: &[(Header, &[u8])],
         steps: &[(u32, u64, Step)],
     ) -> Result<Option<Audit>, AgreeFail> {
-        let no_memory = |_: AllocError| AgreeFail::NoMemory;
-        let mut items = Vec::new(alloc);
-        for (header, key) in tablets {
-            let tablet = Tablet {
-                header: *header,
-                records: records(alloc, header.id, key, steps).map_err(no_memory)?,
-            };
-            if items.push(tablet).is_err() {
-                return Err(AgreeFail::NoMemory);
-            }
-        }
         let logs = Logs {
-            tablets: Tablets::from_vec(items),
+            tablets: logs_of(alloc, tablets, steps)?,
         };
         if !valid(&logs) {
             return Ok(None);

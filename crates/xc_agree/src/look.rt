@@ -21,9 +21,9 @@ use xc_record::{AgreeKind, Header, Kind, Record, Subs};
 
 /// The least transaction with a case, and its first kind.
 #[derive(Clone, Copy, PartialEq, Eq, Debug)]
-pub struct Found {
-    pub txn: u32,
-    pub kind: AgreeKind,
+pub(crate) struct Found {
+    pub(crate) txn: u32,
+    pub(crate) kind: AgreeKind,
 }
 
 fn rank(kind: AgreeKind) -> u8
@@ -67,14 +67,14 @@ fn least_if(found: Option<Found>, stands: bool, txn: u32, kind: AgreeKind) -> Op
 
 /// A transaction that commits, and its slot among those that do.
 #[derive(Clone, Copy, PartialEq, Eq, Debug)]
-pub struct Waiter {
-    pub txn: u32,
-    pub slot: usize,
+pub(crate) struct Waiter {
+    pub(crate) txn: u32,
+    pub(crate) slot: usize,
 }
 
 /// What a tablet's records so far say of all transactions that were applied.
 #[derive(Drop, Debug)]
-pub struct Look {
+pub(crate) struct Look {
     // How many records there were.
     place: u32,
     // The place of the last safe record, or 0, and its value.
@@ -114,7 +114,7 @@ fn stop_all(waiting: &mut Vec<Option<u32>>, waiters: &[Waiter])
 
 impl Look {
     /// A look for all tablets, one after the other, with a slot for each transaction that commits.
-    pub fn new(alloc: Global, slots: usize) -> Result<Look, AllocError>
+    pub(crate) fn new(alloc: Global, slots: usize) -> Result<Look, AllocError>
         ensures { IfOk result (λ look. (commits : List Commit) → (slots ≡ length commits) → IsIdle look commits) }
     {
         Ok(Look {
@@ -129,7 +129,7 @@ impl Look {
     }
 
     /// Before the first record of a tablet, where these operations are held from its parent's records.
-    pub fn begin(&mut self, header: &Header, held: &[Held]) -> Result<(), AllocError>
+    pub(crate) fn begin(&mut self, header: &Header, held: &[Held]) -> Result<(), AllocError>
         ensures place { OnOk result (self.new.place ≡ 0) }
         ensures begun { OnOk result ((commits : List Commit) → IsIdle self.old commits → InSlots commits held.now
             → IsLook self.new commits (λ n c. unseen (waits_from header.now held.now n))) }
@@ -147,7 +147,7 @@ impl Look {
     }
 
     /// What stands after the last record, where what waits may be a straggler.
-    pub fn finish(&self, commits: &Commits) -> Option<Found>
+    pub(crate) fn finish(&self, commits: &Commits) -> Option<Found>
         ensures { (seen : ℕ → ℕ → Seen) → IsLook self.now commits.now seen → IsEnd result commits.now seen }
     {
         let mut found = self.found;
@@ -158,7 +158,7 @@ impl Look {
     }
 
     /// Forgets what waits, before the next tablet.
-    pub fn clear(&mut self)
+    pub(crate) fn clear(&mut self)
         ensures { (commits : List Commit) (seen : ℕ → ℕ → Seen) → IsLook self.old commits seen
             → IsIdle self.new commits }
     {
@@ -167,7 +167,7 @@ impl Look {
     }
 
     /// Whether the transaction in the slot waits from before the first record.
-    pub fn starts(&self, slot: usize) -> bool
+    pub(crate) fn starts(&self, slot: usize) -> bool
         ensures { result ≡ is_start (since_at self.now slot) }
     {
         match self.since(slot) {
@@ -211,7 +211,7 @@ impl Look {
     }
 
     /// Whether the transaction in the slot waits since the place or before.
-    pub fn waits_since(&self, slot: usize, place: usize) -> bool
+    pub(crate) fn waits_since(&self, slot: usize, place: usize) -> bool
         ensures { result ≡ is_since place (since_at self.now slot) }
     {
         match self.since(slot) {
@@ -343,7 +343,11 @@ impl Look {
     }
 
     /// Takes all records.
-    pub fn take_all(&mut self, commits: &Commits, records: &[Record]) -> Result<(), AllocError>
+    pub(crate) fn take_all(
+        &mut self,
+        commits: &Commits,
+        records: &[Record],
+    ) -> Result<(), AllocError>
         requires { self.old.place + length records.now < 2 ^ 32 }
         ensures { OnOk result ((seen : ℕ → ℕ → Seen) → IsLook self.old commits.now seen
             → IsLook self.new commits.now (λ n c. fold (see n c (undone_of commits.now n)) (seen n c) records.now)) }

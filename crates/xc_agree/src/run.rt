@@ -11,16 +11,16 @@ use xc_record::{Record, Tablet};
 
 /// Where a tablet begins: whether it is reached, and after what.
 #[derive(Clone, Copy, PartialEq, Eq, Debug)]
-pub struct Start {
-    pub reached: bool,
-    pub order: Order,
+pub(crate) struct Start {
+    pub(crate) reached: bool,
+    pub(crate) order: Order,
 }
 
 /// How far one tablet's records are accepted, and whether the tablet is reached.
 #[derive(Clone, Copy, PartialEq, Eq, Debug)]
-pub struct Run {
-    pub reached: bool,
-    pub walk: Walk,
+pub(crate) struct Run {
+    pub(crate) reached: bool,
+    pub(crate) walk: Walk,
 }
 
 // A root begins anew, and a child where its parent ends.
@@ -78,7 +78,7 @@ fn run_of(start: Start, records: &[Record]) -> Run
 }
 
 /// How far the records of each tablet are accepted.
-pub fn run_tablets(alloc: Global, tablets: &[Tablet]) -> Result<Vec<Run>, AllocError>
+pub(crate) fn run_tablets(alloc: Global, tablets: &[Tablet]) -> Result<Vec<Run>, AllocError>
     ensures { IfOk result (λ runs. IsRuns runs.items (accepted_tablets_after [] tablets.now) tablets.now) }
 {
     let mut runs = Vec::with_capacity(alloc, tablets.len())?;

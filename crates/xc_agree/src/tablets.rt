@@ -64,7 +64,7 @@ fn drop_left(
 }
 
 /// The first case of disagreement.
-pub fn first_case(
+pub(crate) fn first_case(
     alloc: Global,
     tablets: &[Tablet],
     runs: &[Run],
@@ -74,7 +74,7 @@ pub fn first_case(
     requires valid { IsTrue (is_valid (of_tablets tablets.now)) }
     requires undone { (n : ℕ) → undone_of commits.now n ≡ undone (of_tablets tablets.now) n }
     ensures { IfOk result
-        (λ first. IsFirst first (cases_of (of_tablets tablets.now) commits.now (accepted_tablets_after [] tablets.now))) }
+        (λ f. IsFirst f (cases_of (of_tablets tablets.now) commits.now (accepted_tablets_after [] tablets.now))) }
 {
     let lasts = last_children(alloc, tablets)?;
     let mut look = Look::new(alloc, commits.len())?;

@@ -14,10 +14,10 @@ use xc_record::{Kind, Record, Tablet};
 
 /// What commits by some records.
 #[derive(Drop, Debug)]
-pub struct Tally {
-    pub commits: Commits,
+pub(crate) struct Tally {
+    pub(crate) commits: Commits,
     /// How many writes and transactions commit.
-    pub count: u64,
+    pub(crate) count: u64,
 }
 
 // The applies among some records, in their order, and the number of the writes.
@@ -63,7 +63,11 @@ impl Applies {
 }
 
 /// What commits by all accepted records.
-pub fn note_commits(alloc: Global, tablets: &[Tablet], runs: &[Run]) -> Result<Tally, AllocError>
+pub(crate) fn note_commits(
+    alloc: Global,
+    tablets: &[Tablet],
+    runs: &[Run],
+) -> Result<Tally, AllocError>
     requires runs { IsRuns runs.now (accepted_tablets_after [] tablets.now) tablets.now }
     requires valid { IsTrue (is_valid (of_tablets tablets.now)) }
     ensures { IfOk result (λ t. IsTally t (all_records (accepted_tablets_after [] tablets.now))) }

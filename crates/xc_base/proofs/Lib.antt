@@ -3,3 +3,4 @@ pub mod NameLemmas
 pub mod KeyOrder
 pub mod EscapeLaws
 pub mod WordLaws
+pub mod Worked

@@ -11,6 +11,10 @@ use Rattle.xc_base.specs.Names.{within, are_bytes, in_alphabet, length_fault}
 use Rattle.xc_base.specs.declared.name.BadName.{BadName}
 use Rattle.xc_base.specs.declared.name.BadName.TheVariants as bad_name
 
+-- what begins an escape: %
+abbrev pub escape_sign : ℕ
+escape_sign = 37
+
 -- ---- digits: 48 to 57 are 0 to 9, and 65 to 70 are A to F
 
 abbrev pub digit : ℕ → ℕ
@@ -25,7 +29,7 @@ digit_value b = if nat_lt b 65 then b - 48 else b - 55
 -- ---- writing
 
 abbrev pub escaped_byte : ℕ → List ℕ
-escaped_byte b = if in_alphabet b then b ∷ [] else (37 ∷ digit (b / 16) ∷ digit (b % 16) ∷ [])
+escaped_byte b = if in_alphabet b then b ∷ [] else (escape_sign ∷ digit (b / 16) ∷ digit (b % 16) ∷ [])
 
 abbrev pub escaped : List ℕ → List ℕ
 escaped bytes = flat_map escaped_byte bytes
@@ -39,7 +43,8 @@ escape_value word = 16 * digit_value (slice_index word 1) + digit_value (slice_i
 -- only a byte outside the alphabet is escaped
 abbrev pub begins_escape : List ℕ → Bool
 begins_escape word =
-    slice_index word 0 == 37 && (is_digit (slice_index word 1) && (is_digit (slice_index word 2) && not (in_alphabet (escape_value word))))
+    slice_index word 0 == escape_sign
+    && (is_digit (slice_index word 1) && (is_digit (slice_index word 2) && not (in_alphabet (escape_value word))))
 
 abbrev pub begins_byte : List ℕ → Bool
 begins_byte word = in_alphabet (slice_index word 0) || begins_escape word
@@ -52,7 +57,8 @@ wrong_place (b ∷ word) = if begins_byte (b ∷ word) then option_map (λ place
 -- the bytes of a word after so many digits of an escape
 abbrev pub unescaped_after : ℕ → List ℕ → List ℕ
 unescaped_after digits [] = []
-unescaped_after zero (b ∷ word) = if b == 37 then (escape_value (b ∷ word) ∷ unescaped_after 2 word) else (b ∷ unescaped_after 0 word)
+unescaped_after zero (b ∷ word) =
+    if b == escape_sign then (escape_value (b ∷ word) ∷ unescaped_after 2 word) else (b ∷ unescaped_after 0 word)
 unescaped_after (suc digits) (b ∷ word) = unescaped_after digits word
 
 abbrev pub unescaped : List ℕ → List ℕ

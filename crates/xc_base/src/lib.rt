@@ -4,6 +4,7 @@
 
 mod bytes;
 mod calls;
+mod limits;
 mod memory;
 mod name;
 mod number;
@@ -15,8 +16,13 @@ mod word;
 mod words;
 
 pub use bytes::Bytes;
+pub use limits::{
+    KEY_BYTES, LAST_SUB, LOGS_BYTES, MOST_DRAINS, MOST_OPERATIONS, MOST_RECORDS, MOST_SCANS,
+    MOST_TABLETS, MOST_TARGETS, RECORD_OPERATIONS, SCRIPT_BYTES, SCRIPT_LINES, VALUE_BYTES,
+    WATCHED_KEYS,
+};
 pub use memory::{MemorySink, MemorySource};
-pub use name::{BadName, KEY_BYTES, Key, VALUE_BYTES, Value, is_key, is_plain, is_value};
+pub use name::{BadName, Key, Value, in_alphabet, is_key, is_plain, is_value};
 pub use number::{NumberFail, read_number};
 pub use quiet::{QuietSink, QuietSource};
 pub use status::Status;

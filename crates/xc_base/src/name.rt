@@ -9,15 +9,10 @@ ghost use Rattle.xc_base.specs.Names.{key_fault, value_fault, length_fault};
 ghost use Rattle.xc_base.specs.Escapes.{wrong_place, escaped, unescaped, word_fault};
 ghost use Rattle.std.specs.List.{position_or_len, list_all};
 
+use crate::limits::{KEY_BYTES, VALUE_BYTES};
 use crate::words::order;
 use std::cmp::Ordering;
 use std::marker::Model;
-
-/// The most bytes of a key.
-pub const KEY_BYTES: usize = 32;
-
-/// The most bytes of a value.
-pub const VALUE_BYTES: usize = 64;
 
 /// A key: 1 to 32 bytes. Keys are ordered by their bytes.
 #[derive(Clone, Copy, Debug)]
@@ -30,6 +25,7 @@ impl Model for Key {
     ghost use Rattle.std.specs.Prelude.{ℕ, List, take, length};
     ghost use Rattle.xc_base.specs.Padded.{padded, length-front, padded-front};
     ghost use Rattle.xc_base.specs.Names.{IsKeyIn};
+    ghost use Rattle.xc_base.specs.declared.limits.TheConstants.{KEY_BYTES};
 
     ghost Value = { List ℕ };
 
@@ -37,11 +33,11 @@ impl Model for Key {
 
     ghost invariant = { λ k. IsKeyIn k.len k.bytes };
 
-    ghost inverse = { λ d. record { len = length d; bytes = padded 32 d } };
+    ghost inverse = { λ d. record { len = length d; bytes = padded KEY_BYTES d } };
 
     ghost inverse_ok = { λ k h i. record {
-      len = length-front 32 k.len k.bytes h.padded i;
-      bytes = padded-front 32 k.len k.bytes h.padded i;
+      len = length-front KEY_BYTES k.len k.bytes h.padded i;
+      bytes = padded-front KEY_BYTES k.len k.bytes h.padded i;
     } };
 }
 
@@ -66,8 +62,9 @@ static ALPHABET: [u8; 256] = *b"\
     ,,,,,,,,,,,,,,,,,,,,,,,,,,,,,,,,\
     ,,,,,,,,,,,,,,,,,,,,,,,,,,,,,,,,";
 
-#[inline]
-pub(crate) fn in_alphabet(byte: u8) -> bool
+/// Whether a byte is plain: a letter, a digit or one of `_ . - / :`.
+#[inline(always)]
+pub fn in_alphabet(byte: u8) -> bool
     ensures { result ≡ in_alphabet byte }
 {
     ALPHABET[byte as usize] != b','
@@ -86,6 +83,7 @@ fn first_bad(bytes: &[u8]) -> usize
 }
 
 /// Whether all bytes are plain: each a letter, a digit or one of `_ . - / :`.
+#[inline]
 pub fn is_plain(bytes: &[u8]) -> bool
     ensures { result ≡ is_plain bytes.now }
 {
@@ -104,7 +102,7 @@ pub(crate) fn are_bytes(bytes: &[u8])
 #[inline]
 pub fn is_key(bytes: &[u8]) -> bool
     ensures key { result ≡ is_key bytes.now }
-    ensures length { result ≡ within 1 32 (length bytes.now) }
+    ensures length { result ≡ within 1 KEY_BYTES (length bytes.now) }
 {
     are_bytes(bytes);
     !bytes.is_empty() && bytes.len() <= KEY_BYTES
@@ -114,7 +112,7 @@ pub fn is_key(bytes: &[u8]) -> bool
 #[inline]
 pub fn is_value(bytes: &[u8]) -> bool
     ensures value { result ≡ is_value bytes.now }
-    ensures length { result ≡ within 0 64 (length bytes.now) }
+    ensures length { result ≡ within 0 VALUE_BYTES (length bytes.now) }
 {
     are_bytes(bytes);
     bytes.len() <= VALUE_BYTES
@@ -148,7 +146,7 @@ impl Key {
     /// The key of any bytes. `Length` comes exactly where [`Key::new`] answers it, and `Byte` never.
     pub fn any(bytes: &[u8]) -> Result<Key, BadName>
         ensures key { IfOk result (λ key. key ≡ bytes.now) }
-        ensures fault { result_err result ≡ length_fault 1 32 bytes.now }
+        ensures fault { result_err result ≡ length_fault 1 KEY_BYTES bytes.now }
     {
         if !is_key(bytes) {
             return Err(BadName::Length(bytes.len()));
@@ -240,6 +238,7 @@ impl Model for Value {
     ghost use Rattle.std.specs.Prelude.{ℕ, List, take, length};
     ghost use Rattle.xc_base.specs.Padded.{padded, length-front, padded-front};
     ghost use Rattle.xc_base.specs.Names.{IsValueIn};
+    ghost use Rattle.xc_base.specs.declared.limits.TheConstants.{VALUE_BYTES};
 
     ghost Value = { List ℕ };
 
@@ -247,11 +246,11 @@ impl Model for Value {
 
     ghost invariant = { λ k. IsValueIn k.len k.bytes };
 
-    ghost inverse = { λ d. record { len = length d; bytes = padded 64 d } };
+    ghost inverse = { λ d. record { len = length d; bytes = padded VALUE_BYTES d } };
 
     ghost inverse_ok = { λ k h i. record {
-      len = length-front 64 k.len k.bytes h.padded i;
-      bytes = padded-front 64 k.len k.bytes h.padded i;
+      len = length-front VALUE_BYTES k.len k.bytes h.padded i;
+      bytes = padded-front VALUE_BYTES k.len k.bytes h.padded i;
     } };
 }
 
@@ -269,7 +268,7 @@ impl Value {
     /// The value of any bytes. `Length` comes exactly where [`Value::new`] answers it, and `Byte` never.
     pub fn any(bytes: &[u8]) -> Result<Value, BadName>
         ensures value { IfOk result (λ value. value ≡ bytes.now) }
-        ensures fault { result_err result ≡ length_fault 0 64 bytes.now }
+        ensures fault { result_err result ≡ length_fault 0 VALUE_BYTES bytes.now }
     {
         if !is_value(bytes) {
             return Err(BadName::Length(bytes.len()));

@@ -9,7 +9,8 @@ ghost use Rattle.xc_base.specs.Escapes.{ReadIsEscaped};
 ghost use Rattle.xc_base.specs.declared.name.BadName.TheVariants.{Byte};
 
 use crate::bytes::Bytes;
-use crate::name::{BadName, KEY_BYTES, Key, VALUE_BYTES, Value, are_bytes, in_alphabet};
+use crate::limits::{KEY_BYTES, VALUE_BYTES};
+use crate::name::{BadName, Key, Value, are_bytes, in_alphabet};
 use crate::streams::NoMemory;
 
 fn digit(value: u8) -> u8
@@ -118,9 +119,7 @@ pub fn escape(bytes: &[u8], out: &mut Bytes) -> Result<(), NoMemory>
     let Some(room) = bytes.len().checked_mul(3) else {
         return Err(NoMemory);
     };
-    if out.items.reserve(room).is_err() {
-        return Err(NoMemory);
-    }
+    out.items.reserve(room)?;
     put_all_escaped(&mut out.items, bytes);
     Ok(())
 }
@@ -156,7 +155,7 @@ fn fill(word: &[u8], out: &mut [u8])
 pub fn read_key(word: &[u8]) -> Result<Key, BadName>
     ensures key { IfOk result (λ key. key ≡ unescaped word.now) }
     ensures word { IfOk result (λ key. escaped key ≡ word.now) }
-    ensures fault { result_err result ≡ word_fault 1 32 word.now }
+    ensures fault { result_err result ≡ word_fault 1 KEY_BYTES word.now }
 {
     let len = count(word)?;
     if len > KEY_BYTES {
@@ -173,7 +172,7 @@ pub fn read_key(word: &[u8]) -> Result<Key, BadName>
 pub fn read_value(word: &[u8]) -> Result<Value, BadName>
     ensures value { IfOk result (λ value. value ≡ unescaped word.now) }
     ensures word { IfOk result (λ value. escaped value ≡ word.now) }
-    ensures fault { result_err result ≡ word_fault 0 64 word.now }
+    ensures fault { result_err result ≡ word_fault 0 VALUE_BYTES word.now }
 {
     let len = count(word)?;
     if len > VALUE_BYTES {

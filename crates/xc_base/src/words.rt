@@ -5,13 +5,13 @@ ghost use Rattle.std.specs.Ordering.{nat_cmp};
 ghost use Rattle.std.specs.Simd.Lanes.{chunk};
 ghost use Rattle.std.specs.Slice.Scan.{big_endian};
 
-use crate::name::KEY_BYTES;
+use crate::limits::KEY_BYTES;
 use std::cmp::Ordering;
 
 // The number that the eight bytes from i on spell, the greatest first.
 #[inline]
 fn word_at(bytes: &[u8; KEY_BYTES], i: usize) -> u64
-    requires { i + 8 ≤ 32 }
+    requires { i + 8 ≤ KEY_BYTES }
     ensures { result ≡ big_endian 0 (chunk i 8 bytes.now) }
 {
     u64::from_be_bytes([

@@ -2,6 +2,7 @@
 use Rattle.std.specs.Prelude.{◌≡◌, ℕ, ◌<◌, ◌≤◌, Option, Some, None, List, length, slice_index_or}
 use Rattle.xc_board.specs.declared.tablet.WordState.TheVariants.{Waiting}
 use Rattle.xc_board.specs.declared.tablet.BoardTablet.{BoardTablet}
+use Rattle.xc_base.specs.declared.limits.TheConstants.{MOST_TABLETS}
 
 -- 2^62, which is above every time
 abbrev pub unbounded : ℕ
@@ -32,7 +33,7 @@ module _ (ts : List BoardTablet) where
 -- tablets that a board is made of: a parent has a lower number than its children, and no child ends before its parent
 pub record IsTree (ts : List BoardTablet) : Type 0 where
   pub some : 0 < length ts
-  pub few : length ts ≤ 64
+  pub few : length ts ≤ MOST_TABLETS
   pub ends : (i : ℕ) → ends_of ts i < unbounded
   pub lower : (c p : ℕ) → parent_of ts c ≡ Some p → p < c
   pub rises : (c p : ℕ) → parent_of ts c ≡ Some p → ends_of ts p ≤ ends_of ts c

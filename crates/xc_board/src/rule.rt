@@ -6,23 +6,23 @@ use atomic_table::{Join, Play, Split, TableRule};
 use std::collections::LinkedList;
 
 /// What a seat knows. It exists in the proofs alone.
-pub struct SeatView {
+pub(crate) struct SeatView {
     /// Whether it is a seat's. The view that a join leaves isn't.
-    pub live: bool,
+    pub(crate) live: bool,
     /// The tablets of the board.
-    pub tablets: LinkedList<BoardTablet>,
+    pub(crate) tablets: LinkedList<BoardTablet>,
     /// The last word of each tablet that the seat was told.
-    pub known: LinkedList<u64>,
+    pub(crate) known: LinkedList<u64>,
     /// The next word of the scan that is under way, or 0.
-    pub next: usize,
+    pub(crate) next: usize,
     /// The least active value that this scan has loaded.
-    pub bound: u64,
+    pub(crate) bound: u64,
     /// The greatest watermark that the seat was told.
-    pub seen: u64,
+    pub(crate) seen: u64,
 }
 
 /// The rule of a board, which holds between any two steps.
-pub struct Law;
+pub(crate) struct Law;
 
 impl TableRule<(), SeatView, BoardTablets> for Law {
     ghost use Rattle.xc_board.specs.Rule.{Holds, first_view};
@@ -33,7 +33,7 @@ impl TableRule<(), SeatView, BoardTablets> for Law {
 }
 
 /// Raise, activate and retire: a tablet's word rose.
-pub struct Raises;
+pub(crate) struct Raises;
 
 impl Play<(), SeatView> for Raises {
     ghost use Rattle.xc_board.specs.Steps.{Raised};
@@ -42,7 +42,7 @@ impl Play<(), SeatView> for Raises {
 }
 
 /// Scan one word: the next tablet's word was loaded.
-pub struct Scans;
+pub(crate) struct Scans;
 
 impl Play<(), SeatView> for Scans {
     ghost use Rattle.xc_board.specs.Steps.{Scanned};
@@ -51,7 +51,7 @@ impl Play<(), SeatView> for Scans {
 }
 
 /// Publish: the watermark rose to the bound of a scan that is through.
-pub struct Publishes;
+pub(crate) struct Publishes;
 
 impl Play<(), SeatView> for Publishes {
     ghost use Rattle.xc_board.specs.Steps.{Published};
@@ -60,7 +60,7 @@ impl Play<(), SeatView> for Publishes {
 }
 
 /// Observe: the watermark was loaded.
-pub struct Observes;
+pub(crate) struct Observes;
 
 impl Play<(), SeatView> for Observes {
     ghost use Rattle.xc_board.specs.Steps.{Observed};
@@ -69,7 +69,7 @@ impl Play<(), SeatView> for Observes {
 }
 
 /// Split: a second seat has seen and knows the same.
-pub struct Copies;
+pub(crate) struct Copies;
 
 impl Split<SeatView> for Copies {
     ghost left = { λ v. v };
@@ -78,7 +78,7 @@ impl Split<SeatView> for Copies {
 }
 
 /// Join: one seat has what two had, and the other's view is spent.
-pub struct Merges;
+pub(crate) struct Merges;
 
 impl Join<SeatView> for Merges {
     ghost use Rattle.xc_board.specs.Steps.{merged, spent};

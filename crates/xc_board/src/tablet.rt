@@ -30,7 +30,7 @@ pub struct BoardTablet {
 
 /// The tablets of a board, in order of their numbers. Contracts see the list.
 #[derive(Drop)]
-pub struct BoardTablets {
+pub(crate) struct BoardTablets {
     items: Vec<BoardTablet>,
 }
 
@@ -45,19 +45,17 @@ impl Model for BoardTablets {
 
 impl BoardTablets {
     /// A copy of the tablets, or out of memory.
-    pub fn copied(alloc: Global, tablets: &[BoardTablet]) -> Result<BoardTablets, NoMemory>
+    pub(crate) fn copied(alloc: Global, tablets: &[BoardTablet]) -> Result<BoardTablets, NoMemory>
         ensures { IfOk result (λ t. t ≡ tablets.now) }
     {
         let mut items = Vec::new(alloc);
-        match items.extend_from_slice(tablets) {
-            Ok(()) => Ok(BoardTablets { items }),
-            Err(_) => Err(NoMemory),
-        }
+        items.extend_from_slice(tablets)?;
+        Ok(BoardTablets { items })
     }
 
     /// The tablets as a slice.
     #[inline]
-    pub fn as_slice(&self) -> &[BoardTablet]
+    pub(crate) fn as_slice(&self) -> &[BoardTablet]
         ensures { result.now ≡ self.now }
     {
         self.items.as_slice()
@@ -66,7 +64,7 @@ impl BoardTablets {
 
 /// The number that stands for a state in a word.
 #[inline]
-pub fn word(state: WordState) -> u64
+pub(crate) fn word(state: WordState) -> u64
     requires { word_of state < 2 ^ 64 }
     ensures { result ≡ word_of state }
 {

@@ -1,7 +1,7 @@
 -- What a reader makes of records that a feed gave.
-use Rattle.std.proofs.Common.{◌≡◌, ℕ, zero, suc, ◌+◌, ◌-◌, ◌<◌, ◌≤◌, ◌^◌, Bool, true, false, ◌||◌, List, [], ◌∷◌, ◌++◌, length, take, drop}
+use Rattle.std.proofs.Common.{◌≡◌, ℕ, zero, suc, ◌+◌, ◌-◌, ◌<◌, ◌≤◌, Bool, true, false, ◌||◌, List, [], ◌∷◌, ◌++◌, length, take, drop}
 use Rattle.std.proofs.Common.{min, refl, sym, ap, ◌∙◌, subst, arith, ◌⊎◌, inl, inr}
-use Rattle.std.specs.Prelude.{fold, Option, Some, None, IfSome, if◌then◌else◌, get_or, ◌==◌, ◌&&◌, nat_le, nat_lt, slice_get, slice_index}
+use Rattle.std.specs.Prelude.{fold, Option, Some, None, if◌then◌else◌, get_or, ◌==◌, ◌&&◌, nat_le, nat_lt, slice_get, slice_index}
 use Rattle.std.specs.Prelude.{is_some}
 use Rattle.std.specs.Option.{option_map_or}
 use Rattle.std.specs.Bool.{beq}
@@ -21,15 +21,13 @@ use Rattle.xc_record.specs.Order.{Progress, after, accepted_from, break_of, is_s
 use Rattle.xc_record.specs.Headers.{children}
 use Rattle.xc_record.specs.Valid.{keeps_header}
 use Rattle.xc_record.specs.Accepted.{AcceptedTablet, halt_from, halt_of, records}
-use Rattle.xc_record.specs.SafeTime.{order_at}
-use Rattle.xc_record.specs.Step.{answer_from}
 use Rattle.xc_record.proofs.OrderLaws.{accepted-length, accepted-of-take, accepted-first, accepted-rest, halt-rest, halt-of-take}
 use Rattle.xc_record.proofs.AcceptedLaws.{accepted-records}
 use Rattle.xc_logs.specs.Feed.{IsFeed, KeepHeader, keep_from, kind_keeps, fetched, fetched_count}
 use Rattle.xc_logs.proofs.FeedFacts.{keep_from-drop, keep_from-take}
 use Rattle.xc_change.specs.declared.batch.Next.{Next}
 use Rattle.xc_change.specs.declared.batch.Next.TheVariants.{Batch as Given, AtEnd, Halted}
-use Rattle.xc_change.specs.Reader.{ReaderState, FitsFeed, IsBatch, IsNext, ReadsLogs, IsNextOf}
+use Rattle.xc_change.specs.Reader.{ReaderState, FitsFeed, IsNext, ReadsLogs, IsNextOf}
 use Rattle.xc_change.specs.Taken.{unchecked, new_ones, good, looked, IsStopped, IsTaken}
 
 pub drop-min : {A : Type 0} (n : ℕ) (xs : List A) → drop (min n (length xs)) xs ≡ drop n xs

@@ -4,7 +4,8 @@
 --     ReadsLogs logs r b      the records that the reader found in order are the first accepted ones of the tablet b of the logs
 --     IsNext headers counts max before after next      what a reader hands out, whatever the feed tells
 --     IsNextOf logs max before next      what it hands out of the logs
-use Rattle.std.specs.Prelude.{◌≡◌, ℕ, ◌+◌, ◌<◌, ◌≤◌, ◌==◌, ◌&&◌, true, List, [], length, take, drop, slice_get, slice_index, Option, Some}
+--     fail_of fail      why it hands out nothing, by why a fetch gave nothing
+use Rattle.std.specs.Prelude.{◌≡◌, ℕ, ◌+◌, ◌<◌, ◌≤◌, ◌==◌, ◌&&◌, true, List, [], length, take, drop, slice_get, slice_index, Some}
 use Rattle.std.specs.Prelude.{is_some}
 use Rattle.xc_record.specs.declared.record.Header.{Header}
 use Rattle.xc_record.specs.declared.record.Record.{Record}
@@ -17,9 +18,13 @@ use Rattle.xc_record.specs.Accepted.{AcceptedTablet, accepted_tablet, records}
 use Rattle.xc_record.specs.SafeTime.{order_at}
 use Rattle.xc_record.specs.Step.{answer_from}
 use Rattle.xc_logs.specs.Feed.{KeepHeader}
+use Rattle.xc_logs.specs.declared.feed.FeedFail.{FeedFail}
+use Rattle.xc_logs.specs.declared.feed.FeedFail.TheVariants as feed
 use Rattle.xc_change.specs.declared.batch.Next.{Next}
 use Rattle.xc_change.specs.declared.batch.Next.TheVariants.{Batch as Given, AtEnd, Halted}
 use Rattle.xc_change.specs.declared.batch.Batch.{Batch}
+use Rattle.xc_change.specs.declared.batch.NextFail.{NextFail}
+use Rattle.xc_change.specs.declared.batch.NextFail.TheVariants as fail
 
 pub record ReaderState : Type 0 where
   -- the tablet's number
@@ -30,6 +35,10 @@ pub record ReaderState : Type 0 where
   pub checked : ℕ
   -- the order after these
   pub order : Progress
+
+abbrev pub fail_of : FeedFail → NextFail
+fail_of feed.Failed = fail.ReadFault
+fail_of feed.NoMemory = fail.NoMemory
 
 -- ---- any feed
 

@@ -1,4 +1,9 @@
 // What a reader hands out.
+ghost use Rattle.std.specs.Prelude.{◌≡◌};
+ghost use Rattle.xc_change.specs.Reader.{fail_of};
+
+use xc_base::NoMemory;
+use xc_logs::FeedFail;
 use xc_record::{Break, Records};
 
 /// Records of one source tablet that follow one another.
@@ -28,4 +33,25 @@ pub enum NextFail {
     ReadFault,
     /// Memory for the records was refused.
     NoMemory,
+}
+
+impl From<FeedFail> for NextFail {
+    ghost from_gives = { λ fail e. e ≡ fail_of fail };
+
+    fn from(fail: FeedFail) -> NextFail {
+        match fail {
+            FeedFail::Failed => NextFail::ReadFault,
+            FeedFail::NoMemory => NextFail::NoMemory,
+        }
+    }
+}
+
+impl From<NoMemory> for NextFail {
+    ghost use Rattle.xc_change.specs.declared.batch.NextFail.TheVariants as fail;
+
+    ghost from_gives = { λ _ e. e ≡ fail.NoMemory };
+
+    fn from(_error: NoMemory) -> NextFail {
+        NextFail::NoMemory
+    }
 }

@@ -5,6 +5,7 @@ ghost use Rattle.xc_change.specs.Taken.{looked, new_ones, unchecked, IsTaken, Is
 ghost use Rattle.xc_base.specs.Causes.{Rose};
 ghost use Rattle.xc_record.specs.Accepted.{AcceptedTablet};
 ghost use Rattle.xc_change.specs.Reader.{FitsFeed, IsNext, IsNextOf, ReadsLogs, Stays};
+ghost use Rattle.xc_base.specs.declared.limits.TheConstants.{MOST_RECORDS};
 
 use crate::batch::{Batch, Next, NextFail};
 use std::alloc::Global;
@@ -120,19 +121,15 @@ impl Reader {
         ensures later { F.faults feed.old ≤ F.faults feed.new }
     {
         let from = self.cursor + 1;
-        let records = match feed.fetch(alloc, self.id, from, max) {
-            Ok(records) => records,
-            Err(FeedFail::Failed) => return Err(NextFail::ReadFault),
-            Err(FeedFail::NoMemory) => return Err(NextFail::NoMemory),
-        };
+        let records = feed.fetch(alloc, self.id, from, max)?;
         Ok(self.take(from, records))
     }
 
     // Hands out the records that follow the cursor, as far as they are in order.
     fn take(&mut self, from: u64, records: Records) -> Next
         requires from { from ≡ self.old.cursor + 1 }
-        requires small { self.old.checked ≤ 2 ^ 20 }
-        requires few { length records ≤ 2 ^ 20 }
+        requires small { self.old.checked ≤ MOST_RECORDS }
+        requires few { length records ≤ MOST_RECORDS }
         ensures looked { self.new ≡ looked self.old records }
         ensures taken { IsTaken self.old records result }
     {
@@ -152,8 +149,8 @@ impl Reader {
 
     // Looks at the order of those of the records after the cursor that weren't found in order yet.
     fn check(&mut self, records: &[Record]) -> Walk
-        requires small { self.old.checked ≤ 2 ^ 20 }
-        requires few { length records.now ≤ 2 ^ 20 }
+        requires small { self.old.checked ≤ MOST_RECORDS }
+        requires few { length records.now ≤ MOST_RECORDS }
         ensures looked { self.new ≡ looked self.old records.now }
         ensures accepted { result.accepted ≡ length (new_ones self.old records.now) }
         ensures halt { option_map halt_at result.halt ≡ halt_from self.old.order 1 (unchecked self.old records.now) }

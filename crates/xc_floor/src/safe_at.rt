@@ -6,11 +6,9 @@ ghost use Rattle.xc_record.specs.Valid.{is_valid, headers_of};
 ghost use Rattle.xc_model.specs.Floors.{counts, least_kept};
 ghost use Rattle.xc_floor.specs.Orders.{order_of, begins, order_from, floors_of};
 
+use xc_base::MOST_TABLETS;
 use xc_order::{Order, walk_records};
 use xc_record::{Header, Logs, Tablet};
-
-// The most tablets.
-const TABLETS: usize = 64;
 
 // Where the tablet with this parent begins, if the parent's split is among what was applied.
 fn begins(orders: &[Order], parent: Option<u32>) -> Option<Order>
@@ -96,7 +94,7 @@ pub fn safe_of(logs: &Logs, places: &[u64]) -> u64
     ensures { result ≡ safe_time logs.now places.now }
 {
     let tablets = logs.tablets.as_slice();
-    let mut orders = [Order::root(); TABLETS];
+    let mut orders = [Order::root(); MOST_TABLETS];
     for (i, tablet) in tablets.iter().enumerate() {
         orders[i] = order_from(&orders, tablet, places[i]);
     }

@@ -5,7 +5,7 @@
 --                       children, which are `pair`
 --     KeepHeader headers counts id from records      the records from the number `from` on keep the header of the tablet
 --     IsFeed headers counts logs      what holds of each feed's headers, of its numbers of records, and of its logs where it tells them
-use Rattle.std.specs.Prelude.{◌≡◌, ℕ, ◌+◌, ◌-◌, ◌^◌, ◌<◌, ◌≤◌, ◌==◌, ◌&&◌, Bool, true, min, List, [], ◌∷◌, length, map, take, drop}
+use Rattle.std.specs.Prelude.{◌≡◌, ℕ, ◌+◌, ◌-◌, ◌<◌, ◌≤◌, ◌==◌, ◌&&◌, Bool, true, min, List, [], ◌∷◌, length, map, take, drop}
 use Rattle.std.specs.Prelude.{slice_get, slice_index, Option, is_some, IsSome, IfSome, IsTrue}
 use Rattle.std.specs.Bool.{beq}
 use Rattle.xc_record.specs.declared.record.Header.{Header}
@@ -15,6 +15,7 @@ use Rattle.xc_record.specs.declared.record.Logs.{Logs}
 use Rattle.xc_record.specs.Order.{is_split}
 use Rattle.xc_record.specs.Headers.{are_headers, children}
 use Rattle.xc_record.specs.Valid.{is_valid, headers_of, keeps_header}
+use Rattle.xc_base.specs.declared.limits.TheConstants.{MOST_RECORDS}
 
 abbrev pub fetched : List Record → ℕ → ℕ → List Record
 fetched records from max = take max (drop (from - 1) records)
@@ -47,6 +48,6 @@ pub record AreOf (logs : Logs) (headers : List Header) (counts : List ℕ) : Typ
 pub record IsFeed (headers : List Header) (counts : List ℕ) (logs : Option Logs) : Type 0 where
   pub fit : IsTrue (are_headers headers)
   pub each : length counts ≡ length headers
-  pub small : (id : ℕ) → slice_index counts id ≤ 2 ^ 20
+  pub small : (id : ℕ) → slice_index counts id ≤ MOST_RECORDS
   pub parents : (id : ℕ) → id < length headers → IsSome (children headers id) → 1 ≤ slice_index counts id
   pub told : IfSome logs (λ logs. AreOf logs headers counts)

@@ -5,7 +5,7 @@ ghost use Rattle.xc_record.specs.Accepted.{records};
 ghost use Rattle.xc_record.specs.declared.record.Header.{Header};
 ghost use Rattle.xc_record.specs.declared.record.Logs.{Logs};
 
-use std::alloc::Global;
+use std::alloc::{AllocError, Global};
 use xc_record::Records;
 
 /// Why a fetch gave nothing.
@@ -15,6 +15,16 @@ pub enum FeedFail {
     Failed,
     /// Memory for the records was refused, which is no fault of the feed.
     NoMemory,
+}
+
+impl From<AllocError> for FeedFail {
+    ghost use Rattle.xc_logs.specs.declared.feed.FeedFail.TheVariants as fail;
+
+    ghost from_gives = { λ _ e. e ≡ fail.NoMemory };
+
+    fn from(_error: AllocError) -> FeedFail {
+        FeedFail::NoMemory
+    }
 }
 
 /// What the records of the source's tablets are polled from.

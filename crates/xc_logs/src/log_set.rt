@@ -9,7 +9,7 @@ ghost use Rattle.xc_record.specs.Valid.{is_valid, headers_of};
 use std::alloc::Global;
 use std::marker::Model;
 use xc_base::NoMemory;
-use xc_record::{Header, Logs, Record, Tablet};
+use xc_record::{Header, Logs, Record, Tablet, children};
 
 /// Well-formed logs, to be asked by the numbers of tablets and records.
 #[derive(Drop, Debug)]
@@ -68,9 +68,7 @@ impl LogSet {
     {
         let mut copies = Vec::new(alloc);
         for tablet in self.tablets() {
-            if copies.push(tablet.header).is_err() {
-                return Err(NoMemory);
-            }
+            copies.push(tablet.header)?;
         }
         Ok(copies)
     }
@@ -126,13 +124,8 @@ impl LogSet {
 fn child_ids(tablets: &[Tablet], id: u32) -> Option<(u32, u32)>
     ensures { result ≡ ids_of (children (headers_of tablets.now) id) }
 {
-    for (i, tablet) in tablets.iter().enumerate() {
-        if tablet.header.parent == Some(id) {
-            return match tablets.get(i + 1) {
-                Some(right) => Some((tablet.header.id, right.header.id)),
-                None => None,
-            };
-        }
+    match children(tablets, id) {
+        Some((left, right)) => Some((left.id, right.id)),
+        None => None,
     }
-    None
 }

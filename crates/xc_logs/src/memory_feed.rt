@@ -36,10 +36,8 @@ impl<'a> Feed for MemoryFeed<'a> {
 
     fn fetch(&mut self, alloc: Global, id: u32, from: u64, max: u64) -> Result<Records, FeedFail> {
         let _tablets = self.logs.tablets();
-        match copies(alloc, part(self.logs.records(id), from, max)) {
-            Ok(given) => Ok(given),
-            Err(_) => Err(FeedFail::NoMemory),
-        }
+        let given = copies(alloc, part(self.logs.records(id), from, max))?;
+        Ok(given)
     }
 
     ghost shape = { λ f. f.shape };

@@ -1,42 +1,25 @@
 -- What a batch leaves of places and of closed source tablets, whatever logs there are.
-use Rattle.std.proofs.Common.{◌≡◌, ◌≢◌, ℕ, ◌+◌, ◌-◌, ◌<◌, Bool, true, false, ◌||◌, List, [], ◌∷◌, length, refl, ap, sym, ◌∙◌, subst, arith}
-use Rattle.std.specs.Prelude.{slice_index}
-use Rattle.std.specs.List.{list_any}
-use Rattle.std.proofs.lemmas.List.{get_or-set_same, get_or-set_other, length-set, length-drop, drop_all}
-use Rattle.xc_record.specs.declared.record.Kind.{Kind}
+use Rattle.xc_model.proofs.Common.{◌≡◌, ◌≢◌, ℕ, ◌+◌, ◌-◌, ◌<◌, Bool, true, false, ◌||◌, List, [], ◌∷◌, length, refl, ap, sym, ◌∙◌, subst}
+use Rattle.xc_model.proofs.Common.{arith, slice_index, list_any, get_or-set_same, get_or-set_other, length-set, length-drop, drop_all, Kind}
+use Rattle.xc_model.proofs.Common.{Record, is_split}
 use Rattle.xc_record.specs.declared.record.Kind.TheVariants as kind
-use Rattle.xc_record.specs.declared.record.Record.{Record}
-use Rattle.xc_record.specs.Order.{is_split}
+use Rattle.xc_model.{specs.Rows.range_of, specs.Laws.BatchesMovePlaces, specs.Laws.BatchesGrow}
 use Rattle.xc_model.specs.Floors.{Floors, has_closed, floors_after}
-use Rattle.xc_model.specs.Rows.{range_of}
 use Rattle.xc_model.specs.Stands.{TargetTablet, TakesIn, TakesAll, past}
-use Rattle.xc_model.specs.Laws.{BatchesMovePlaces, BatchesGrow}
 
 -- ---- what is kept of the source tablets, after one record
 
 pub headers-kept : (s : ℕ) (k : Kind) (f : Floors) → (floors_after s k f).headers ≡ f.headers
 headers-kept s (kind.Write ops) f = refl
-headers-kept s (kind.Intent n sub ops) f = refl
-headers-kept s (kind.Apply n commit without) f = refl
-headers-kept s (kind.Abort n) f = refl
-headers-kept s (kind.Safe value) f = refl
-headers-kept s (kind.Split at left right) f = refl
+headers-kept s _ f = refl
 
 pub count-kept : (s : ℕ) (k : Kind) (f : Floors) → length (floors_after s k f).closed ≡ length f.closed
-count-kept s (kind.Write ops) f = refl
-count-kept s (kind.Intent n sub ops) f = refl
-count-kept s (kind.Apply n commit without) f = refl
-count-kept s (kind.Abort n) f = refl
-count-kept s (kind.Safe value) f = refl
 count-kept s (kind.Split at left right) f = length-set f.closed s true
+count-kept s _ f = refl
 
 pub others-kept : (s i : ℕ) (k : Kind) (f : Floors) → i ≢ s → has_closed (floors_after s k f) i ≡ has_closed f i
-others-kept s i (kind.Write ops) f n = refl
-others-kept s i (kind.Intent m sub ops) f n = refl
-others-kept s i (kind.Apply m commit without) f n = refl
-others-kept s i (kind.Abort m) f n = refl
-others-kept s i (kind.Safe value) f n = refl
 others-kept s i (kind.Split at left right) f n = get_or-set_other f.closed s i true false n
+others-kept s i _ f n = refl
 
 or-false : (b : Bool) → b ≡ (b || false)
 or-false true = refl
@@ -51,12 +34,8 @@ or-assoc true b c = refl
 or-assoc false b c = refl
 
 pub closed-by : (s : ℕ) (k : Kind) (f : Floors) → s < length f.closed → has_closed (floors_after s k f) s ≡ (has_closed f s || is_split k)
-closed-by s (kind.Write ops) f l = or-false (has_closed f s)
-closed-by s (kind.Intent n sub ops) f l = or-false (has_closed f s)
-closed-by s (kind.Apply n commit without) f l = or-false (has_closed f s)
-closed-by s (kind.Abort n) f l = or-false (has_closed f s)
-closed-by s (kind.Safe value) f l = or-false (has_closed f s)
 closed-by s (kind.Split at left right) f l = get_or-set_same f.closed s true false l ∙ or-true (has_closed f s)
+closed-by s _ f l = or-false (has_closed f s)
 
 -- ---- records one after another
 
@@ -85,9 +64,7 @@ same-range x y l h = cc
 
 moved-one : (s : ℕ) (r : Record) (rs : List Record) (x z y : TargetTablet) → s < length x.places → TakesIn s r x z → Moved s rs z y
     → Moved s (r ∷ rs) x y
-moved-one s r rs x z y low t m =
-    let more = slice_index x.places s + 1 in
-    let at : slice_index z.places s ≡ slice_index x.places s + 1 =
+moved-one s r rs x z y low t m = let more = slice_index x.places s + 1 in let at : slice_index z.places s ≡ slice_index x.places s + 1 =
     ap (λ w. slice_index w s) t.places ∙ get_or-set_same x.places s (slice_index x.places s + 1) 0 low in
     let l : length z.floors.closed ≡ length x.floors.closed =
     ap (λ (f : Floors). length f.closed) t.floors ∙ count-kept s r.kind x.floors in
@@ -111,8 +88,7 @@ all-moved s (r ∷ rs) x y l t =
     moved-one s r rs x t.0 y l t.1.0 (all-moved s rs t.0 y (omega arith) t.1.1)
 
 pub batches-move : BatchesMovePlaces
-batches-move s from rs x y one first low t =
-    let more = past (slice_index x.places s) from rs in
+batches-move s from rs x y one first low t = let more = past (slice_index x.places s) from rs in
     let m : Moved s (past (slice_index x.places s) from rs) x y = all-moved s more x y low t in
     let p = m.place in
     let n : length (past (slice_index x.places s) from rs) ≡ length rs - (slice_index x.places s + 1 - from) =

@@ -1,51 +1,29 @@
 -- One more record of a source tablet keeps a target tablet standing.
-use Rattle.xc_model.proofs.FromCases.{numbered-above}
-use Rattle.std.proofs.Common.{◌≡◌, ◌≢◌, ◌==◌, ℕ, zero, suc, ◌+◌, ◌<◌, ◌≤◌, max, Bool, true, false, cond, List, [], ◌∷◌, ◌++◌, take, drop}
-use Rattle.std.proofs.Common.{length, Option, Some, None, refl, ap, sym, ◌∙◌, arith, subst, ◌⊎◌, inl, inr, ⊎_elim}
-use Rattle.std.specs.Prelude.{fold, ◌&&◌, ◌||◌, ◌-◌, option_map, nat_le, slice_get, slice_index, slice_set, if◌then◌else◌}
-use Rattle.std.specs.Option.{option_map_or}
-use Rattle.std.proofs.lemmas.Bool.{cases_Bool, cases_eq, and_parts, eqb-true, eq-eqb, true≢false}
-use Rattle.std.proofs.lemmas.List.{get_or-set_same, get_or-set_other, length-set, length-append, length-map, nil_from_length}
-use Rattle.std.proofs.lemmas.Option.{same_Some, slice_get_within, slice_get-map}
-use Rattle.std.proofs.Math.Seq.{drop-nil}
+use Rattle.xc_model.proofs.Common.{◌≡◌, ◌≢◌, ◌==◌, ℕ, zero, suc, ◌+◌, ◌<◌, ◌≤◌, max, Bool, true, false, cond, List, [], ◌∷◌, ◌++◌, take}
+use Rattle.xc_model.proofs.Common.{drop, length, Option, Some, None, refl, ap, sym, ◌∙◌, arith, subst, ◌⊎◌, inl, inr, ⊎_elim, fold, ◌&&◌}
+use Rattle.xc_model.proofs.Common.{◌||◌, ◌-◌, option_map, nat_le, slice_get, slice_index, slice_set, if◌then◌else◌, option_map_or}
+use Rattle.xc_model.proofs.Common.{cases_Bool, cases_eq, and_parts, eqb-true, eq-eqb, true≢false, get_or-set_same, get_or-set_other}
+use Rattle.xc_model.proofs.Common.{length-set, length-append, length-map, nil_from_length, same_Some, slice_get_within, slice_get-map}
+use Rattle.xc_model.proofs.Common.{Kind, Header, Record, Tablet, Logs, hash_of, holds, Progress, is_split, accepted_from}
+use Rattle.xc_model.proofs.Common.{after as step_order, AcceptedTablet, accepted_tablets, accepted, record_events, place, order_at}
+use Rattle.xc_model.proofs.Common.{last_safe_in, is_closed_in, is_closed as closed_at, is_started, safe_time, StartsAfter, IsPlaces}
+use Rattle.xc_model.proofs.Common.{headers_of, kind_fits, split_fits, children, Numbered, IsGrown, accepted_tablets-grown, steps}
+use Rattle.xc_model.proofs.Common.{floor-take, safe_time-rises, Each-weaker}
 use Rattle.std.proofs.lemmas.List.Sums.{fold-append}
-use Rattle.xc_record.specs.declared.record.Kind.{Kind}
+use Rattle.xc_record.specs.declared.headers.Next.TheVariants.{RootAt}
+use Rattle.std.proofs.lemmas.List.{drop-drop}
 use Rattle.xc_record.specs.declared.record.Kind.TheVariants as log
-use Rattle.xc_record.specs.declared.record.Header.{Header}
-use Rattle.xc_record.specs.declared.record.Record.{Record}
-use Rattle.xc_record.specs.declared.record.Tablet.{Tablet}
-use Rattle.xc_record.specs.declared.record.Logs.{Logs}
-use Rattle.xc_record.specs.Hash.{hash_of, holds}
-use Rattle.xc_record.specs.Order.{Progress, is_split, accepted_from}
-use Rattle.xc_record.specs.Order.{after as step_order}
-use Rattle.xc_record.specs.Accepted.{AcceptedTablet, accepted_tablets, accepted}
-use Rattle.xc_record.specs.Path.{record_events}
-use Rattle.xc_record.specs.SafeTime.{place, order_at, last_safe_in, is_closed_in, is_closed as closed_at, is_started, safe_time}
-use Rattle.xc_record.specs.SafeTime.{StartsAfter, IsPlaces}
-use Rattle.xc_record.specs.Valid.{headers_of, kind_fits, split_fits}
-use Rattle.xc_record.specs.Headers.{children}
-use Rattle.xc_record.proofs.HeaderLaws.{Numbered}
-use Rattle.xc_record.proofs.AcceptedLaws.{IsGrown, accepted_tablets-grown}
-use Rattle.xc_record.specs.Kept.{steps}
+use Rattle.xc_model.{proofs.FloorLaw.closed-kept, proofs.FromCases.numbered-parts, proofs.Tree.get-tablet, proofs.Tree.closed-of}
+use Rattle.xc_model.{proofs.StableSort.Each, proofs.StableSort.Exists, specs.Laws.DeliveriesKeepStanding, specs.Laws.BatchesKeepStanding}
+use Rattle.xc_model.proofs.Elements.{each-itself, each-back, exists-right, each-at, exists-map}
+use Rattle.xc_model.proofs.FromRules.{children-found, rules-suffice, kinds-fit, headers-fit, there-get}
+use Rattle.xc_model.proofs.SplitEnd.{IsOne, children-only, last-split, no-split-end}
+use Rattle.xc_model.proofs.Along.{KindNumbered, owns, floor_by}
 use Rattle.xc_model.specs.Floors.{Floors, FloorFor, has_closed, starts, has_started, floors_after}
 use Rattle.xc_model.specs.Stands.{TargetTablet, in_range, kept_at, given_at, StandsFor, TakesIn, TakesAll, past}
-use Rattle.xc_model.specs.Laws.{DeliveriesKeepStanding, BatchesKeepStanding}
-use Rattle.xc_model.proofs.StableSort.{Each, Exists}
-use Rattle.xc_model.proofs.Along.{owns, floor_by}
-use Rattle.xc_model.proofs.Elements.{each-itself, each-at}
-use Rattle.xc_model.proofs.Tree.{get-tablet, closed-of}
-use Rattle.xc_model.proofs.ValidLogs.{KindNumbered}
-use Rattle.xc_record.specs.declared.rules.Next.TheVariants.{RootAt}
-use Rattle.xc_model.proofs.FromRules.{children-found}
-use Rattle.xc_model.proofs.FromValid.{rules-suffice, kinds-fit, headers-fit, there-get}
-use Rattle.xc_model.proofs.Children.{IsOne, children-only}
-use Rattle.xc_model.proofs.SplitEnd.{last-split, no-split-end}
 use Rattle.xc_model.proofs.DeliverRecord.{is-open, applied-is, applied-more, within-more, given-more}
-use Rattle.xc_model.proofs.FloorLaw.{closed-kept}
 use Rattle.xc_model.proofs.Batches.{headers-kept, count-kept, others-kept, closed-by}
 use Rattle.xc_model.proofs.Parents.{get-id, heads, heads-logs, length-logs, UnderParent, get-under, each-numbered}
-use Rattle.xc_record.proofs.SafeLaws.{floor-take, safe_time-rises}
-use Rattle.xc_record.proofs.ListLaws.{Each-weaker}
 
 -- ---- lists
 
@@ -54,18 +32,6 @@ numbered-mid : (n : ℕ) (before : List AcceptedTablet) (b : AcceptedTablet) (af
 numbered-mid n [] b after m = (let q = m.0 in omega arith)
 numbered-mid n (d ∷ before) b after m = let q : b.header.id ≡ n + 1 + length before = numbered-mid (n + 1) before b after m.1 in omega arith
 
-apart-ids : (n : ℕ) (before : List AcceptedTablet) (b : AcceptedTablet) (after : List AcceptedTablet)
-    → Numbered n (heads (before ++ b ∷ after)) → Each (λ d. d.header.id ≢ b.header.id) before × Each (λ d. d.header.id ≢ b.header.id) after
-apart-ids n [] b after m = (
-  tt,
-  Each-weaker (λ d. n + 1 ≤ d.header.id) (λ d. d.header.id ≢ b.header.id) (λ d k e. let q = m.0 in let z : ⊥ = omega arith in z)
-      after (numbered-above (n + 1) after m.1),
-)
-apart-ids n (d ∷ before) b after m =
-    let rest = apart-ids (n + 1) before b after m.1 in
-    let high : b.header.id ≡ n + 1 + length before = numbered-mid (n + 1) before b after m.1 in
-    (((λ e. let q = m.0 in let z : ⊥ = omega arith in z), rest.0), rest.1)
-
 same-header : (hs : List Header) (h l : Header) → Numbered 0 hs → Exists (λ d. d ≡ h) hs → Exists (λ d. d ≡ l) hs → h.id ≡ l.id → h ≡ l
 same-header hs h l m i j e = same_Some h l (sym (there-get hs h m i) ∙ ap (slice_get hs) e ∙ there-get hs l m j)
 
@@ -73,17 +39,9 @@ pub pick : {A : Type 0} (P : A → Type 0) (xs : List A) → Exists P xs → (a 
 pick P [] i = absurd i
 pick P (b ∷ bs) i = ⊎_elim (λ h. (b, (inl refl, h))) (λ r. let deep = pick P bs r in (deep.0, (inr deep.1.0, deep.1.1))) i
 
-exists-header : (bs : List AcceptedTablet) (d : AcceptedTablet) → Exists (λ e. e ≡ d) bs → Exists (λ h. h ≡ d.header) (heads bs)
-exists-header [] d i = absurd i
-exists-header (b ∷ bs) d i = ⊎_elim (λ e. inl (ap (λ (w : AcceptedTablet). w.header) e)) (λ r. inr (exists-header bs d r)) i
-
 split-kind : (k : Kind) → is_split k ≡ true → (a : ℕ) × ((left : ℕ) × ((right : ℕ) × (k ≡ log.Split a left right)))
-split-kind (log.Write ops) e = cc
-split-kind (log.Intent n sub ops) e = cc
-split-kind (log.Apply n c without) e = cc
-split-kind (log.Abort n) e = cc
-split-kind (log.Safe v) e = cc
 split-kind (log.Split a left right) e = (a, (left, (right, refl)))
+split-kind _ e = cc
 
 -- the children that a split names
 record Named (hs : List Header) (s left right : ℕ) : Type 0 where
@@ -99,8 +57,7 @@ named-by hs h a left right e = go (children hs h.id) refl e
   where
     go : (o : Option (Header × Header)) → children hs h.id ≡ o → split_fits o a left right ≡ true → Named hs h.id left right
     go None q w = cc
-    go (Some pair) q w =
-        let parts = and_parts _ _ (and_parts _ _ w).1 in record
+    go (Some pair) q w = let parts = and_parts _ _ (and_parts _ _ w).1 in record
         { l = pair.0; r = pair.1; are = q; is_left = eqb-true _ _ parts.0; is_right = eqb-true _ _ parts.1 }
 
 parent-is : (q : Option ℕ) (s : ℕ) → (q ≡ Some s) ⊎ (q ≡ Some s → ⊥)
@@ -110,23 +67,17 @@ parent-is (Some p) s = ⊎_elim (λ e. inl (ap Some e)) (λ n. inr (λ e. n (let
 -- ---- what is kept of the source tablets becomes
 
 safe-count : (s : ℕ) (kind : Kind) (f : Floors) → length (floors_after s kind f).safe ≡ length f.safe
-safe-count s (log.Write ops) f = refl
-safe-count s (log.Intent n sub ops) f = refl
-safe-count s (log.Apply n c without) f = refl
-safe-count s (log.Abort n) f = refl
 safe-count s (log.Safe v) f = length-set f.safe s (max (slice_index f.safe s) v)
 safe-count s (log.Split at left right) f =
     length-set (slice_set f.safe left (slice_index f.safe s)) right (slice_index f.safe s) ∙ length-set f.safe left (slice_index f.safe s)
+safe-count s _ f = refl
 
 -- where no split comes, only the tablet's own value changes
 safe-other : (s : ℕ) (kind : Kind) (f : Floors) (i : ℕ) → is_split kind ≡ false → i ≢ s
     → slice_index (floors_after s kind f).safe i ≡ slice_index f.safe i
-safe-other s (log.Write ops) f i n h = refl
-safe-other s (log.Intent m sub ops) f i n h = refl
-safe-other s (log.Apply m c without) f i n h = refl
-safe-other s (log.Abort m) f i n h = refl
 safe-other s (log.Safe v) f i n h = get_or-set_other f.safe s i (max (slice_index f.safe s) v) 0 h
 safe-other s (log.Split at left right) f i n h = cc
+safe-other s _ f i n h = refl
 
 -- a split changes the values of the two children alone
 safe-apart : (value left right : ℕ) (safe : List ℕ) (i : ℕ) → i ≢ left → i ≢ right
@@ -136,9 +87,7 @@ safe-apart value left right safe i a b =
 
 safe-child : (value left right : ℕ) (safe : List ℕ) (i : ℕ) → i < length safe → (i ≡ left) ⊎ (i ≡ right)
     → slice_index (slice_set (slice_set safe left value) right value) i ≡ value
-safe-child value left right safe i h e =
-    let one = slice_set safe left value in
-    let right-is : i ≡ right
+safe-child value left right safe i h e = let one = slice_set safe left value in let right-is : i ≡ right
     → slice_index (slice_set one right value) i ≡ value = λ q. subst (λ (w : ℕ). slice_index (slice_set one w value) i ≡ value) q
     (get_or-set_same one i value 0 (let l : length one ≡ length safe = length-set safe left value in omega arith)) in
     ⊎_elim right-is
@@ -150,14 +99,11 @@ safe-child value left right safe i h e =
 safe-mine : (s : ℕ) (kind : Kind) (f : Floors) (value : ℕ) → s < length f.safe → slice_index f.safe s ≡ value → value ≤ floor_by value kind
     → ((at left right : ℕ) → kind ≡ log.Split at left right → (s ≢ left) × (s ≢ right))
     → slice_index (floors_after s kind f).safe s ≡ floor_by value kind
-safe-mine s (log.Write ops) f value l e h n = e
-safe-mine s (log.Intent m sub ops) f value l e h n = e
-safe-mine s (log.Apply m c without) f value l e h n = e
-safe-mine s (log.Abort m) f value l e h n = e
 safe-mine s (log.Safe v) f value l e h n =
     get_or-set_same f.safe s (max (slice_index f.safe s) v) 0 l ∙ (let q : value ≤ v = h in omega arith)
 safe-mine s (log.Split at left right) f value l e h n =
     let k = n at left right refl in safe-apart (slice_index f.safe s) left right f.safe s k.0 k.1 ∙ e
+safe-mine s _ f value l e h n = e
 
 -- ---- a record of the tablet b, between those before and after it
 
@@ -169,7 +115,10 @@ module _ (logs : Logs) (u : ℕ) (x y : TargetTablet) (before after : List Accep
   numbered = subst (λ w. Numbered 0 (heads w)) is (each-numbered logs st.valid)
 
   apart : Each (λ d. d.header.id ≢ b.header.id) before × Each (λ d. d.header.id ≢ b.header.id) after
-  apart = apart-ids 0 before b after numbered
+  apart = let parts = numbered-parts 0 before b after numbered in (
+    Each-weaker (λ d. d.header.id < b.header.id) (λ d. d.header.id ≢ b.header.id) (λ d k e. let z : ⊥ = omega arith in z) before parts.0,
+    Each-weaker (λ d. b.header.id < d.header.id) (λ d. d.header.id ≢ b.header.id) (λ d k e. let z : ⊥ = omega arith in z) after parts.1,
+  )
 
   count : length x.floors.headers ≡ length (before ++ b ∷ after)
   count = ap length (st.floors.headers ∙ sym (heads-logs logs)) ∙ length-map (accepted_tablets logs) (λ (d : AcceptedTablet). d.header)
@@ -180,9 +129,7 @@ module _ (logs : Logs) (u : ℕ) (x y : TargetTablet) (before after : List Accep
       in let c = count in omega arith
 
   below-places : b.header.id < length x.places
-  below-places =
-      let q : length x.places ≡ length logs.tablets = st.places.count in
-      let w : length x.floors.headers ≡ length logs.tablets =
+  below-places = let q : length x.places ≡ length logs.tablets = st.places.count in let w : length x.floors.headers ≡ length logs.tablets =
       ap length st.floors.headers ∙ length-map logs.tablets (λ (t : Tablet). t.header) in
       let c = below-count in omega arith
 
@@ -198,17 +145,17 @@ module _ (logs : Logs) (u : ℕ) (x y : TargetTablet) (before after : List Accep
   was-open = is-open x.places b front rest r recs at
 
   there : Exists (λ d. d ≡ b) (accepted_tablets logs)
-  there = subst (Exists (λ d. d ≡ b)) (sym is) (mid before)
-    where
-      mid : (ds : List AcceptedTablet) → Exists (λ d. d ≡ b) (ds ++ b ∷ after)
-      mid [] = inl refl
-      mid (d ∷ ds) = inr (mid ds)
+  there = subst (Exists (λ d. d ≡ b)) (sym is) (exists-right (λ d. d ≡ b) before (b ∷ after) (inl refl))
 
   closed-b : closed_at logs x.places b.header.id ≡ false
   closed-b = closed-of logs x.places b (each-numbered logs st.valid) there ∙ was-open
 
   get-b : slice_get (accepted_tablets logs) b.header.id ≡ Some b
   get-b = get-tablet (accepted_tablets logs) b (each-numbered logs st.valid) there
+
+  is-b : (d : AcceptedTablet) → Exists (λ e. e ≡ d) (accepted_tablets logs) → d.header.id ≡ b.header.id → d ≡ b
+  is-b d i same = same_Some d b (sym (get-tablet (accepted_tablets logs) d (each-numbered logs st.valid) i)
+      ∙ ap (slice_get (accepted_tablets logs)) same ∙ get-b)
 
   closed-elsewhere : (p : ℕ) → p ≢ b.header.id → closed_at logs y.places p ≡ closed_at logs x.places p
   unfolding closed_at
@@ -223,11 +170,7 @@ module _ (logs : Logs) (u : ℕ) (x y : TargetTablet) (before after : List Accep
   header-b : slice_get x.floors.headers b.header.id ≡ Some b.header
   header-b = subst (λ w. slice_get w b.header.id ≡ Some b.header) (heads-logs logs
       ∙ sym st.floors.headers) (there-get (heads (accepted_tablets logs)) b.header (each-numbered logs st.valid)
-      (exists-head (accepted_tablets logs) there))
-    where
-      exists-head : (ds : List AcceptedTablet) → Exists (λ d. d ≡ b) ds → Exists (λ h. h ≡ b.header) (heads ds)
-      exists-head [] i = absurd i
-      exists-head (d ∷ ds) i = ⊎_elim (λ e. inl (ap (λ (w : AcceptedTablet). w.header) e)) (λ j. inr (exists-head ds j)) i
+      (exists-map (λ (w : AcceptedTablet). w.header) (accepted_tablets logs) b there))
 
   effect : (k : List ℕ) → in_range x k ≡ true
       → kept_at y k ≡ cond (owns (hash_of k) b.header) (steps (record_events k r) (kept_at x k)) (kept_at x k)
@@ -235,13 +178,8 @@ module _ (logs : Logs) (u : ℕ) (x y : TargetTablet) (before after : List Accep
       ∙ ap (λ o. if option_map_or (λ h. holds h (hash_of k)) o false then steps (record_events k r) (kept_at x k) else kept_at x k) header-b
 
   kind-numbered : KindNumbered r.kind
-  kind-numbered =
-      mid front (subst (Each (λ r. KindNumbered r.kind)) recs
-      (each-at (λ e. Each (λ r. KindNumbered r.kind) e.records) (accepted_tablets logs) b (rules-suffice logs st.valid).numbered there))
-    where
-      mid : (fs : List Record) → Each (λ r. KindNumbered r.kind) (fs ++ r ∷ rest) → KindNumbered r.kind
-      mid [] h = h.0
-      mid (f ∷ fs) h = mid fs h.1
+  kind-numbered = (each-back (λ r. KindNumbered r.kind) front (r ∷ rest) (subst (Each (λ r. KindNumbered r.kind)) recs
+      (each-at (λ e. Each (λ r. KindNumbered r.kind) e.records) (accepted_tablets logs) b (rules-suffice logs st.valid).numbered there))).0
 
   given : (k : List ℕ)
       → given_at logs u y.places k ≡ cond (owns (hash_of k) b.header) (steps (record_events k r) (given_at logs u x.places k))
@@ -263,25 +201,14 @@ module _ (logs : Logs) (u : ℕ) (x y : TargetTablet) (before after : List Accep
 
   starts-new : (d : AcceptedTablet) → Exists (λ e. e ≡ d) (accepted_tablets logs) → StartsAfter logs x.places d
       → StartsAfter logs y.places d
-  starts-new d i s c =
-      ⊎_elim
-      (λ same.
-      let is-b : d ≡ b =
-      same_Some d b (sym (get-tablet (accepted_tablets logs) d (each-numbered logs st.valid) i)
-      ∙ ap (slice_get (accepted_tablets logs)) same ∙ get-b) in
-      absurd (true≢false (sym (subst (λ (w : AcceptedTablet). is_started logs x.places w.header.parent ≡ true) (sym is-b) up)
+  starts-new d i s c = ⊎_elim
+      (λ same. absurd (true≢false (sym (ap (λ (w : AcceptedTablet). is_started logs x.places w.header.parent) (is-b d i same) ∙ up)
       ∙ started-before d.header.parent c)))
       (λ n. place-other d.header.id n ∙ s (started-before d.header.parent c)) (cases_eq d.header.id b.header.id)
 
   within-new : (d : AcceptedTablet) → Exists (λ e. e ≡ d) (accepted_tablets logs) → place x.places d ≤ length d.records
       → place y.places d ≤ length d.records
-  within-new d i w =
-      ⊎_elim
-      (λ same.
-      let is-b : d ≡ b =
-      same_Some d b (sym (get-tablet (accepted_tablets logs) d (each-numbered logs st.valid) i)
-      ∙ ap (slice_get (accepted_tablets logs)) same ∙ get-b) in
-      subst (λ (w : AcceptedTablet). place y.places w ≤ length w.records) (sym is-b)
+  within-new d i w = ⊎_elim (λ same. subst (λ (w : AcceptedTablet). place y.places w ≤ length w.records) (sym (is-b d i same))
       (let a = place-mine in let c = within-more x.places b front rest r recs at in omega arith))
       (λ n. let q = place-other d.header.id n in omega arith) (cases_eq d.header.id b.header.id)
 
@@ -316,9 +243,7 @@ module _ (logs : Logs) (u : ℕ) (x y : TargetTablet) (before after : List Accep
   now-closed = ⊎_elim split (λ f. other f) (cases_Bool (is_split r.kind))
     where
       split : is_split r.kind ≡ true → is_closed_in y.places b ≡ is_split r.kind
-      split t =
-          let last = last-split b.start front rest r in-order t in
-          let full : slice_index y.places b.header.id ≡ length b.records =
+      split t = let last = last-split b.start front rest r in-order t in let full : slice_index y.places b.header.id ≡ length b.records =
           place-mine
           ∙ (let l : length b.records ≡ length (front ++ r ∷ rest) = ap length recs in let m = length-append front (r ∷ rest) in let
           n : length rest ≡ 0 = ap length last.0 in omega arith) in
@@ -326,10 +251,7 @@ module _ (logs : Logs) (u : ℕ) (x y : TargetTablet) (before after : List Accep
           ∙ ap (λ (w : Progress). w.split) end-is ∙ last.1 ∙ sym t
 
       other : is_split r.kind ≡ false → is_closed_in y.places b ≡ is_split r.kind
-      other f = ⊎_elim
-          (λ e.
-          let none : rest ≡ [] =
-          nil_from_length rest
+      other f = ⊎_elim (λ e. let none : rest ≡ [] = nil_from_length rest
           (let l : length b.records ≡ length (front ++ r ∷ rest) = ap length recs in let m = length-append front (r ∷ rest) in let n
           : slice_index y.places b.header.id ≡ length b.records = eqb-true _ _ e in let q = place-mine in omega arith) in
           let open_ : b.end.split ≡ false =
@@ -348,8 +270,7 @@ module _ (logs : Logs) (u : ℕ) (x y : TargetTablet) (before after : List Accep
   old-safe = ap (λ rs. (fold step_order b.start rs).floor) applied-front
 
   new-safe : last_safe_in y.places b ≡ floor_by (last_safe_in x.places b) r.kind
-  new-safe =
-      ap (λ n. (order_at b n).floor) place-mine
+  new-safe = ap (λ n. (order_at b n).floor) place-mine
       ∙ ap (λ rs. (fold step_order b.start rs).floor) (applied-more x.places b front rest r recs at)
       ∙ ap (λ (p : Progress). p.floor) (fold-append step_order b.start front (r ∷ [])) ∙ ap (λ f. floor_by f r.kind) (sym old-safe)
 
@@ -366,23 +287,17 @@ module _ (logs : Logs) (u : ℕ) (x y : TargetTablet) (before after : List Accep
   numbered-headers = subst (Numbered 0) (heads-logs logs) (each-numbered logs st.valid)
 
   header-there : (d : AcceptedTablet) → Exists (λ e. e ≡ d) (accepted_tablets logs) → Exists (λ h. h ≡ d.header) (headers_of logs.tablets)
-  header-there d i = subst (Exists (λ h. h ≡ d.header)) (heads-logs logs) (exists-header (accepted_tablets logs) d i)
+  header-there d i = subst (Exists (λ h. h ≡ d.header)) (heads-logs logs)
+      (exists-map (λ (w : AcceptedTablet). w.header) (accepted_tablets logs) d i)
 
   fits-b : kind_fits b.header (children (headers_of logs.tablets) b.header.id) r.kind ≡ true
-  fits-b = each-mid front
-      (subst (Each (λ r. kind_fits b.header (children (headers_of logs.tablets) b.header.id) r.kind ≡ true)) recs
+  fits-b = let fitting : Record → Type 0 = λ r. kind_fits b.header (children (headers_of logs.tablets) b.header.id) r.kind ≡ true in
+      (each-back fitting front (r ∷ rest) (subst (Each fitting) recs
       (each-at (λ e. Each (λ r. kind_fits e.header (children (headers_of logs.tablets) e.header.id) r.kind ≡ true) e.records)
-      (accepted_tablets logs) b (kinds-fit logs st.valid) there))
-    where
-      each-mid : (fs : List Record)
-          → Each (λ r. kind_fits b.header (children (headers_of logs.tablets) b.header.id) r.kind ≡ true) (fs ++ r ∷ rest)
-          → kind_fits b.header (children (headers_of logs.tablets) b.header.id) r.kind ≡ true
-      each-mid [] h = h.0
-      each-mid (f ∷ fs) h = each-mid fs h.1
+      (accepted_tablets logs) b (kinds-fit logs st.valid) there))).0
 
   named : (a left right : ℕ) → r.kind ≡ log.Split a left right → Named (headers_of logs.tablets) b.header.id left right
-  named a left right e =
-      named-by (headers_of logs.tablets) b.header a left right
+  named a left right e = named-by (headers_of logs.tablets) b.header a left right
       (subst (λ k. kind_fits b.header (children (headers_of logs.tablets) b.header.id) k ≡ true) e fits-b)
 
   -- a tablet with the number of a child is a child
@@ -438,8 +353,7 @@ module _ (logs : Logs) (u : ℕ) (x y : TargetTablet) (before after : List Accep
 
   started-same : is_split r.kind ≡ false → (q : Option ℕ) → is_started logs y.places q ≡ is_started logs x.places q
   started-same f None = refl
-  started-same f (Some p) =
-      ⊎_elim (λ e. ap (closed_at logs y.places) e ∙ closed-now ∙ f
+  started-same f (Some p) = ⊎_elim (λ e. ap (closed_at logs y.places) e ∙ closed-now ∙ f
       ∙ sym (ap (closed_at logs x.places) e ∙ closed-b)) (λ n. closed-elsewhere p n) (cases_eq p b.header.id)
 
   safe-same : (d : AcceptedTablet) → d.header.id ≢ b.header.id → last_safe_in y.places d ≡ last_safe_in x.places d
@@ -448,42 +362,35 @@ module _ (logs : Logs) (u : ℕ) (x y : TargetTablet) (before after : List Accep
   -- a child of b begins where b ends
   child-floor : (d : AcceptedTablet) → Exists (λ e. e ≡ d) (accepted_tablets logs) → d.header.parent ≡ Some b.header.id
       → d.start.floor ≡ b.end.floor
-  child-floor d i e =
-      let under : UnderParent (accepted_tablets logs) b.header.id d =
+  child-floor d i e = let under : UnderParent (accepted_tablets logs) b.header.id d =
       get-under logs d.header.id d st.valid (get-tablet (accepted_tablets logs) d (each-numbered logs st.valid) i) b.header.id e in
       sym under.floor ∙ ap (λ (w : AcceptedTablet). w.end.floor) (same_Some under.parent b (sym under.there ∙ get-b))
 
   end-floor : is_split r.kind ≡ true → b.end.floor ≡ last_safe_in x.places b
-  end-floor t =
-      let last = last-split b.start front rest r in-order t in
-      let kind = split-kind r.kind t in
+  end-floor t = let last = last-split b.start front rest r in-order t in let kind = split-kind r.kind t in
       ap (λ (w : Progress). w.floor) (end-is ∙ ap (λ w. fold step_order b.start (front ++ r ∷ w)) last.0
       ∙ fold-append step_order b.start front (r ∷ []))
       ∙ ap (floor_by (fold step_order b.start front).floor) kind.1.1.1 ∙ sym old-safe
 
   first-safe : (d : AcceptedTablet) → Exists (λ e. e ≡ d) (accepted_tablets logs) → d.header.parent ≡ Some b.header.id
       → last_safe_in x.places d ≡ d.start.floor
-  first-safe d i e =
-      let zero : place x.places d ≡ 0 =
+  first-safe d i e = let zero : place x.places d ≡ 0 =
       each-at (StartsAfter logs x.places) (accepted_tablets logs) d st.places.starts i (ap (is_started logs x.places) e ∙ closed-b) in
       ap (λ n. (order_at d n).floor) zero
 
-  value-after-split : (a left right : ℕ) → r.kind ≡ log.Split a left right → (i : ℕ)
-      → slice_index y.floors.safe i ≡ slice_index
+  value-after-split : (a left right : ℕ) → r.kind ≡ log.Split a left right → (i : ℕ) → slice_index y.floors.safe i ≡ slice_index
       (slice_set (slice_set x.floors.safe left (slice_index x.floors.safe b.header.id)) right (slice_index x.floors.safe b.header.id)) i
   value-after-split a left right e i = now-value i ∙ ap (λ k. slice_index (floors_after b.header.id k x.floors).safe i) e
 
   below-each : (d : AcceptedTablet) → Exists (λ e. e ≡ d) (accepted_tablets logs) → d.header.id < length x.floors.safe
-  below-each d i =
-      let q : length x.floors.safe ≡ length x.floors.headers = st.floors.safe in
+  below-each d i = let q : length x.floors.safe ≡ length x.floors.headers = st.floors.safe in
       let w : d.header.id < length (accepted_tablets logs) =
       slice_get_within (accepted_tablets logs) d.header.id d (get-tablet (accepted_tablets logs) d (each-numbered logs st.valid) i) in
       let c : length x.floors.headers ≡ length (accepted_tablets logs) = count ∙ ap length (sym is) in omega arith
 
   one-of : (left right : ℕ) (n : Named (headers_of logs.tablets) b.header.id left right) (d : AcceptedTablet)
       → Exists (λ e. e ≡ d) (accepted_tablets logs) → d.header.parent ≡ Some b.header.id → (d.header.id ≡ left) ⊎ (d.header.id ≡ right)
-  one-of left right n d i e =
-      let each : Each (IsOne b.header.id n.l n.r) (headers_of logs.tablets) =
+  one-of left right n d i e = let each : Each (IsOne b.header.id n.l n.r) (headers_of logs.tablets) =
       children-only [] (RootAt 0) (headers_of logs.tablets) b.header.id n.l n.r tt (headers-fit logs st.valid) n.are in
       ⊎_elim (λ q. inl (q ∙ sym n.is_left)) (λ q. inr (q
       ∙ sym n.is_right)) (each-at (IsOne b.header.id n.l n.r) (headers_of logs.tablets) d.header each (header-there d i) e)
@@ -491,15 +398,11 @@ module _ (logs : Logs) (u : ℕ) (x y : TargetTablet) (before after : List Accep
   safe-else : (d : AcceptedTablet) → Exists (λ e. e ≡ d) (accepted_tablets logs) → d.header.id ≢ b.header.id
       → FloorFor logs x.places x.floors d → is_started logs y.places d.header.parent ≡ true
       → slice_index y.floors.safe d.header.id ≡ last_safe_in y.places d
-  safe-else d i n k started =
-      ⊎_elim split (λ f. now-value d.header.id ∙ safe-other b.header.id r.kind x.floors d.header.id f n
+  safe-else d i n k started = ⊎_elim split (λ f. now-value d.header.id ∙ safe-other b.header.id r.kind x.floors d.header.id f n
       ∙ k.safe (sym (started-same f d.header.parent) ∙ started) ∙ sym (safe-same d n)) (cases_Bool (is_split r.kind))
     where
       split : is_split r.kind ≡ true → slice_index y.floors.safe d.header.id ≡ last_safe_in y.places d
-      split t =
-          let kind = split-kind r.kind t in
-          let left = kind.1.0 in
-          let right = kind.1.1.0 in
+      split t = let kind = split-kind r.kind t in let left = kind.1.0 in let right = kind.1.1.0 in
           let names = named kind.0 left right kind.1.1.1 in
           let set = value-after-split kind.0 left right kind.1.1.1 d.header.id in
           let value = slice_index x.floors.safe b.header.id in
@@ -521,16 +424,12 @@ module _ (logs : Logs) (u : ℕ) (x y : TargetTablet) (before after : List Accep
   }
 
   keeps-each : (d : AcceptedTablet) → Exists (λ e. e ≡ d) (accepted_tablets logs) → FloorFor logs y.places y.floors d
-  keeps-each d i =
-      ⊎_elim
-      (λ e. let same : d ≡ b = same_Some d b (sym (get-tablet (accepted_tablets logs) d (each-numbered logs st.valid) i)
-      ∙ ap (slice_get (accepted_tablets logs)) e ∙ get-b) in subst (FloorFor logs y.places y.floors) (sym same) keeps-mine)
+  keeps-each d i = ⊎_elim (λ e. subst (FloorFor logs y.places y.floors) (sym (is-b d i e)) keeps-mine)
       (λ n. keeps-else d i n (each-at (FloorFor logs x.places x.floors) (accepted_tablets logs) d st.floors.each i))
       (cases_eq d.header.id b.header.id)
 
   same-range : (k : List ℕ) → in_range y k ≡ in_range x k
-  same-range k =
-      ap (λ n. nat_le n (hash_of k) && nat_le (hash_of k) y.hi) tk.range.0
+  same-range k = ap (λ n. nat_le n (hash_of k) && nat_le (hash_of k) y.hi) tk.range.0
       ∙ ap (λ n. nat_le x.lo (hash_of k) && nat_le (hash_of k) n) tk.range.1
 
   same-headers : y.floors.headers ≡ headers_of logs.tablets
@@ -561,8 +460,7 @@ take-front : {A : Type 0} (xs : List A) (i : ℕ) (a : A) → slice_get xs i ≡
     → (front : List A) × ((rest : List A) × ((xs ≡ front ++ a ∷ rest) × (length front ≡ i)))
 take-front [] i a e = cc
 take-front (b ∷ bs) zero a e = ([], (bs, (let q : b ≡ a = same_Some b a e in ap (λ w. w ∷ bs) q, refl)))
-take-front (b ∷ bs) (suc i) a e =
-    let deep = take-front bs i a e in
+take-front (b ∷ bs) (suc i) a e = let deep = take-front bs i a e in
     (b ∷ deep.0, (deep.1.0, (ap (λ w. b ∷ w) deep.1.1.0, (let q : length deep.0 ≡ i = deep.1.1.1 in omega arith))))
 
 -- the tablet that a record is of
@@ -582,8 +480,7 @@ of logs s n r e = go (slice_get (accepted_tablets logs) s) refl e
 -- what x has as started is
 started-is : (logs : Logs) (u s : ℕ) (x : TargetTablet) (b : AcceptedTablet) → StandsFor logs u x
     → slice_get (accepted_tablets logs) s ≡ Some b → has_started x.floors s ≡ true → is_started logs x.places b.header.parent ≡ true
-started-is logs u s x b st get h =
-    let head : slice_get x.floors.headers s ≡ Some b.header =
+started-is logs u s x b st get h = let head : slice_get x.floors.headers s ≡ Some b.header =
     ap (λ w. slice_get w s) (st.floors.headers ∙ sym (heads-logs logs))
     ∙ slice_get-map (λ (d : AcceptedTablet). d.header) (accepted_tablets logs) s
     ∙ ap (option_map (λ (d : AcceptedTablet). d.header)) get in
@@ -617,18 +514,16 @@ next-of (x ∷ xs) zero a tail e =
 
     tails-same : {A : Type 0} (a b : A) (xs ys : List A) → a ∷ xs ≡ b ∷ ys → xs ≡ ys
     tails-same a b xs ys e = cc
-next-of (x ∷ xs) (suc i) a tail e =
-    let deep = next-of xs i a tail e in (
-      deep.0,
-      deep.1
-          ∙ ap (λ n. take (length tail) (drop n (x ∷ xs))) (let q : suc (i + 1) ≡ suc i + 1 = omega arith in q),
-    )
+next-of (x ∷ xs) (suc i) a tail e = let deep = next-of xs i a tail e in (
+  deep.0,
+  deep.1
+      ∙ ap (λ n. take (length tail) (drop n (x ∷ xs))) (let q : suc (i + 1) ≡ suc i + 1 = omega arith in q),
+)
 
 -- the place that a record takes
 place-after : (logs : Logs) (u s : ℕ) (r : Record) (x y : TargetTablet) → StandsFor logs u x
     → slice_get (accepted logs s) (slice_index x.places s) ≡ Some r → TakesIn s r x y → slice_index y.places s ≡ slice_index x.places s + 1
-place-after logs u s r x y st next tk =
-    let found : Of logs s (slice_index x.places s) r = of logs s (slice_index x.places s) r next in
+place-after logs u s r x y st next tk = let found : Of logs s (slice_index x.places s) r = of logs s (slice_index x.places s) r next in
     let low : s < length (accepted_tablets logs) = slice_get_within (accepted_tablets logs) s found.b found.get in
     let same : length (accepted_tablets logs) ≡ length logs.tablets = length-logs logs in
     let bound : s < length x.places = let c : length x.places ≡ length logs.tablets = st.places.count in omega arith in
@@ -643,8 +538,7 @@ started-stays logs u s r x y st next h tk =
     ∙ headers-kept s r.kind x.floors) ∙ go (slice_get x.floors.headers s) h
   where
     low : s < length x.floors.closed
-    low =
-        let found : Of logs s (slice_index x.places s) r = of logs s (slice_index x.places s) r next in
+    low = let found : Of logs s (slice_index x.places s) r = of logs s (slice_index x.places s) r next in
         let b : s < length (accepted_tablets logs) = slice_get_within (accepted_tablets logs) s found.b found.get in
         let same : length (accepted_tablets logs) ≡ length logs.tablets = length-logs logs in
         let heads : length x.floors.headers ≡ length logs.tablets =
@@ -669,17 +563,10 @@ started-stays logs u s r x y st next h tk =
 all-keep : (logs : Logs) (x y : TargetTablet) (u s : ℕ) (rs : List Record) → StandsFor logs u x → has_started x.floors s ≡ true
     → rs ≡ take (length rs) (drop (slice_index x.places s) (accepted logs s)) → TakesAll s rs x y → StandsFor logs u y
 all-keep logs x y u s [] st started e t = subst (StandsFor logs u) (sym t) st
-all-keep logs x y u s (r ∷ rs) st started e t =
-    let z = t.0 in
-    let next = next-of (accepted logs s) (slice_index x.places s) r rs e in
+all-keep logs x y u s (r ∷ rs) st started e t = let z = t.0 in let next = next-of (accepted logs s) (slice_index x.places s) r rs e in
     let stands : StandsFor logs u z = deliveries-keep logs x z u s r st started next.0 t.1.0 in
     all-keep logs z y u s rs stands (started-stays logs u s r x z st next.0 started t.1.0)
     (subst (λ (n : ℕ). rs ≡ take (length rs) (drop n (accepted logs s))) (sym (place-after logs u s r x z st next.0 t.1.0)) next.1) t.1.1
-
-drop-both : {A : Type 0} (m n : ℕ) (xs : List A) → drop m (drop n xs) ≡ drop (n + m) xs
-drop-both m zero xs = ap (λ k. drop k xs) (let q : m ≡ 0 + m = omega arith in q)
-drop-both m (suc n) [] = drop-nil m ∙ sym (drop-nil (suc n + m))
-drop-both m (suc n) (x ∷ xs) = drop-both m n xs ∙ ap (λ k. drop k (x ∷ xs)) (let q : suc (n + m) ≡ suc n + m = omega arith in q)
 
 -- a list's first elements, without the first m
 front-drop : {A : Type 0} (m : ℕ) (rs xs : List A) → rs ≡ take (length rs) xs → drop m rs ≡ take (length (drop m rs)) (drop m xs)
@@ -692,10 +579,8 @@ front-drop (suc m) (r ∷ rs) (x ∷ xs) e = front-drop m rs xs (tails r x rs (t
     tails a b xs ys e = cc
 
 pub batches-keep : BatchesKeepStanding
-batches-keep logs x y u s from rs st started low high e t =
-    let place = slice_index x.places s in
-    let m = place + 1 - from in
+batches-keep logs x y u s from rs st started low high e t = let place = slice_index x.places s in let m = place + 1 - from in
     let at : from - 1 + m ≡ place = omega arith in
     all-keep logs x y u s (past place from rs) st started
     (front-drop m rs (drop (from - 1) (accepted logs s)) e
-    ∙ ap (take (length (drop m rs))) (drop-both m (from - 1) (accepted logs s) ∙ ap (λ n. drop n (accepted logs s)) at)) t
+    ∙ ap (take (length (drop m rs))) (drop-drop m (from - 1) (accepted logs s) ∙ ap (λ n. drop n (accepted logs s)) at)) t

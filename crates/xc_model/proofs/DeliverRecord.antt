@@ -1,41 +1,17 @@
 -- One more accepted record of a tablet, and what the logs give at a key.
-use Rattle.std.proofs.Common.{◌≡◌, ◌==◌, ℕ, suc, zero, ◌+◌, ◌<◌, ◌≤◌, Bool, true, false, cond, List, [], ◌∷◌, ◌++◌, map, take, length, refl}
-use Rattle.std.proofs.Common.{ap, sym, ◌∙◌, arith, subst, append_assoc, append-nil, ⊎_elim}
-use Rattle.std.specs.List.{filter}
-use Rattle.std.specs.Prelude.{fold}
-use Rattle.std.proofs.Math.Seq.{take-append_seam}
-use Rattle.std.proofs.lemmas.List.{length-append}
-use Rattle.std.proofs.lemmas.List.Elements.{filter-append}
-use Rattle.std.proofs.lemmas.Grind.{flat_map-append}
-use Rattle.std.proofs.lemmas.Bool.{and_left, ne_eqb, true≢false}
-use Rattle.xc_record.specs.declared.record.Kind.{Kind}
+use Rattle.xc_model.proofs.Common.{◌≡◌, ◌==◌, ℕ, suc, zero, ◌+◌, ◌<◌, ◌≤◌, Bool, true, false, cond, List, [], ◌∷◌, ◌++◌, take, length}
+use Rattle.xc_model.proofs.Common.{refl, ap, sym, ◌∙◌, arith, subst, append_assoc, append-nil, ⊎_elim, filter, fold, take-append_seam}
+use Rattle.xc_model.proofs.Common.{length-append, filter-append, flat_map-append, and_left, ne_eqb, true≢false, Kind, Record, Logs, after}
+use Rattle.xc_model.proofs.Common.{AcceptedTablet, accepted_tablets, place, last_safe_in, is_closed_in, safe_time, IsPlaces, hash_of}
+use Rattle.xc_model.proofs.Common.{Put, Hold, events, record_events, kind_events, puts, steps, is_valid, IsGrown}
+use Rattle.xc_model.proofs.Common.{accepted_tablets-grown, Each-filter}
 use Rattle.xc_record.specs.declared.record.Kind.TheVariants as log
-use Rattle.xc_record.specs.declared.record.Record.{Record}
-use Rattle.xc_record.specs.declared.record.Logs.{Logs}
-use Rattle.xc_record.specs.Order.{after}
-use Rattle.xc_record.specs.Accepted.{AcceptedTablet, accepted_tablets}
-use Rattle.xc_record.specs.SafeTime.{place, last_safe_in, is_closed_in, safe_time, IsPlaces}
-use Rattle.xc_record.specs.Hash.{hash_of}
-use Rattle.xc_record.specs.Path.{Written, Put, Hold, events, record_events, kind_events, puts}
-use Rattle.xc_record.specs.Kept.{steps}
-use Rattle.xc_record.specs.Valid.{is_valid}
-use Rattle.xc_record.proofs.AcceptedLaws.{IsGrown, accepted_tablets-grown}
-use Rattle.xc_record.proofs.ListLaws.{Each-filter}
-use Rattle.xc_model.specs.Stands.{given_at}
-use Rattle.xc_model.proofs.StableSort.{Each, Exists}
-use Rattle.xc_model.proofs.Elements.{each-at}
-use Rattle.xc_model.proofs.Paths.{IsNumbered, shown}
-use Rattle.xc_model.proofs.Along.{owns, own, applied_in, applied_along, LegalChain}
-use Rattle.xc_model.proofs.ValidLogs.{KindNumbered}
-use Rattle.xc_model.proofs.Flat.{each-flat}
-use Rattle.xc_model.proofs.Chain.{floor_after, last_after, KindGoes, Goes, after-parts, grown-goes}
-use Rattle.xc_model.proofs.Cover.{nothing-applied, events-push}
-use Rattle.xc_model.proofs.KeyRead.{goes-back, goes-front, floor-le-last}
-use Rattle.xc_model.proofs.Low.{IsLow, each-low}
-use Rattle.xc_model.proofs.Deliver.{AddsAfter, shown-append}
-use Rattle.xc_model.proofs.ReadRows.{under-safe, along-path}
-use Rattle.xc_model.proofs.FromValid.{rules-suffice}
-use Rattle.xc_model.proofs.Tree.{legal-own}
+use Rattle.xc_model.{proofs.Flat.each-flat, proofs.Tree.legal-own, specs.Stands.given_at, proofs.FromRules.rules-suffice}
+use Rattle.xc_model.{proofs.StableSort.Each, proofs.StableSort.Exists, proofs.Elements.each-at, proofs.Elements.each-map}
+use Rattle.xc_model.proofs.ApplyPath.{AddsAfter, shown-append}
+use Rattle.xc_model.proofs.KeyRead.{under-safe, along-path, IsLow, each-low, goes-back, goes-front, floor-le-last}
+use Rattle.xc_model.proofs.Chain.{nothing-applied, events-push, floor_after, last_after, KindGoes, Goes, after-parts, grown-goes}
+use Rattle.xc_model.proofs.Along.{IsNumbered, shown, KindNumbered, owns, own, applied_in, applied_along, LegalChain}
 
 -- ---- the tablets of a key's path
 
@@ -51,8 +27,7 @@ module _ (ps : List ℕ) (b : AcceptedTablet) (front rest : List Record) (r : Re
   applied-is = ap (λ n. take n b.records) (sym at) ∙ ap (take (length front)) is ∙ take-append_seam front (r ∷ rest)
 
   pub applied-more : take (place ps b + 1) b.records ≡ front ++ r ∷ []
-  applied-more =
-      let n : place ps b + 1 ≡ length (front ++ r ∷ []) = omega (arith, length-append front (r ∷ [])) in
+  applied-more = let n : place ps b + 1 ≡ length (front ++ r ∷ []) = omega (arith, length-append front (r ∷ [])) in
       ap (λ w. take w b.records) n ∙ ap (take (length (front ++ r ∷ []))) (is ∙ sym (append_assoc front (r ∷ []) rest))
       ∙ take-append_seam (front ++ r ∷ []) rest
 
@@ -91,38 +66,20 @@ path-more ps qs os ys b front rest r is at moved same-os same-ys zero-ys =
 
 -- ---- what the record adds
 
-puts-add : (u time : ℕ) (vs : List Written) → u < time → Each (AddsAfter u) (map (λ v. Put time v) vs)
-puts-add u time [] h = tt
-puts-add u time (v ∷ vs) h = (h, puts-add u time vs h)
-
-holds-add : (u n sub time : ℕ) (vs : List Written) → Each (AddsAfter u) (map (λ v. Hold n sub time v) vs)
-holds-add u n sub time [] = tt
-holds-add u n sub time (v ∷ vs) = (tt, holds-add u n sub time vs)
-
 pub record-adds : (u : ℕ) (k : List ℕ) (f l time : ℕ) (kind : Kind) → u ≤ f → f ≤ l → l < time → KindGoes f time kind
     → Each (AddsAfter u) (kind_events k time kind)
-record-adds u k f l time (log.Write ops) a b c g = puts-add u time (puts k ops) (omega arith)
-record-adds u k f l time (log.Intent n sub ops) a b c g = holds-add u n sub time (puts k ops)
+record-adds u k f l time (log.Write ops) a b c g = each-map (AddsAfter u) (λ v. Put time v) (puts k ops)
+    (λ v. let q : u < time = omega arith in q)
+record-adds u k f l time (log.Intent n sub ops) a b c g = each-map (AddsAfter u) (λ v. Hold n sub time v) (puts k ops) (λ v. tt)
 record-adds u k f l time (log.Apply n m without) a b c g = ((let q : f < m = g.0 in omega arith), tt)
-record-adds u k f l time (log.Abort n) a b c g = (tt, tt)
-record-adds u k f l time (log.Safe v) a b c g = (tt, tt)
 record-adds u k f l time (log.Split at left right) a b c g = tt
-
-puts-numbered : (time : ℕ) (vs : List Written) → Each IsNumbered (map (λ v. Put time v) vs)
-puts-numbered time [] = tt
-puts-numbered time (v ∷ vs) = (tt, puts-numbered time vs)
-
-holds-numbered : (n sub time : ℕ) (vs : List Written) → 0 < n → Each IsNumbered (map (λ v. Hold n sub time v) vs)
-holds-numbered n sub time [] h = tt
-holds-numbered n sub time (v ∷ vs) h = (h, holds-numbered n sub time vs h)
+record-adds u k f l time _ a b c g = (tt, tt)
 
 pub record-numbered : (k : List ℕ) (time : ℕ) (kind : Kind) → KindNumbered kind → Each IsNumbered (kind_events k time kind)
-record-numbered k time (log.Write ops) h = puts-numbered time (puts k ops)
-record-numbered k time (log.Intent n sub ops) h = holds-numbered n sub time (puts k ops) h
-record-numbered k time (log.Apply n m without) h = (tt, tt)
-record-numbered k time (log.Abort n) h = (tt, tt)
-record-numbered k time (log.Safe v) h = (tt, tt)
+record-numbered k time (log.Write ops) h = each-map IsNumbered (λ v. Put time v) (puts k ops) (λ v. tt)
+record-numbered k time (log.Intent n sub ops) h = each-map IsNumbered (λ v. Hold n sub time v) (puts k ops) (λ v. h)
 record-numbered k time (log.Split at left right) h = tt
+record-numbered k time _ h = (tt, tt)
 
 each-take : {A : Type 0} (P : A → Type 0) (n : ℕ) (xs : List A) → Each P xs → Each P (take n xs)
 each-take P zero xs h = tt
@@ -131,9 +88,7 @@ each-take P (suc n) (x ∷ xs) h = (h.0, each-take P n xs h.1)
 
 numbered-upto : (logs : Logs) (ps k : List ℕ) → is_valid logs ≡ true
     → Each IsNumbered (events k (applied_along ps (filter (own (hash_of k)) (accepted_tablets logs))))
-numbered-upto logs ps k v =
-    let bs = accepted_tablets logs in
-    let xs = filter (own (hash_of k)) bs in
+numbered-upto logs ps k v = let bs = accepted_tablets logs in let xs = filter (own (hash_of k)) bs in
     each-flat IsNumbered (record_events k) (λ r. KindNumbered r.kind) (λ r. record-numbered k r.time r.kind) (applied_along ps xs)
     (each-flat (λ r. KindNumbered r.kind) (applied_in ps) (λ b. Each (λ r. KindNumbered r.kind) b.records)
     (λ b w. each-take (λ r. KindNumbered r.kind) (place ps b) b.records w) xs
@@ -143,8 +98,7 @@ numbered-upto logs ps k v =
 next-adds : (logs : Logs) (ps : List ℕ) (u : ℕ) (k : List ℕ) (b : AcceptedTablet) (front rest : List Record) (r : Record)
     → Exists (λ d. d ≡ b) (accepted_tablets logs) → b.records ≡ front ++ r ∷ rest → length front ≡ place ps b → u ≤ safe_time logs ps
     → Each (AddsAfter u) (record_events k r)
-next-adds logs ps u k b front rest r i is at c =
-    let bs = accepted_tablets logs in
+next-adds logs ps u k b front rest r i is at c = let bs = accepted_tablets logs in
     let g : IsGrown b = each-at IsGrown bs b (accepted_tablets-grown logs) i in
     let low : b.start.floor ≤ b.start.last = (each-at IsLow bs b (each-low logs) i).start in
     let goes : Goes b.start.floor b.start.last (front ++ r ∷ rest) = subst (Goes b.start.floor b.start.last) is (grown-goes b g) in
@@ -206,8 +160,7 @@ module _ (logs : Logs) (ps qs : List ℕ) (u : ℕ) (before after : List Accepte
     where
       go : (o : Bool) → owns (hash_of k) b.header ≡ o
           → given_at logs u qs k ≡ cond o (steps (record_events k r) (given_at logs u ps k)) (given_at logs u ps k)
-      go true o =
-          let up = applied_along ps (filter (own (hash_of k)) (accepted_tablets logs)) in
+      go true o = let up = applied_along ps (filter (own (hash_of k)) (accepted_tablets logs)) in
           ap (λ rs. shown u (events k rs)) (along-path logs qs k ∙ path-with (hash_of k) o)
           ∙ ap (shown u) (events-push k up r)
           ∙ shown-append u (events k up) (record_events k r) (numbered-upto logs ps k valid) (record-numbered k r.time r.kind numbered)

@@ -1,26 +1,23 @@
 -- Laws of what holds of each element of a list, and of some element.
-use Rattle.std.proofs.Common.{◌≡◌, ℕ, zero, suc, Some, Bool, true, false, cond, List, [], ◌∷◌, ◌++◌, refl, sym, subst, inl, inr, ⊎_elim}
-use Rattle.std.specs.List.{filter, slice_get}
-use Rattle.std.proofs.lemmas.Option.{same_Some}
+use Rattle.xc_model.proofs.Common.{◌≡◌, Bool, true, false, cond, List, [], ◌∷◌, ◌++◌, refl, sym, subst, inl, inr, ⊎_elim, filter, map, ap}
 use Rattle.xc_model.proofs.StableSort.{Each, Exists}
 
 pub exists-filter : {A : Type 0} (P Q : A → Type 0) (p : A → Bool) → ((x : A) → P x → (p x ≡ true) × Q x) → (xs : List A) → Exists P xs
     → Exists Q (filter p xs)
 exists-filter P Q p f [] i = i
-exists-filter P Q p f (x ∷ xs) i =
-    ⊎_elim
+exists-filter P Q p f (x ∷ xs) i = ⊎_elim
     (λ h. let k = f x h in subst (λ b. Exists Q (cond b (x ∷ filter p xs) (filter p xs))) (sym k.0) (inl k.1))
     (λ r. elim (p x) as (λ b. Exists Q (cond b (x ∷ filter p xs) (filter p xs)))
     [ true ↦ inr (exists-filter P Q p f xs r) | false ↦ exists-filter P Q p f xs r ])
     i
 
-pub each-passes : {A : Type 0} (p : A → Bool) (xs : List A) → Each (λ x. p x ≡ true) (filter p xs)
-each-passes p [] = tt
-each-passes p (x ∷ xs) =
-    let at : (b : Bool) → p x ≡ b → Each (λ x. p x ≡ true) (cond b (x ∷ filter p xs) (filter p xs)) =
-    λ b. elim b as (λ b. p x ≡ b → Each (λ x. p x ≡ true) (cond b (x ∷ filter p xs) (filter p xs)))
-    [ true ↦ λ e. (e, each-passes p xs) | false ↦ λ e. each-passes p xs ]
-    in at (p x) refl
+pub each-filtered : {A : Type 0} (P : A → Type 0) (p : A → Bool) (xs : List A) → ((x : A) → p x ≡ true → P x) → Each P (filter p xs)
+each-filtered P p [] f = tt
+each-filtered P p (x ∷ xs) f = go (each-filtered P p xs f) (p x) refl
+  where
+    go : Each P (filter p xs) → (b : Bool) → p x ≡ b → Each P (cond b (x ∷ filter p xs) (filter p xs))
+    go ih true e = (f x e, ih)
+    go ih false e = ih
 
 pub each-both : {A : Type 0} (P Q : A → Type 0) (xs : List A) → Each P xs → Each Q xs → Each (λ x. P x × Q x) xs
 each-both P Q [] h k = tt
@@ -34,6 +31,14 @@ each-itself P (x ∷ xs) f = (f x (inl refl), each-itself P xs (λ y i. f y (inr
 pub exists-weaker : {A : Type 0} (P Q : A → Type 0) → ((x : A) → P x → Q x) → (xs : List A) → Exists P xs → Exists Q xs
 exists-weaker P Q f [] i = i
 exists-weaker P Q f (x ∷ xs) i = ⊎_elim (λ h. inl (f x h)) (λ r. inr (exists-weaker P Q f xs r)) i
+
+pub each-map : {A B : Type 0} (P : B → Type 0) (f : A → B) (xs : List A) → ((x : A) → P (f x)) → Each P (map f xs)
+each-map P f [] h = tt
+each-map P f (x ∷ xs) h = (h x, each-map P f xs h)
+
+pub exists-map : {A B : Type 0} (f : A → B) (xs : List A) (x : A) → Exists (λ y. y ≡ x) xs → Exists (λ y. y ≡ f x) (map f xs)
+exists-map f [] x i = absurd i
+exists-map f (y ∷ xs) x i = ⊎_elim (λ e. inl (ap f e)) (λ r. inr (exists-map f xs x r)) i
 
 pub each-at : {A : Type 0} (P : A → Type 0) (xs : List A) (x : A) → Each P xs → Exists (λ y. y ≡ x) xs → P x
 each-at P [] x h i = absurd i
@@ -50,11 +55,6 @@ exists-left P (x ∷ xs) ys i = ⊎_elim (λ a. inl a) (λ r. inr (exists-left P
 pub exists-right : {A : Type 0} (P : A → Type 0) (xs ys : List A) → Exists P ys → Exists P (xs ++ ys)
 exists-right P [] ys i = i
 exists-right P (x ∷ xs) ys i = inr (exists-right P xs ys i)
-
-pub exists-at : {A : Type 0} (xs : List A) (i : ℕ) (x : A) → slice_get xs i ≡ Some x → Exists (λ y. y ≡ x) xs
-exists-at [] i x e = cc
-exists-at (y ∷ xs) zero x e = inl (same_Some y x e)
-exists-at (y ∷ xs) (suc i) x e = inr (exists-at xs i x e)
 
 pub each-front : {A : Type 0} (P : A → Type 0) (xs ys : List A) → Each P (xs ++ ys) → Each P xs
 each-front P [] ys h = tt

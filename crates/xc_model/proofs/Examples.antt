@@ -1,44 +1,25 @@
 -- What each law says of small logs: a split tablet, a transaction over both of its children, a removal, a subtransaction that was rolled
 -- back. Every premise is proved, and the law gives the conclusion, which is then computed.
-use Rattle.std.proofs.Common.{◌≡◌, ℕ, zero, suc, ◌≤◌, true, false, List, [], ◌∷◌, Some, None, refl, sym, arith, length, take, drop}
-use Rattle.std.specs.Prelude.{codes, slice_index, slice_get, Option}
-use Rattle.std.specs.List.{AllByRecursion}
-use Rattle.std.specs.Ordering.{nat_cmp}
-use Rattle.std.specs.Cmp.Lexicographic.{slice_cmp}
-use Rattle.std.specs.FinMap.Entries.{where_key}
+use Rattle.xc_model.proofs.Common.{◌≡◌, ℕ, zero, suc, ◌≤◌, true, false, List, [], ◌∷◌, Some, None, refl, sym, arith, length, take, drop}
+use Rattle.xc_model.proofs.Common.{codes, slice_index, slice_get, Option, AllByRecursion, nat_cmp, slice_cmp, where_key, Header, Command}
+use Rattle.xc_model.proofs.Common.{Disagreement, disagreement, HasNoCase, Agrees, straggles_at, accepted_tablets, SharesOut, IsPartition}
+use Rattle.xc_model.proofs.Common.{holds, rows, row, safe_time, Position, Session, IsSession, start, places_of, safe_now, lines_from}
+use Rattle.xc_model.proofs.Common.{is_valid, headers_of, read, kept_from, versions_at, ranges-hold-once, bounds-share-out, roots-share-out}
+use Rattle.xc_model.proofs.Common.{one-root-holds, children-share-out}
 use Rattle.xc_record.specs.declared.record.AgreeKind.TheVariants.{Straggler}
-use Rattle.xc_record.specs.declared.record.Header.{Header}
-use Rattle.xc_record.specs.declared.session.Command.{Command}
+use Rattle.xc_record.specs.RangeLaws.{holders}
+use Rattle.xc_record.specs.Step.{step}
+use Rattle.xc_record.proofs.WorkedLogs.{computed, a, z, two_tablets, with_both_children as logs}
 use Rattle.xc_record.specs.declared.session.Command.TheVariants as command
 use Rattle.xc_record.specs.declared.session.Line.TheVariants as line
-use Rattle.xc_record.specs.Agreement.{Disagreement, disagreement, HasNoCase, Agrees, straggles_at}
-use Rattle.xc_record.specs.Accepted.{accepted_tablets}
-use Rattle.xc_record.specs.Bounds.{SharesOut, IsPartition}
-use Rattle.xc_record.specs.RangeLaws.{holders}
-use Rattle.xc_record.specs.Hash.{holds}
-use Rattle.xc_record.specs.Rows.{rows, row}
-use Rattle.xc_record.specs.SafeTime.{safe_time}
-use Rattle.xc_record.specs.Session.{Position, Session, IsSession, start, places_of, safe_now}
-use Rattle.xc_record.specs.Step.{step, lines_from}
-use Rattle.xc_record.specs.Valid.{is_valid, headers_of}
-use Rattle.xc_record.specs.Kept.{read, kept_from, versions_at}
-use Rattle.xc_record.proofs.RangeLaws.{ranges-hold-once, bounds-share-out, roots-share-out, one-root-holds, children-share-out}
-use Rattle.xc_record.proofs.WorkedLogs.{computed, a, z, two_tablets, with_both_children}
-use Rattle.xc_model.specs.Floors.{has_closed}
-use Rattle.xc_model.specs.Laws.{BatchTaken}
-use Rattle.xc_model.specs.Lines.{Says}
-use Rattle.xc_model.specs.Sessions.{IsRising, named_times}
+use Rattle.xc_model.{specs.Lines.Says, specs.Laws.BatchTaken, specs.Floors.has_closed, proofs.KeepLaws.cutoffs-keep}
+use Rattle.xc_model.{proofs.Restores.restores-keep, proofs.DeliverLaw.deliveries-keep, specs.Sessions.IsRising, specs.Sessions.named_times}
+use Rattle.xc_model.{proofs.FloorLaw.kept-values, proofs.FloorLaw.safe-rises, proofs.Batches.batches-move, proofs.Batches.batches-grow}
+use Rattle.xc_model.{proofs.ReadLaw.reads-show-rows, proofs.ReadLaw.keys-suffice, proofs.ListLaw.reads-show-lists}
+use Rattle.xc_model.{proofs.ListLaw.restored-show, proofs.Partitions.partitions-by, proofs.Partitions.restored-partitions-by}
 use Rattle.xc_model.specs.Stands.{TargetTablet, in_range, kept_at, rows_shown, given_at, StandsFor, covers, KeepsFrom, RestoredTo, restore}
 use Rattle.xc_model.specs.Stands.{TakesAll}
-use Rattle.xc_model.proofs.Batches.{batches-move, batches-grow}
-use Rattle.xc_model.proofs.DeliverLaw.{deliveries-keep}
-use Rattle.xc_model.proofs.FloorLaw.{kept-values, safe-rises}
-use Rattle.xc_model.proofs.KeepLaws.{cutoffs-keep}
 use Rattle.xc_model.proofs.LineLaws.{cutoffs-rise, stops-keep, lines-name}
-use Rattle.xc_model.proofs.ListLaw.{reads-show-lists, restored-show}
-use Rattle.xc_model.proofs.Partitions.{partitions-by, restored-partitions-by}
-use Rattle.xc_model.proofs.ReadLaw.{reads-show-rows, keys-suffice}
-use Rattle.xc_model.proofs.Restores.{restores-keep}
 use Rattle.xc_model.proofs.SessionLaws.{sessions-start, steps-keep, steps-rise}
 use Rattle.xc_model.proofs.TimeLaws.{named-times-rise, closed-stays, closed-times, failover-closes}
 use Rattle.xc_model.proofs.WorkedTablets.{valid, by-key, removed, version, new, new-stands-for, after_intent, after_safe, early}
@@ -46,42 +27,39 @@ use Rattle.xc_model.proofs.WorkedTablets.{early-stands, before_split, before-spl
 use Rattle.xc_model.proofs.WorkedTablets.{left_apply-taken, left_apply, parent_records, right_records, drained, drained-stands, lower}
 use Rattle.xc_model.proofs.WorkedTablets.{lower-stands, upper, upper-stands, half-stands}
 
-agree : disagreement with_both_children ≡ None
+agree : disagreement logs ≡ None
 unfolding computed
 agree = refl
 
 -- ---- reads
 
-covered : (t : ℕ) → t ≤ 19 → t ≤ covers with_both_children drained
+covered : (t : ℕ) → t ≤ 19 → t ≤ covers logs drained
 unfolding computed
 covered t low = low
 
--- the removal is seen from its commit on
-z-before : row with_both_children 15 z ≡ Some (codes "2")
+-- the removal is seen from its commit on, and so is the operation on the other child's key, of the subtransaction that was not rolled back
+reads : (row logs 15 z ≡ Some (codes "2")) × ((row logs 16 z ≡ None) × (row logs 16 a ≡ Some (codes "3")))
 unfolding computed
-z-before = sym (reads-show-rows with_both_children drained 0 15 z drained-stands agree (omega arith) (covered 15 (omega arith)) refl)
+reads = (
+  sym (reads-show-rows logs drained 0 15 z drained-stands agree (omega arith) (covered 15 (omega arith)) refl),
+  (
+    sym (reads-show-rows logs drained 0 16 z drained-stands agree (omega arith) (covered 16 (omega arith)) refl),
+    sym (reads-show-rows logs drained 0 16 a drained-stands agree (omega arith) (covered 16 (omega arith)) refl),
+  ),
+)
 
-z-after : row with_both_children 16 z ≡ None
+list-before : where_key (slice_cmp nat_cmp) (in_range drained) (rows logs 15) ≡ (a, codes "1") ∷ (z, codes "2") ∷ []
 unfolding computed
-z-after = sym (reads-show-rows with_both_children drained 0 16 z drained-stands agree (omega arith) (covered 16 (omega arith)) refl)
+list-before = sym (reads-show-lists logs drained 0 15 drained-stands agree (omega arith) (covered 15 (omega arith)))
 
--- and so is the operation on the other child's key, of the subtransaction that was not rolled back
-a-after : row with_both_children 16 a ≡ Some (codes "3")
+list-after : where_key (slice_cmp nat_cmp) (in_range drained) (rows logs 16) ≡ (a, codes "3") ∷ []
 unfolding computed
-a-after = sym (reads-show-rows with_both_children drained 0 16 a drained-stands agree (omega arith) (covered 16 (omega arith)) refl)
-
-list-before : where_key (slice_cmp nat_cmp) (in_range drained) (rows with_both_children 15) ≡ (a, codes "1") ∷ (z, codes "2") ∷ []
-unfolding computed
-list-before = sym (reads-show-lists with_both_children drained 0 15 drained-stands agree (omega arith) (covered 15 (omega arith)))
-
-list-after : where_key (slice_cmp nat_cmp) (in_range drained) (rows with_both_children 16) ≡ (a, codes "3") ∷ []
-unfolding computed
-list-after = sym (reads-show-lists with_both_children drained 0 16 drained-stands agree (omega arith) (covered 16 (omega arith)))
+list-after = sym (reads-show-lists logs drained 0 16 drained-stands agree (omega arith) (covered 16 (omega arith)))
 
 -- a tablet of the lower hashes shows no other rows
-list-lower : where_key (slice_cmp nat_cmp) (in_range lower) (rows with_both_children 12) ≡ (a, codes "1") ∷ []
+list-lower : where_key (slice_cmp nat_cmp) (in_range lower) (rows logs 12) ≡ (a, codes "1") ∷ []
 unfolding computed
-list-lower = sym (reads-show-lists with_both_children lower 0 12 lower-stands agree (omega arith) (omega arith))
+list-lower = sym (reads-show-lists logs lower 0 12 lower-stands agree (omega arith) (omega arith))
 
 -- ---- the rows of several tablets
 
@@ -92,32 +70,30 @@ shared : IsPartition ((0, 32767) ∷ (32768, 65535) ∷ [])
 shared = (refl, (omega arith, (refl, (omega arith, refl))))
 
 -- the lower one shows the row of a, the upper one that of z
-rows-of-both : rows with_both_children 12 ≡ (a, codes "1") ∷ (z, codes "2") ∷ []
+rows-of-both : rows logs 12 ≡ (a, codes "1") ∷ (z, codes "2") ∷ []
 unfolding computed
-rows-of-both =
-    sym (partitions-by reads-show-lists with_both_children both 0 12 agree shared
+rows-of-both = sym (partitions-by reads-show-lists logs both 0 12 agree shared
     ((lower-stands, omega arith), ((upper-stands, omega arith), tt)) (omega arith))
 
-lower-back : RestoredTo with_both_children 0 12 lower (restore 12 lower)
+lower-back : RestoredTo logs 0 12 lower (restore 12 lower)
 unfolding computed
 lower-back = record { stood = lower-stands; after_cutoff = omega arith; covered = omega arith; is = refl }
 
-upper-back : RestoredTo with_both_children 0 12 upper (restore 12 upper)
+upper-back : RestoredTo logs 0 12 upper (restore 12 upper)
 unfolding computed
 upper-back = record { stood = upper-stands; after_cutoff = omega arith; covered = omega arith; is = refl }
 
-restored-rows : rows with_both_children 11 ≡ (a, codes "1") ∷ (z, codes "2") ∷ []
+restored-rows : rows logs 11 ≡ (a, codes "1") ∷ (z, codes "2") ∷ []
 unfolding computed
-restored-rows =
-    sym (restored-partitions-by restored-show with_both_children (restore 12 lower ∷ restore 12 upper ∷ []) 0 12 11 agree shared
+restored-rows = sym (restored-partitions-by restored-show logs (restore 12 lower ∷ restore 12 upper ∷ []) 0 12 11 agree shared
     ((lower, lower-back), ((upper, upper-back), tt)) (omega arith) (omega arith))
 
 -- ---- agreement
 
 -- no tablet has a case of the transaction, at any key
-no-case : AllByRecursion (HasNoCase with_both_children 5 16) (accepted_tablets with_both_children)
+no-case : AllByRecursion (HasNoCase logs 5 16) (accepted_tablets logs)
 unfolding computed
-no-case = ((keys-suffice with_both_children valid).0 agree).no_case 5 16 refl
+no-case = ((keys-suffice logs valid).0 agree).no_case 5 16 refl
 
 -- so its operation at z doesn't straggle along the path through the split
 straggles-not : straggles_at 5 16 z parent_records right_records ≡ false
@@ -139,29 +115,27 @@ disagrees agrees = differ ((keys-suffice (two_tablets 15 15) two-valid).1 agrees
 -- ---- deliveries
 
 -- The left child's apply takes what waits at its own key alone, and of that what was not rolled back.
-half-a : given_at with_both_children 0 (5 ∷ 1 ∷ 0 ∷ []) a ≡ record {
+half-a : given_at logs 0 (5 ∷ 1 ∷ 0 ∷ []) a ≡ record {
   versions = record { commit = 10; txn = 0; value = Some (codes "1") } ∷ record { commit = 16; txn = 5; value = Some (codes "3") } ∷ [];
   held = [];
 }
 unfolding computed
-half-a = sym ((deliveries-keep with_both_children early half 0 1 left_apply early-stands refl refl left_apply-taken).keys a refl)
+half-a = sym ((deliveries-keep logs early half 0 1 left_apply early-stands refl refl left_apply-taken).keys a refl)
 
-half-z : given_at with_both_children 0 (5 ∷ 1 ∷ 0 ∷ []) z ≡ record
+half-z : given_at logs 0 (5 ∷ 1 ∷ 0 ∷ []) z ≡ record
     { versions = record { commit = 10; txn = 0; value = Some (codes "2") } ∷ []; held = record { txn = 5; sub = 0; value = None } ∷ [] }
 unfolding computed
-half-z = sym ((deliveries-keep with_both_children early half 0 1 left_apply early-stands refl refl left_apply-taken).keys z refl)
+half-z = sym ((deliveries-keep logs early half 0 1 left_apply early-stands refl refl left_apply-taken).keys z refl)
 
 -- after the parent's five records, in two batches of which the second repeats two, the transaction waits at both keys
-early-a : given_at with_both_children 0 (5 ∷ 0 ∷ 0 ∷ []) a
-    ≡ record {
-      versions = record { commit = 10; txn = 0; value = Some (codes "1") } ∷ [];
-      held = record
-          { txn = 5; sub = 1; value = Some (codes "8") } ∷ record { txn = 5; sub = 0; value = Some (codes "3") } ∷ [];
-    }
+early-a : given_at logs 0 (5 ∷ 0 ∷ 0 ∷ []) a ≡ record {
+  versions = record { commit = 10; txn = 0; value = Some (codes "1") } ∷ [];
+  held = record { txn = 5; sub = 1; value = Some (codes "8") } ∷ record { txn = 5; sub = 0; value = Some (codes "3") } ∷ [];
+}
 unfolding computed
 early-a = sym (early-stands.keys a refl)
 
-new-a : given_at with_both_children 0 (0 ∷ 0 ∷ 0 ∷ []) a ≡ record { versions = []; held = [] }
+new-a : given_at logs 0 (0 ∷ 0 ∷ 0 ∷ []) a ≡ record { versions = []; held = [] }
 unfolding computed
 new-a = sym (new-stands-for.keys a refl)
 
@@ -170,13 +144,9 @@ repeated : BatchTaken 0 2 (drop 1 parent_records) after_intent early
 unfolding computed
 repeated = batches-move 0 2 (drop 1 parent_records) after_intent early (omega arith) (omega arith) (omega arith) last-taken
 
-early-place : slice_index early.places 0 ≡ 5
+early-moves : (slice_index early.places 0 ≡ 5) × (has_closed early.floors 0 ≡ true)
 unfolding computed
-early-place = repeated.place
-
-early-closed : has_closed early.floors 0 ≡ true
-unfolding computed
-early-closed = repeated.splits (omega arith)
+early-moves = (repeated.place, repeated.splits (omega arith))
 
 -- no other place moves, and no other source tablet is closed
 early-others : (i : ℕ) → (i ≡ 0 → ⊥)
@@ -206,19 +176,19 @@ pruned-keeps = record {
   within = (refl, (refl, tt));
 }
 
-pruned-stands : StandsFor with_both_children 16 pruned
+pruned-stands : StandsFor logs 16 pruned
 unfolding computed
-pruned-stands = cutoffs-keep with_both_children drained pruned 0 16 drained-stands (covered 16 (omega arith)) pruned-keeps
+pruned-stands = cutoffs-keep logs drained pruned 0 16 drained-stands (covered 16 (omega arith)) pruned-keeps
 
-pruned-a : given_at with_both_children 16 (5 ∷ 2 ∷ 2 ∷ []) a ≡ record
+pruned-a : given_at logs 16 (5 ∷ 2 ∷ 2 ∷ []) a ≡ record
     { versions = record { commit = 16; txn = 5; value = Some (codes "3") } ∷ []; held = [] }
 unfolding computed
 pruned-a = sym (pruned-stands.keys a refl)
 
 -- from the cutoff on it shows the rows; before the cutoff it need not
-pruned-read : read 16 (kept_at pruned a) ≡ row with_both_children 16 a
+pruned-read : read 16 (kept_at pruned a) ≡ row logs 16 a
 unfolding computed
-pruned-read = reads-show-rows with_both_children pruned 16 16 a pruned-stands agree (omega arith) (covered 16 (omega arith)) refl
+pruned-read = reads-show-rows logs pruned 16 16 a pruned-stands agree (omega arith) (covered 16 (omega arith)) refl
 
 read-before-cutoff : read 15 (kept_at pruned a) ≡ None
 unfolding computed
@@ -226,17 +196,14 @@ read-before-cutoff = refl
 
 -- ---- restores
 
-back : RestoredTo with_both_children 0 15 drained (restore 15 drained)
+back : RestoredTo logs 0 15 drained (restore 15 drained)
 unfolding computed
 back = record { stood = drained-stands; after_cutoff = omega arith; covered = covered 15 (omega arith); is = refl }
 
-restored-read : read 15 (kept_at (restore 15 drained) z) ≡ Some (codes "2")
+restored-same : (read 15 (kept_at (restore 15 drained) z) ≡ Some (codes "2"))
+    × (rows_shown 12 (restore 15 drained) ≡ (a, codes "1") ∷ (z, codes "2") ∷ [])
 unfolding computed
-restored-read = (restores-keep drained 15 15 (omega arith)).0 z
-
-restored-shown : rows_shown 12 (restore 15 drained) ≡ (a, codes "1") ∷ (z, codes "2") ∷ []
-unfolding computed
-restored-shown = (restores-keep drained 15 12 (omega arith)).1
+restored-same = ((restores-keep drained 15 15 (omega arith)).0 z, (restores-keep drained 15 12 (omega arith)).1)
 
 -- a tablet at which a transaction waits with operations on two keys: after a restore nothing waits
 restored-waiting : (restore 12 early).held ≡ []
@@ -247,18 +214,18 @@ read-after-restore : read 16 (kept_at (restore 15 drained) z) ≡ Some (codes "2
 unfolding computed
 read-after-restore = refl
 
-restored-row : read 12 (kept_at (restore 15 drained) a) ≡ row with_both_children 12 a
+restored-row : read 12 (kept_at (restore 15 drained) a) ≡ row logs 12 a
 unfolding computed
-restored-row = (restored-show with_both_children (restore 15 drained) drained 0 15 12 back agree (omega arith) (omega arith)).0 a refl
+restored-row = (restored-show logs (restore 15 drained) drained 0 15 12 back agree (omega arith) (omega arith)).0 a refl
 
 -- A tablet that took in the apply of one child alone, restored to its safe time: nothing of the transaction is left, at either key.
-half-back : RestoredTo with_both_children 0 12 half (restore 12 half)
+half-back : RestoredTo logs 0 12 half (restore 12 half)
 unfolding computed
 half-back = record { stood = half-stands; after_cutoff = omega arith; covered = omega arith; is = refl }
 
-restored-list : where_key (slice_cmp nat_cmp) (in_range half) (rows with_both_children 12) ≡ (a, codes "1") ∷ (z, codes "2") ∷ []
+restored-list : where_key (slice_cmp nat_cmp) (in_range half) (rows logs 12) ≡ (a, codes "1") ∷ (z, codes "2") ∷ []
 unfolding computed
-restored-list = sym (restored-show with_both_children (restore 12 half) half 0 12 12 half-back agree (omega arith) (omega arith)).1
+restored-list = sym (restored-show logs (restore 12 half) half 0 12 12 half-back agree (omega arith) (omega arith)).1
 
 restored-keeps : kept_at (restore 12 half) a ≡ record
     { versions = record { commit = 10; txn = 0; value = Some (codes "1") } ∷ []; held = [] }
@@ -273,29 +240,29 @@ climbs (suc zero) = omega arith
 climbs (suc (suc zero)) = omega arith
 climbs (suc (suc (suc s))) = omega arith
 
-rises-through-the-split : safe_time with_both_children (4 ∷ 0 ∷ 0 ∷ []) ≤ safe_time with_both_children (5 ∷ 2 ∷ 2 ∷ [])
-rises-through-the-split = safe-rises with_both_children (4 ∷ 0 ∷ 0 ∷ []) (5 ∷ 2 ∷ 2 ∷ []) drained-stands.places climbs
+rises-through-the-split : safe_time logs (4 ∷ 0 ∷ 0 ∷ []) ≤ safe_time logs (5 ∷ 2 ∷ 2 ∷ [])
+rises-through-the-split = safe-rises logs (4 ∷ 0 ∷ 0 ∷ []) (5 ∷ 2 ∷ 2 ∷ []) drained-stands.places climbs
 
 -- the right child, of which nothing was polled yet, counts with its parent's final floor
-safe-times : safe_time with_both_children (4 ∷ 0 ∷ 0 ∷ []) ∷ safe_time with_both_children (5 ∷ 0 ∷ 0 ∷ []) ∷ safe_time with_both_children
-    (5 ∷ 2 ∷ 0 ∷ []) ∷ safe_time with_both_children (5 ∷ 2 ∷ 2 ∷ []) ∷ [] ≡ 12 ∷ 12 ∷ 12 ∷ 19 ∷ []
+safe-times : safe_time logs (4 ∷ 0 ∷ 0 ∷ []) ∷ safe_time logs (5 ∷ 0 ∷ 0 ∷ []) ∷ safe_time logs
+    (5 ∷ 2 ∷ 0 ∷ []) ∷ safe_time logs (5 ∷ 2 ∷ 2 ∷ []) ∷ [] ≡ 12 ∷ 12 ∷ 12 ∷ 19 ∷ []
 unfolding computed
 safe-times = refl
 
-covers-early : covers with_both_children early ≡ 12
-covers-early = sym (kept-values with_both_children early.places early.floors valid early-stands.places early-stands.floors)
-
 -- a tablet of the lower hashes is held back by the right child too
-covers-lower : covers with_both_children lower ≡ 12
-covers-lower = sym (kept-values with_both_children lower.places lower.floors valid lower-stands.places lower-stands.floors)
-
-covers-drained : covers with_both_children drained ≡ 19
-covers-drained = sym (kept-values with_both_children drained.places drained.floors valid drained-stands.places drained-stands.floors)
+covers-all : (covers logs early ≡ 12) × ((covers logs lower ≡ 12) × (covers logs drained ≡ 19))
+covers-all = (
+  sym (kept-values logs early.places early.floors valid early-stands.places early-stands.floors),
+  (
+    sym (kept-values logs lower.places lower.floors valid lower-stands.places lower-stands.floors),
+    sym (kept-values logs drained.places drained.floors valid drained-stands.places drained-stands.floors),
+  ),
+)
 
 -- ---- ranges
 
 abbrev the_headers : List Header
-the_headers = headers_of with_both_children.tablets
+the_headers = headers_of logs.tablets
 
 bounded : IsPartition ((0, 32767) ∷ (32768, 65535) ∷ [])
 unfolding computed
@@ -321,8 +288,8 @@ halved = children-share-out the_headers 0 (record { id = 0; lo = 0; hi = 65535; 
 
 -- ---- sessions
 
-starts : IsSession with_both_children (start with_both_children)
-starts = sessions-start with_both_children valid
+starts : IsSession logs (start logs)
+starts = sessions-start logs valid
 
 abbrev at_place : ℕ → ℕ → ℕ → Position
 at_place place cursor acknowledged = record { place = place; cursor = cursor; acknowledged = acknowledged }
@@ -331,7 +298,7 @@ at_place place cursor acknowledged = record { place = place; cursor = cursor; ac
 abbrev at_start : Session
 at_start = record { positions = at_place 0 0 0 ∷ at_place 0 0 0 ∷ at_place 0 0 0 ∷ []; cutoff = 0; closed = None }
 
-starts-here : IsSession with_both_children at_start
+starts-here : IsSession logs at_start
 unfolding computed
 starts-here = starts
 
@@ -339,64 +306,64 @@ starts-here = starts
 abbrev at_end : Session
 at_end = record { positions = at_place 5 5 0 ∷ at_place 2 2 0 ∷ at_place 2 2 0 ∷ []; cutoff = 0; closed = None }
 
-is-at_end : (step with_both_children (start with_both_children) command.Drain).0 ≡ at_end
+is-at_end : (step logs (start logs) command.Drain).0 ≡ at_end
 unfolding computed
 is-at_end = refl
 
-drained-session : IsSession with_both_children at_end
+drained-session : IsSession logs at_end
 unfolding computed
-drained-session = steps-keep with_both_children (start with_both_children) command.Drain valid starts
+drained-session = steps-keep logs (start logs) command.Drain valid starts
 
 -- the cutoff may rise to the safe time, and doesn't fall
-pruned-session : IsSession with_both_children (record at_end { cutoff = 19 })
+pruned-session : IsSession logs (record at_end { cutoff = 19 })
 unfolding computed
-pruned-session = steps-keep with_both_children at_end (command.Prune 19) valid drained-session
+pruned-session = steps-keep logs at_end (command.Prune 19) valid drained-session
 
-cutoff-stays : 19 ≤ (step with_both_children (record at_end { cutoff = 19 }) (command.Prune 12)).0.cutoff
-cutoff-stays = cutoffs-rise with_both_children (record at_end { cutoff = 19 }) (command.Prune 12)
+cutoff-stays : 19 ≤ (step logs (record at_end { cutoff = 19 }) (command.Prune 12)).0.cutoff
+cutoff-stays = cutoffs-rise logs (record at_end { cutoff = 19 }) (command.Prune 12)
 
-drain-rises : safe_now with_both_children (start with_both_children) ≤ safe_now with_both_children at_end
+drain-rises : safe_now logs (start logs) ≤ safe_now logs at_end
 unfolding computed
-drain-rises = steps-rise with_both_children (start with_both_children) command.Drain valid starts
+drain-rises = steps-rise logs (start logs) command.Drain valid starts
 
 -- after two records, a stop over the other three and a restart leave the places
 stop-keeps : (places_of
-    (step with_both_children (record at_start { positions = at_place 2 2 1 ∷ at_place 0 0 0 ∷ at_place 0 0 0 ∷ [] }) (command.Stop 0 9 0)).0
+    (step logs (record at_start { positions = at_place 2 2 1 ∷ at_place 0 0 0 ∷ at_place 0 0 0 ∷ [] }) (command.Stop 0 9 0)).0
     ≡ 2 ∷ 0 ∷ 0 ∷ [])
-    × (places_of (step with_both_children (record at_start { positions = at_place 2 2 1 ∷ at_place 0 0 0 ∷ at_place 0 0 0 ∷ [] })
+    × (places_of (step logs (record at_start { positions = at_place 2 2 1 ∷ at_place 0 0 0 ∷ at_place 0 0 0 ∷ [] })
     (command.Restart 0)).0 ≡ 2 ∷ 0 ∷ 0 ∷ [])
-stop-keeps = stops-keep with_both_children (record at_start { positions = at_place 2 2 1 ∷ at_place 0 0 0 ∷ at_place 0 0 0 ∷ [] }) 0 9 0
+stop-keeps = stops-keep logs (record at_start { positions = at_place 2 2 1 ∷ at_place 0 0 0 ∷ at_place 0 0 0 ∷ [] }) 0 9 0
 
 -- the line of a cutoff that is asked for below the one that stands
-prune-says : Says with_both_children (record at_end { cutoff = 19 }) (record at_end { cutoff = 19 }) (line.Prune 19)
+prune-says : Says logs (record at_end { cutoff = 19 }) (record at_end { cutoff = 19 }) (line.Prune 19)
 unfolding computed
-prune-says = (lines-name with_both_children (record at_end { cutoff = 19 }) (command.Prune 12) pruned-session).0
+prune-says = (lines-name logs (record at_end { cutoff = 19 }) (command.Prune 12) pruned-session).0
 
 abbrev commands : List Command
 commands = command.Safe ∷ command.Poll 0 9 ∷ command.Safe ∷ command.Drain ∷ command.Read a ∷ command.Failover ∷ command.Safe ∷ []
 
-times : named_times (lines_from with_both_children (start with_both_children) commands) ≡ 0 ∷ 12 ∷ 19 ∷ 19 ∷ 19 ∷ 19 ∷ []
+times : named_times (lines_from logs (start logs) commands) ≡ 0 ∷ 12 ∷ 19 ∷ 19 ∷ 19 ∷ 19 ∷ []
 unfolding computed
 times = refl
 
 times-rise : IsRising 0 (0 ∷ 12 ∷ 19 ∷ 19 ∷ 19 ∷ 19 ∷ [])
 unfolding computed
-times-rise = named-times-rise with_both_children (start with_both_children) commands valid starts
+times-rise = named-times-rise logs (start logs) commands valid starts
 
 abbrev closed_at_19 : Session
 closed_at_19 = record at_end { closed = Some 19 }
 
-closes : (step with_both_children at_end command.Failover).0 ≡ closed_at_19
+closes : (step logs at_end command.Failover).0 ≡ closed_at_19
 unfolding computed
-closes = failover-closes with_both_children at_end refl
+closes = failover-closes logs at_end refl
 
 -- so it is a session, whose closing time is the safe time
-closed-session : IsSession with_both_children closed_at_19
+closed-session : IsSession logs closed_at_19
 unfolding computed
-closed-session = steps-keep with_both_children at_end command.Failover valid drained-session
+closed-session = steps-keep logs at_end command.Failover valid drained-session
 
-stays-closed : (c : Command) → (step with_both_children closed_at_19 c).0 ≡ closed_at_19
-stays-closed c = closed-stays with_both_children closed_at_19 c 19 refl
+stays-closed : (c : Command) → (step logs closed_at_19 c).0 ≡ closed_at_19
+stays-closed c = closed-stays logs closed_at_19 c 19 refl
 
-times-stay : (commands : List Command) → AllByRecursion (λ t. t ≡ 19) (named_times (lines_from with_both_children closed_at_19 commands))
-times-stay commands = closed-times with_both_children closed_at_19 commands 19 closed-session refl
+times-stay : (commands : List Command) → AllByRecursion (λ t. t ≡ 19) (named_times (lines_from logs closed_at_19 commands))
+times-stay commands = closed-times logs closed_at_19 commands 19 closed-session refl

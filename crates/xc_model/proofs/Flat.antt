@@ -1,14 +1,7 @@
 -- Laws of `flat_map`, and of what operations put at a key.
-use Rattle.std.proofs.Common.{◌≡◌, ℕ, Bool, true, false, cond, List, [], ◌∷◌, ◌++◌, map, refl, ap, ◌∙◌}
-use Rattle.std.specs.Prelude.{bytes_eq}
-use Rattle.std.specs.List.{filter, flat_map}
-use Rattle.std.proofs.lemmas.List.{map-append}
-use Rattle.std.proofs.lemmas.List.Elements.{filter-append}
-use Rattle.std.proofs.lemmas.Grind.{flat_map-append}
-use Rattle.xc_record.specs.declared.record.Op.{Op}
-use Rattle.xc_record.specs.Path.{puts}
+use Rattle.xc_model.proofs.Common.{◌≡◌, ℕ, Bool, true, false, cond, List, [], ◌∷◌, ◌++◌, map, refl, ap, ◌∙◌, bytes_eq, filter, flat_map}
+use Rattle.xc_model.proofs.Common.{map-append, filter-append, flat_map-append, Op, puts, Each-append}
 use Rattle.xc_model.proofs.StableSort.{Each}
-use Rattle.xc_record.proofs.ListLaws.{Each-append}
 
 pub flat-flat : {A B C : Type 0} (f : A → List B) (g : B → List C) (xs : List A)
     → flat_map g (flat_map f xs) ≡ flat_map (λ x. flat_map g (f x)) xs
@@ -57,8 +50,7 @@ each-all P f (x ∷ xs) = (f x, each-all P f xs)
 
 puts-append : (k : List ℕ) (xs ys : List Op) → puts k (xs ++ ys) ≡ puts k xs ++ puts k ys
 puts-append k [] ys = refl
-puts-append k (x ∷ xs) ys =
-    elim (bytes_eq k x.key) as
+puts-append k (x ∷ xs) ys = elim (bytes_eq k x.key) as
     (λ b. cond b (x.value ∷ puts k (xs ++ ys)) (puts k (xs ++ ys)) ≡ cond b (x.value ∷ puts k xs) (puts k xs) ++ puts k ys)
     [ true ↦ ap (λ w. x.value ∷ w) (puts-append k xs ys) | false ↦ puts-append k xs ys ]
 

@@ -1,20 +1,10 @@
 -- The least over the last safe values that are kept is the safe time.
-use Rattle.std.proofs.Common.{◌≡◌, ℕ, zero, suc, ◌<◌, ◌^◌, ◌≤◌, Bool, true, false, cond, not, List, [], ◌∷◌, map, length, Option, Some}
-use Rattle.std.proofs.Common.{None, refl, ap, sym, ◌∙◌, arith, subst, get_or, ⊎_elim}
-use Rattle.std.specs.Prelude.{filter, fold, slice_get, slice_index}
-use Rattle.std.specs.Option.{option_map_or}
-use Rattle.std.proofs.lemmas.Bool.{true≢false, and_parts, and_from, cases_Bool}
-use Rattle.std.proofs.lemmas.List.{length-map, take_all}
-use Rattle.xc_record.specs.declared.record.Header.{Header}
-use Rattle.xc_record.specs.declared.record.Logs.{Logs}
-use Rattle.xc_record.specs.Order.{Progress, after}
-use Rattle.xc_record.specs.Accepted.{AcceptedTablet, accepted_tablets}
-use Rattle.xc_record.specs.Lists.{least}
-use Rattle.xc_record.specs.SafeTime.{place, order_at, last_safe_in, is_closed_in, is_closed, is_started, safe_time, IsPlaces}
-use Rattle.xc_record.specs.Valid.{is_valid}
-use Rattle.xc_record.proofs.ListLaws.{Each}
-use Rattle.xc_record.proofs.AcceptedLaws.{IsGrown, accepted_tablets-grown}
-use Rattle.xc_record.proofs.SafeLaws.{floor-take, safe_time-rises}
+use Rattle.xc_model.proofs.Common.{◌≡◌, ℕ, zero, suc, ◌<◌, ◌^◌, ◌≤◌, Bool, true, false, cond, not, List, [], ◌∷◌, map, length, Option, Some}
+use Rattle.xc_model.proofs.Common.{None, refl, ap, sym, ◌∙◌, arith, subst, get_or, ⊎_elim, filter, fold, slice_get, slice_index}
+use Rattle.xc_model.proofs.Common.{option_map_or, true≢false, and_parts, and_from, cases_Bool, length-map, take_all, Header, Logs, Progress}
+use Rattle.xc_model.proofs.Common.{after, AcceptedTablet, accepted_tablets, least, place, order_at, last_safe_in, is_closed_in, is_closed}
+use Rattle.xc_model.proofs.Common.{is_started, safe_time, IsPlaces, is_valid, Each, IsGrown, accepted_tablets-grown, floor-take}
+use Rattle.xc_model.proofs.Common.{safe_time-rises}
 use Rattle.xc_model.specs.Floors.{Floors, FloorFor, FloorsFor, has_closed, starts, counts, least_kept}
 use Rattle.xc_model.specs.Laws.{KeptValuesSuffice, SafeTimeRises}
 use Rattle.xc_model.proofs.Parents.{heads, heads-logs, get-id, get-under, UnderParent, each-get, each-from, closed-of, none-closed}
@@ -35,8 +25,7 @@ least-low f p (x ∷ xs) b h =
 least-high : {A : Type 0} (f : A → ℕ) (p : A → Bool) (xs : List A) (b : ℕ) → b ≤ 2 ^ 62 → Each (λ x. p x ≡ true → b ≤ f x) xs
     → b ≤ least (map f (filter p xs))
 least-high f p [] b t h = t
-least-high f p (x ∷ xs) b t h =
-    let rest : b ≤ least (map f (filter p xs)) = least-high f p xs b t h.1 in
+least-high f p (x ∷ xs) b t h = let rest : b ≤ least (map f (filter p xs)) = least-high f p xs b t h.1 in
     let at : (o : Bool) → p x ≡ o → b ≤ least (map f (cond o (x ∷ filter p xs) (filter p xs))) =
     λ o. elim o as (λ o. p x ≡ o → b ≤ least (map f (cond o (x ∷ filter p xs) (filter p xs)))) [
       | true ↦ λ e. let q : b ≤ f x = h.0 e in omega arith
@@ -46,8 +35,7 @@ least-high f p (x ∷ xs) b t h =
 
 least-top : {A : Type 0} (f : A → ℕ) (p : A → Bool) (xs : List A) → least (map f (filter p xs)) ≤ 2 ^ 62
 least-top f p [] = omega arith
-least-top f p (x ∷ xs) =
-    elim (p x) as (λ o. least (map f (cond o (x ∷ filter p xs) (filter p xs))) ≤ 2 ^ 62)
+least-top f p (x ∷ xs) = elim (p x) as (λ o. least (map f (cond o (x ∷ filter p xs) (filter p xs))) ≤ 2 ^ 62)
     [ true ↦ (let h : least (map f (filter p xs)) ≤ 2 ^ 62 = least-top f p xs in omega arith) | false ↦ least-top f p xs ]
 
 pub each-header : (P : Header → Type 0) (bs : List AcceptedTablet) → Each (λ b. P b.header) bs → Each P (heads bs)
@@ -69,13 +57,11 @@ none-index (x ∷ xs) (y ∷ ys) (suc i) d l e = none-index xs ys i d (omega ari
 -- ---- one tablet
 
 floor-end : (b : AcceptedTablet) → IsGrown b → (order_at b (length b.records)).floor ≡ b.end.floor
-floor-end b g =
-    ap (λ (rs : _). (fold after b.start rs).floor) (take_all (length b.records) b.records (omega arith))
+floor-end b g = ap (λ (rs : _). (fold after b.start rs).floor) (take_all (length b.records) b.records (omega arith))
     ∙ ap (λ (p : Progress). p.floor) (sym g.end)
 
 floor-high : (places : List ℕ) (b : AcceptedTablet) → IsGrown b → place places b ≤ length b.records → last_safe_in places b ≤ b.end.floor
-floor-high places b g w =
-    let up : (order_at b (place places b)).floor ≤ (order_at b (length b.records)).floor =
+floor-high places b g w = let up : (order_at b (place places b)).floor ≤ (order_at b (length b.records)).floor =
     floor-take b.start (place places b) (length b.records) b.records g.in_order w in
     let e = floor-end b g in omega arith
 
@@ -96,8 +82,7 @@ module _ (logs : Logs) (places : List ℕ) (f : Floors) (valid : is_valid logs �
     where
       go : (o : Option AcceptedTablet) → slice_get (accepted_tablets logs) p ≡ o → has_closed f p ≡ is_closed logs places p
       go None e = none-index (accepted_tablets logs) f.closed p false count e ∙ sym (none-closed logs places p e)
-      go (Some d) e =
-          ap (has_closed f) (sym (get-id logs p d valid e))
+      go (Some d) e = ap (has_closed f) (sym (get-id logs p d valid e))
           ∙ (each-get (FloorFor logs places f) (accepted_tablets logs) p d right.each e).closed ∙ sym (closed-of logs places p d e)
 
   started-kept : (q : Option ℕ) → option_map_or (has_closed f) q true ≡ is_started logs places q
@@ -125,8 +110,7 @@ module _ (logs : Logs) (places : List ℕ) (f : Floors) (valid : is_valid logs �
       → ((p : ℕ) (d : AcceptedTablet) → p < b.header.id → slice_get (accepted_tablets logs) p ≡ Some d → is_closed_in places d ≡ false
       → least_kept f ≤ last_safe_in places d) → least_kept f ≤ last_safe_in places b
   under-low b i e None q s ih = cc
-  under-low b i e (Some p) q s ih =
-      let u : UnderParent (accepted_tablets logs) p b = get-under logs i b valid e p q in
+  under-low b i e (Some p) q s ih = let u : UnderParent (accepted_tablets logs) p b = get-under logs i b valid e p q in
       let parent : least_kept f ≤ last_safe_in places u.parent =
       ih p u.parent u.below u.there (sym (closed-of logs places p u.parent u.there) ∙ s) in
       let high : last_safe_in places u.parent ≤ u.parent.end.floor =
@@ -173,8 +157,7 @@ module _ (logs : Logs) (places : List ℕ) (f : Floors) (valid : is_valid logs �
   top = least-top (last_safe_in places) (λ b. not (is_closed_in places b)) (accepted_tablets logs)
 
   above : safe_time logs places ≤ least_kept f
-  above =
-      least-high value (counts f) f.headers (safe_time logs places) top
+  above = least-high value (counts f) f.headers (safe_time logs places) top
       (subst (Each (λ h. counts f h ≡ true → safe_time logs places ≤ value h)) (sym same-heads)
       (each-header (λ h. counts f h ≡ true → safe_time logs places ≤ value h) (accepted_tablets logs)
       (each-from (λ b. counts f b.header ≡ true → safe_time logs places ≤ value b.header) (accepted_tablets logs)
@@ -188,8 +171,7 @@ module _ (logs : Logs) (places : List ℕ) (f : Floors) (valid : is_valid logs �
       omega arith))))
 
 pub kept-values : KeptValuesSuffice
-kept-values logs places f valid legal right =
-    let a : least_kept f ≤ safe_time logs places =
+kept-values logs places f valid legal right = let a : least_kept f ≤ safe_time logs places =
     below logs places f valid legal right in let b : safe_time logs places ≤ least_kept f =
     above logs places f valid legal right in omega arith
 

@@ -1,42 +1,21 @@
 -- Cutoffs, restores and new tablets.
-use Rattle.std.proofs.Common.{◌≡◌, ℕ, zero, suc, ◌≤◌, max, true, false, List, length, replicate, Option, Some, None, refl, ap, sym, ◌∙◌}
-use Rattle.std.proofs.Common.{arith, subst, ⊎_elim, get_or}
-use Rattle.std.specs.Prelude.{filter, slice_get, slice_index}
-use Rattle.std.proofs.lemmas.Bool.{true≢false}
-use Rattle.std.proofs.lemmas.List.{length-replicate, length-map}
-use Rattle.std.specs.Option.{option_map_or}
-use Rattle.xc_record.specs.declared.record.Tablet.{Tablet}
-use Rattle.xc_model.proofs.Parents.{each-get, StartsRoot, each-root}
-use Rattle.xc_record.specs.declared.record.Logs.{Logs}
-use Rattle.xc_record.specs.Hash.{hash_of}
-use Rattle.xc_record.specs.Accepted.{AcceptedTablet, accepted_tablets}
-use Rattle.xc_record.specs.Path.{Version, version_cmp, Event, versions, versions_along, waiting, path_to, events}
-use Rattle.xc_record.specs.Order.{Progress}
-use Rattle.std.proofs.lemmas.Bool.{cases_lt}
-use Rattle.xc_record.specs.SafeTime.{place, order_at, last_safe_in, is_closed_in, is_closed, is_started, safe_time, StartsAfter, IsPlaces}
-use Rattle.xc_record.specs.Valid.{is_valid, headers_of}
-use Rattle.xc_record.specs.Kept.{Kept, kept_from, versions_at, pruned}
-use Rattle.xc_model.specs.Floors.{new_floors, FloorFor}
-use Rattle.xc_model.specs.Stands.{kept_at, StandsFor, new_tablet}
-use Rattle.xc_model.specs.Laws.{NewStands, CutoffsKeepStanding}
-use Rattle.xc_model.proofs.StableSort.{Each}
-use Rattle.xc_model.proofs.Elements.{each-both}
-use Rattle.xc_model.proofs.Paths.{shown}
-use Rattle.xc_model.proofs.Along.{own}
-use Rattle.xc_model.proofs.Cover.{nothing-applied}
-use Rattle.xc_model.proofs.Keep.{kept_from-more, kept_from-less}
-use Rattle.xc_model.proofs.Sorts.{in_order-sort}
-use Rattle.xc_model.proofs.ApplyPath.{version-orders}
-use Rattle.xc_model.proofs.ReadRows.{along-path}
+use Rattle.xc_model.proofs.Common.{◌≡◌, ℕ, zero, suc, ◌≤◌, max, true, false, List, length, replicate, Option, Some, None, refl, ap, sym}
+use Rattle.xc_model.proofs.Common.{◌∙◌, arith, subst, ⊎_elim, get_or, filter, slice_get, slice_index, true≢false, length-replicate}
+use Rattle.xc_model.proofs.Common.{length-map, option_map_or, Tablet, Logs, hash_of, AcceptedTablet, accepted_tablets, Version, version_cmp}
+use Rattle.xc_model.proofs.Common.{Event, versions, versions_along, waiting, path_to, events, Progress, cases_lt, place, order_at}
+use Rattle.xc_model.proofs.Common.{last_safe_in, is_closed_in, is_closed, is_started, safe_time, StartsAfter, IsPlaces, is_valid}
+use Rattle.xc_model.proofs.Common.{headers_of, Kept, kept_from, versions_at, pruned, Each-filter, Each-weaker}
+use Rattle.xc_model.{proofs.StableSort.Each, proofs.Elements.each-both, proofs.KeyRead.along-path, proofs.Sorts.in_order-sort}
+use Rattle.xc_model.{proofs.Chain.nothing-applied, proofs.Along.own, proofs.Along.shown, specs.Floors.new_floors, specs.Floors.FloorFor}
+use Rattle.xc_model.{specs.Laws.NewStands, specs.Laws.CutoffsKeepStanding, specs.Stands.kept_at, specs.Stands.StandsFor}
+use Rattle.xc_model.{specs.Stands.new_tablet, proofs.Parents.each-get, proofs.Parents.StartsRoot, proofs.Parents.each-root}
+use Rattle.xc_model.proofs.ApplyPath.{version-orders, kept_from-more, kept_from-less}
 use Rattle.xc_model.proofs.Tree.{IsOne, each-one, one-unsplit, empty-open}
-use Rattle.xc_record.proofs.ListLaws.{Each-filter, Each-weaker}
 
 -- ---- cutoffs
 
 pruned-shown : (u w : ℕ) (es : List Event) → pruned w (shown u es) ≡ shown (max u w) es
-pruned-shown u w es =
-    let vs = versions_along es in
-    let o = versions es in
+pruned-shown u w es = let vs = versions_along es in let o = versions es in
     let put : List Version → Kept = λ v. record { versions = v; held = waiting es } in
     ⊎_elim
     (λ h. let m : max u w ≡ w = omega arith in ap put (kept_from-more u w o (omega arith) (in_order-sort version_cmp version-orders vs)
@@ -45,16 +24,15 @@ pruned-shown u w es =
     (cases_lt u w)
 
 pub cutoffs-keep : CutoffsKeepStanding
-cutoffs-keep logs x y u w s b p =
-    subst (StandsFor logs (max u w)) (sym p.rest) (record {
-      valid = s.valid;
-      places = s.places;
-      covered = (let q : u ≤ safe_time logs x.places = s.covered in let r : w ≤ safe_time logs x.places = b in omega arith);
-      floors = s.floors;
-      keys = λ k q. kept-versions (versions_at k y.versions) (kept_at x k) w (p.keys k q) ∙ ap (pruned w) (s.keys k q)
-          ∙ pruned-shown u w (events k (path_to logs x.places k));
-      within = record { versions = p.within; held = s.within.held };
-    })
+cutoffs-keep logs x y u w s b p = subst (StandsFor logs (max u w)) (sym p.rest) (record {
+  valid = s.valid;
+  places = s.places;
+  covered = (let q : u ≤ safe_time logs x.places = s.covered in let r : w ≤ safe_time logs x.places = b in omega arith);
+  floors = s.floors;
+  keys = λ k q. kept-versions (versions_at k y.versions) (kept_at x k) w (p.keys k q) ∙ ap (pruned w) (s.keys k q)
+      ∙ pruned-shown u w (events k (path_to logs x.places k));
+  within = record { versions = p.within; held = s.within.held };
+})
   where
     kept-versions : (vs : List Version) (x : Kept) (w : ℕ) → vs ≡ (pruned w x).versions
         → (let z : Kept = record { versions = vs; held = x.held } in z) ≡ pruned w x

@@ -1,29 +1,18 @@
 -- What each line says of the session.
-use Rattle.std.proofs.Common.{◌≡◌, ℕ, zero, suc, ◌+◌, ◌<◌, ◌≤◌, max, Bool, true, false, List, [], ◌∷◌, map, length, Option, Some, None}
-use Rattle.std.proofs.Common.{refl, ap, sym, arith}
-use Rattle.std.specs.Prelude.{nat_lt, slice_get, slice_set, if◌then◌else◌, option_and_then}
-use Rattle.std.specs.Option.{option_map_or, option_map}
-use Rattle.std.specs.List.{filter_map, cons_option}
-use Rattle.std.proofs.lemmas.Bool.Decides.{nat_tests}
-use Rattle.std.proofs.lemmas.List.{length-map}
-use Rattle.std.proofs.lemmas.Option.{slice_get_within}
-use Rattle.xc_record.specs.declared.record.Logs.{Logs}
-use Rattle.xc_record.specs.declared.record.Break.{Break}
-use Rattle.xc_record.specs.declared.session.Command.{Command}
-use Rattle.xc_record.specs.declared.session.Command.TheVariants as command
+use Rattle.xc_model.proofs.Common.{◌≡◌, ℕ, zero, suc, ◌+◌, ◌<◌, ◌≤◌, max, Bool, true, false, List, [], ◌∷◌, map, length, Option, Some, None}
+use Rattle.xc_model.proofs.Common.{refl, ap, sym, arith, nat_lt, slice_get, slice_set, if◌then◌else◌, option_and_then, option_map_or}
+use Rattle.xc_model.proofs.Common.{option_map, filter_map, cons_option, nat_tests, length-map, slice_get_within, Logs, Break, Command}
+use Rattle.xc_model.proofs.Common.{PollAnswer, AcceptedTablet, accepted_tablets, accepted_tablet, records, halt_from, halt_of, halt, rows}
+use Rattle.xc_model.proofs.Common.{row, Position, Session, new_position, position, places_of, safe_now, IsSession, poll_answer}
+use Rattle.xc_model.proofs.Common.{with_position, moved, set_back, acknowledge, poll_step, stop_step, drained, read_at_line, prune_step}
+use Rattle.xc_model.proofs.Common.{open_step, refuses, is_change, Each}
 use Rattle.xc_record.specs.declared.session.Line.{Line}
+use Rattle.xc_record.specs.Step.{step}
+use Rattle.xc_record.specs.declared.session.Command.TheVariants as command
 use Rattle.xc_record.specs.declared.session.Line.TheVariants as line
-use Rattle.xc_record.specs.declared.session.PollAnswer.{PollAnswer}
 use Rattle.xc_record.specs.declared.session.PollAnswer.TheVariants as poll
-use Rattle.xc_record.specs.Accepted.{AcceptedTablet, accepted_tablets, accepted_tablet, records, halt_from, halt_of, halt}
-use Rattle.xc_record.specs.Rows.{rows, row}
-use Rattle.xc_record.specs.Session.{Position, Session, new_position, position, places_of, safe_now, IsSession}
-use Rattle.xc_record.specs.Step.{poll_answer, with_position, moved, set_back, acknowledge, poll_step, stop_step, drained, read_at_line}
-use Rattle.xc_record.specs.Step.{prune_step, open_step, refuses, is_change, step}
-use Rattle.xc_record.proofs.ListLaws.{Each}
-use Rattle.xc_model.specs.Lines.{Says, is_reached}
+use Rattle.xc_model.{proofs.Parents.length-logs, specs.Lines.Says, specs.Lines.is_reached}
 use Rattle.xc_model.specs.Laws.{CutoffsRise, StopsKeepPlaces, LinesNameSessions}
-use Rattle.xc_model.proofs.Parents.{length-logs}
 use Rattle.xc_model.proofs.SessionLaws.{places-same, WasPolled, AnswerSays, answer-says}
 
 abbrev either : {A : Type 0} → Bool → A → A → A
@@ -33,21 +22,16 @@ either b x y = if b then x else y
 
 poll-cutoff : (m : Session) (s : ℕ) (a : PollAnswer) → m.cutoff ≤ (poll_step m s a).0.cutoff
 poll-cutoff m s (poll.Polled k) = omega arith
-poll-cutoff m s (poll.Waits parent) = omega arith
-poll-cutoff m s poll.AtEnd = omega arith
-poll-cutoff m s (poll.Halted number kind) = omega arith
+poll-cutoff m s _ = omega arith
 
 stop-cutoff : (m : Session) (s : ℕ) (a : PollAnswer) → m.cutoff ≤ (stop_step m s a).0.cutoff
 stop-cutoff m s (poll.Polled k) = omega arith
-stop-cutoff m s (poll.Waits parent) = omega arith
-stop-cutoff m s poll.AtEnd = omega arith
-stop-cutoff m s (poll.Halted number kind) = omega arith
+stop-cutoff m s _ = omega arith
 
 prune-cutoff : (logs : Logs) (m : Session) (u : ℕ) → m.cutoff ≤ (prune_step logs m u).0.cutoff
 prune-cutoff logs m u = go (nat_lt (safe_now logs m) u)
   where
-    go : (b : Bool)
-        → m.cutoff ≤ (either {A = Session × List Line} b (m, line.Ahead u (safe_now logs m) ∷ [])
+    go : (b : Bool) → m.cutoff ≤ (either {A = Session × List Line} b (m, line.Ahead u (safe_now logs m) ∷ [])
         (record m { cutoff = max m.cutoff u }, line.Prune (max m.cutoff u) ∷ [])).0.cutoff
     go true = omega arith
     go false = omega arith
@@ -56,16 +40,8 @@ open-cutoff : (logs : Logs) (m : Session) (c : Command) → m.cutoff ≤ (open_s
 unfolding open_step
 open-cutoff logs m (command.Poll id n) = poll-cutoff m id (poll_answer logs m id n)
 open-cutoff logs m (command.Stop id n last) = stop-cutoff m id (poll_answer logs m id n)
-open-cutoff logs m (command.Ack id) = omega arith
-open-cutoff logs m (command.Restart id) = omega arith
-open-cutoff logs m command.Drain = omega arith
-open-cutoff logs m command.Safe = omega arith
-open-cutoff logs m (command.Read key) = omega arith
-open-cutoff logs m (command.ReadAt u key) = omega arith
-open-cutoff logs m command.Scan = omega arith
 open-cutoff logs m (command.Prune u) = prune-cutoff logs m u
-open-cutoff logs m command.Failover = omega arith
-open-cutoff logs m command.Report = omega arith
+open-cutoff logs m _ = omega arith
 
 pub cutoffs-rise : CutoffsRise
 unfolding step
@@ -78,22 +54,18 @@ cutoffs-rise logs m c = go (refuses m c)
 
 stop-places : (m : Session) (s : ℕ) (a : PollAnswer) → places_of (stop_step m s a).0 ≡ places_of m
 stop-places m s (poll.Polled k) = places-same m s (set_back (position m s)) refl
-stop-places m s (poll.Waits parent) = refl
-stop-places m s poll.AtEnd = refl
-stop-places m s (poll.Halted number kind) = refl
+stop-places m s _ = refl
 
 pub stops-keep : StopsKeepPlaces
 unfolding step open_step
 stops-keep logs m s n last = (stop m.closed, restart m.closed)
   where
-    stop : (o : Option ℕ)
-        → places_of (option_map_or {T = ℕ} {U = Session × List Line} (λ t. (m, line.Closed t ∷ [])) o
+    stop : (o : Option ℕ) → places_of (option_map_or {T = ℕ} {U = Session × List Line} (λ t. (m, line.Closed t ∷ [])) o
         (stop_step m s (poll_answer logs m s n))).0 ≡ places_of m
     stop None = stop-places m s (poll_answer logs m s n)
     stop (Some t) = refl
 
-    restart : (o : Option ℕ)
-        → places_of (option_map_or {T = ℕ} {U = Session × List Line} (λ t. (m, line.Closed t ∷ [])) o
+    restart : (o : Option ℕ) → places_of (option_map_or {T = ℕ} {U = Session × List Line} (λ t. (m, line.Closed t ∷ [])) o
         (with_position s (set_back (position m s)) m, line.Restart s (position m s).acknowledged ∷ [])).0 ≡ places_of m
     restart None = places-same m s (set_back (position m s)) refl
     restart (Some t) = refl
@@ -140,8 +112,7 @@ halts-reached logs s found e = go (accepted_tablet logs s) e
 module _ (logs : Logs) (m : Session) (st : IsSession logs m) where
   moved-cursor : (s n k : ℕ) → WasPolled logs m s n k
       → (position (with_position s (moved k (position m s)) m) s).cursor ≡ (position m s).cursor + k
-  moved-cursor s n k w =
-      let a : s < length (accepted_tablets logs) = slice_get_within (accepted_tablets logs) s w.tablet w.there in
+  moved-cursor s n k w = let a : s < length (accepted_tablets logs) = slice_get_within (accepted_tablets logs) s w.tablet w.there in
       let b = length-logs logs in
       let c : length (places_of m) ≡ length logs.tablets = st.places.count in
       let d = length-map m.positions (λ (p : Position). p.place) in
@@ -149,15 +120,13 @@ module _ (logs : Logs) (m : Session) (st : IsSession logs m) where
 
   poll-lines : (s n : ℕ) (a : PollAnswer) → AnswerSays logs m s n a → Each (Says logs m (poll_step m s a).0) (poll_step m s a).1
   poll-lines s n (poll.Polled k) h = (moved-cursor s n k h, tt)
-  poll-lines s n (poll.Waits parent) h = (h, tt)
-  poll-lines s n poll.AtEnd h = (h, tt)
   poll-lines s n (poll.Halted number kind) h = ((h, halts-reached logs s (number, kind) h), tt)
+  poll-lines s n _ h = (h, tt)
 
   stop-lines : (s n : ℕ) (a : PollAnswer) → AnswerSays logs m s n a → Each (Says logs m (stop_step m s a).0) (stop_step m s a).1
   stop-lines s n (poll.Polled k) h = (back-cursor m s, tt)
-  stop-lines s n (poll.Waits parent) h = (h, tt)
-  stop-lines s n poll.AtEnd h = (h, tt)
   stop-lines s n (poll.Halted number kind) h = ((h, halts-reached logs s (number, kind) h), tt)
+  stop-lines s n _ h = (h, tt)
 
   rows-say : (n : Session) (rs : List (List ℕ × List ℕ)) → Each (Says logs m n) (map (λ r. line.Row r.0 r.1) rs)
   rows-say n [] = tt
@@ -178,8 +147,7 @@ module _ (logs : Logs) (m : Session) (st : IsSession logs m) where
   read-line : (u : ℕ) (key : List ℕ) → Each (Says logs m m) (read_at_line logs m u key ∷ [])
   read-line u key = go (nat_lt (safe_now logs m) u) refl (nat_lt u m.cutoff) refl
     where
-      go : (a : Bool) → nat_lt (safe_now logs m) u ≡ a → (b : Bool) → nat_lt u m.cutoff ≡ b
-          → Each (Says logs m m)
+      go : (a : Bool) → nat_lt (safe_now logs m) u ≡ a → (b : Bool) → nat_lt u m.cutoff ≡ b → Each (Says logs m m)
           ((if a then line.Ahead u (safe_now logs m) else (if b then line.Pruned u m.cutoff else line.ReadAt u key (row logs u key))) ∷ [])
       go true e b f = ((refl, (let w : safe_now logs m < u = grind (arith, nat_tests) in w)), tt)
       go false e true f = ((refl, (let w : u < m.cutoff = grind (arith, nat_tests) in w)), tt)

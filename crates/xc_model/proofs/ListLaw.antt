@@ -1,25 +1,14 @@
 -- The whole list of rows that a tablet shows.
-use Rattle.std.proofs.Common.{◌≤◌, subst}
-use Rattle.std.proofs.Common.{◌≡◌, ℕ, Bool, true, false, cond, List, [], ◌∷◌, map, None, refl, ap, sym, ◌∙◌, arith, ⊎_elim}
-use Rattle.std.specs.Prelude.{filter, nat_le, bytes_eq}
-use Rattle.std.specs.declared.cmp.Ordering.{Ordering}
+use Rattle.xc_model.proofs.Common.{◌≤◌, subst, ◌≡◌, ℕ, Bool, true, false, cond, List, [], ◌∷◌, map, None, refl, ap, sym, ◌∙◌, arith, ⊎_elim}
+use Rattle.xc_model.proofs.Common.{filter, nat_le, bytes_eq, Ordering, nat_cmp, slice_cmp, nat_list_cmp_total, find, where_key}
+use Rattle.xc_model.proofs.Common.{find-where_key, is_sorted-where_key, same_entries, cases_Bool, true≢false, bytes_eq-Decides, Version}
+use Rattle.xc_model.proofs.Common.{puts, rows, row, after_puts, find-rows_after, rows_after-sorted, rows-sorted, KeyVersion, version_of}
+use Rattle.xc_model.proofs.Common.{versions_at, written_by, upto, newest, read, value_of}
 use Rattle.std.specs.declared.cmp.Ordering.TheVariants.{Equal}
-use Rattle.std.specs.Ordering.{nat_cmp}
-use Rattle.std.specs.Cmp.Lexicographic.{slice_cmp, nat_list_cmp_total}
 use Rattle.std.specs.FinMap.{slice_cmp-IsAntisymmetric, nat_cmp-IsAntisymmetric}
-use Rattle.std.specs.FinMap.Entries.{find, where_key, find-where_key, is_sorted-where_key, same_entries}
-use Rattle.std.proofs.lemmas.Bool.{cases_Bool, true≢false}
-use Rattle.std.proofs.lemmas.Slice.Eq.{bytes_eq-Decides}
-use Rattle.xc_record.specs.Path.{Version, puts}
-use Rattle.xc_record.specs.Rows.{rows, row}
-use Rattle.xc_record.proofs.RowLaws.{after_puts, find-rows_after, rows_after-sorted, rows-sorted}
-use Rattle.xc_record.specs.Kept.{KeyVersion, version_of, versions_at, written_by, upto, newest, read, value_of}
+use Rattle.xc_model.{proofs.StableSort.Each, proofs.RowsAt.after-last, proofs.Restores.restores-keep, proofs.ReadLaw.reads-show-rows}
 use Rattle.xc_model.specs.Stands.{covers, TargetTablet, in_range, kept_at, rows_shown}
 use Rattle.xc_model.specs.Laws.{ReadsShowLists, RestoredShowRows}
-use Rattle.xc_model.proofs.Restores.{restores-keep}
-use Rattle.xc_model.proofs.StableSort.{Each}
-use Rattle.xc_model.proofs.RowsAt.{after-last}
-use Rattle.xc_model.proofs.ReadLaw.{reads-show-rows}
 
 abbrev cmp : List ℕ → List ℕ → Ordering
 cmp = slice_cmp nat_cmp
@@ -34,8 +23,7 @@ same-cmp q x e = slice_cmp-IsAntisymmetric nat_cmp-IsAntisymmetric q x e
 
 -- what the list shows at a key is what a read of the key answers
 find-shown : (t : ℕ) (x : TargetTablet) (k : List ℕ) → find cmp k (rows_shown t x) ≡ read t (kept_at x k)
-find-shown t x k =
-    let ys = filter (upto t) (versions_at k x.versions) in
+find-shown t x k = let ys = filter (upto t) (versions_at k x.versions) in
     find-rows_after k (map written_by (filter (λ v. nat_le v.commit t) x.versions)) []
     ∙ ap (after_puts None) (puts-versions k t x.versions) ∙ after-last ys
 
@@ -43,8 +31,7 @@ find-shown t x k =
 none-kept : (x : TargetTablet) (k : List ℕ) (vs : List KeyVersion) → Each (λ v. in_range x v.key ≡ true) vs → in_range x k ≡ false
     → versions_at k vs ≡ []
 none-kept x k [] h o = refl
-none-kept x k (v ∷ vs) h o =
-    let rest : versions_at k vs ≡ [] = none-kept x k vs h.1 o in
+none-kept x k (v ∷ vs) h o = let rest : versions_at k vs ≡ [] = none-kept x k vs h.1 o in
     ⊎_elim (λ e. absurd (true≢false (sym h.0 ∙ ap (in_range x) (sym ((bytes_eq-Decides k v.key).0 e)) ∙ o)))
     (λ e. ap (λ b. map version_of (cond b (v ∷ filter (λ v. bytes_eq k v.key) vs) (filter (λ v. bytes_eq k v.key) vs))) e
     ∙ rest) (cases_Bool (bytes_eq k v.key))
@@ -69,8 +56,7 @@ reads-show-lists logs x u t s agree b c =
 -- ---- restored tablets
 
 pub restored-show : RestoredShowRows
-restored-show logs x y u t v r agree b h =
-    let c : v ≤ covers logs y = let q : t ≤ covers logs y = r.covered in omega arith in
+restored-show logs x y u t v r agree b h = let c : v ≤ covers logs y = let q : t ≤ covers logs y = r.covered in omega arith in
     subst (λ (z : TargetTablet). ((k : List ℕ) → in_range z k ≡ true → read v (kept_at z k) ≡ row logs v k) ×
     (rows_shown v z ≡ where_key cmp (in_range z) (rows logs v))) (sym r.is) (
       (λ k q. (restores-keep y t v h).0 k ∙ reads-show-rows logs y u v k r.stood agree b c q),

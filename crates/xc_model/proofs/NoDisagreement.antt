@@ -1,48 +1,26 @@
 -- Where no disagreement is found, no case stands at any key: the keys of a transaction's own operations are enough.
-use Rattle.xc_record.specs.Lists.{first_some, or_else}
-use Rattle.std.specs.Option.{option_map_or, option_map}
-use Rattle.std.proofs.Common.{◌≡◌, ◌≢◌, ℕ, Bool, true, false, cond, List, [], ◌∷◌, ◌++◌, Option, Some, None, refl, ap, sym, ◌∙◌, subst}
-use Rattle.std.proofs.Common.{append_assoc, append-nil, ◌⊎◌, inl, inr, ⊎_elim}
-use Rattle.std.specs.Prelude.{filter, flat_map, ◌==◌, ◌&&◌, ◌||◌, if◌then◌else◌, map, bytes_eq}
-use Rattle.std.specs.List.{list_any}
-use Rattle.std.proofs.lemmas.Bool.{cases_Bool, cases_eq, eq-eqb, ne_eqb, true≢false, and_right}
-use Rattle.std.proofs.lemmas.Slice.Eq.{bytes_eq-Decides}
-use Rattle.xc_record.specs.declared.record.Kind.{Kind}
-use Rattle.xc_record.specs.declared.record.Kind.TheVariants as log
+use Rattle.xc_model.proofs.Common.{first_some, or_else, option_map_or, option_map, ◌≡◌, ◌≢◌, ℕ, Bool, true, false, cond, List, [], ◌∷◌}
+use Rattle.xc_model.proofs.Common.{◌++◌, Option, Some, None, refl, ap, sym, ◌∙◌, subst, append_assoc, append-nil, ◌⊎◌, inl, inr, ⊎_elim}
+use Rattle.xc_model.proofs.Common.{filter, flat_map, ◌==◌, ◌&&◌, ◌||◌, if◌then◌else◌, map, bytes_eq, list_any, cases_Bool, cases_eq, eq-eqb}
+use Rattle.xc_model.proofs.Common.{ne_eqb, true≢false, and_right, bytes_eq-Decides, Kind, Op, Record, Logs, hash_of, holds, AcceptedTablet}
+use Rattle.xc_model.proofs.Common.{accepted_tablets, Written, Event, Hold, Put, Fate, Waits, fate, Waiting, waiting, waiting_by, events}
+use Rattle.xc_model.proofs.Common.{kind_events, puts, commit_of, undone, applied, provisional_ops, is_valid, Disagreement, disagreement_on}
+use Rattle.xc_model.proofs.Common.{commit_differs, rollback_differs, late_intent, aborted, straggler, kind_at, disagreement, path_above}
+use Rattle.xc_model.proofs.Common.{straggles_at, HasNoCase, Agrees, Numbered, agrees, Each-append, Each-weaker, none-cases}
 use Rattle.xc_record.specs.declared.record.AgreeKind.{AgreeKind}
-use Rattle.xc_record.specs.declared.record.Op.{Op}
-use Rattle.xc_record.specs.declared.record.Record.{Record}
-use Rattle.xc_record.specs.declared.record.Logs.{Logs}
-use Rattle.xc_record.specs.Hash.{hash_of, holds}
-use Rattle.xc_record.specs.Accepted.{AcceptedTablet, accepted_tablets}
-use Rattle.xc_record.specs.Path.{Written, Event, Hold, Put, Fate, Waits, Taken, RolledBack, Dropped, fate, Waiting, waiting, waiting_by}
-use Rattle.xc_record.specs.Path.{events, kind_events, puts}
-use Rattle.xc_record.specs.Commits.{commit_of, undone, applied, provisional_ops}
-use Rattle.xc_record.specs.Valid.{is_valid}
-use Rattle.xc_record.specs.Agreement.{Disagreement, disagreement_on, commit_differs, rollback_differs, late_intent, aborted, straggler}
-use Rattle.xc_record.specs.Agreement.{kind_at, disagreement, path_above, straggles_at, HasNoCase, Agrees}
-use Rattle.xc_record.proofs.HeaderLaws.{Numbered}
-use Rattle.xc_record.proofs.AgreementLaws.{agrees}
-use Rattle.xc_model.proofs.StableSort.{Each, Exists}
-use Rattle.xc_model.proofs.Along.{owns, own, origin, path_of}
-use Rattle.xc_model.proofs.Chain.{path-goes}
-use Rattle.xc_model.proofs.Elements.{each-front}
-use Rattle.xc_model.proofs.Tree.{chained}
-use Rattle.xc_model.proofs.Intents.{Sound, kind_lefts, provisional-lefts}
-use Rattle.xc_model.proofs.Parents.{heads, each-numbered}
-use Rattle.xc_model.proofs.FromValid.{rules-suffice}
+use Rattle.xc_record.specs.declared.record.Kind.TheVariants as log
+use Rattle.xc_model.{proofs.Tree.chained, proofs.Flat.each-all, proofs.Chain.path-goes, proofs.FromRules.rules-suffice}
+use Rattle.xc_model.{proofs.StableSort.Each, proofs.StableSort.Exists, proofs.Parents.heads, proofs.Parents.each-numbered}
+use Rattle.xc_model.{proofs.Elements.each-front, proofs.Elements.each-back, proofs.RowsAt.Sound, proofs.RowsAt.kind_lefts}
+use Rattle.xc_model.{proofs.RowsAt.provisional-lefts, proofs.Along.owns, proofs.Along.own, proofs.Along.origin, proofs.Along.path_of}
 use Rattle.xc_model.proofs.FromCases.{any-none, above-before, path-of-append}
-use Rattle.xc_record.proofs.ListLaws.{Each-append, Each-weaker, none-cases}
 
 pub sound-logs : (logs : Logs) (k : List ℕ) → is_valid logs ≡ true → Sound (accepted_tablets logs) k
-sound-logs logs k valid =
-    let v = rules-suffice logs valid in
-    record {
-      away = v.away k;
-      numbered = v.numbered;
-      goes = path-goes origin (filter (own (hash_of k)) (accepted_tablets logs))
-          (chained logs (hash_of k) valid).threads;
-    }
+sound-logs logs k valid = let v = rules-suffice logs valid in record {
+  away = v.away k;
+  numbered = v.numbered;
+  goes = path-goes origin (filter (own (hash_of k)) (accepted_tablets logs)) (chained logs (hash_of k) valid).threads;
+}
 
 -- ---- nothing of n waits where its intents say nothing of the key
 
@@ -52,15 +30,12 @@ none_of n hs = list_any (λ w. w.txn == n) hs
 waits-other : (n m sub : ℕ) (v : Written) (f : Fate) (hs : List Waiting) → m ≢ n → none_of n hs ≡ false
     → none_of n (waiting_by f m sub v ++ hs) ≡ false
 waits-other n m sub v Waits hs d e = ap (λ b. b || none_of n hs) (ne_eqb m n d) ∙ e
-waits-other n m sub v (Taken c) hs d e = e
-waits-other n m sub v RolledBack hs d e = e
-waits-other n m sub v Dropped hs d e = e
+waits-other n m sub v _ hs d e = e
 
 holds-other : (n m sub time : ℕ) (vs : List Written) (es : List Event) → m ≢ n → none_of n (waiting es) ≡ false
     → none_of n (waiting (map (λ v. Hold m sub time v) vs ++ es)) ≡ false
 holds-other n m sub time [] es d e = e
-holds-other n m sub time (v ∷ vs) es d e =
-    let rest = map (λ v. Hold m sub time v) vs ++ es in
+holds-other n m sub time (v ∷ vs) es d e = let rest = map (λ v. Hold m sub time v) vs ++ es in
     waits-other n m sub v (fate m sub rest) (waiting rest) d (holds-other n m sub time vs es d e)
 
 puts-none : (n time : ℕ) (vs : List Written) (es : List Event) → none_of n (waiting es) ≡ false
@@ -76,9 +51,7 @@ kind-none n k time (log.Intent m sub ops) es h e =
     ∙ h in subst (λ vs. none_of n (waiting (map (λ v. Hold m sub time v) vs ++ es)) ≡ false) (sym none) e)
     (λ d. holds-other n m sub time (puts k ops) es d e) (cases_eq m n)
 kind-none n k time (log.Apply m c without) es h e = e
-kind-none n k time (log.Abort m) es h e = e
-kind-none n k time (log.Safe v) es h e = e
-kind-none n k time (log.Split at left right) es h e = e
+kind-none n k time _ es h e = e
 
 abbrev Silent : ℕ → List ℕ → Record → Type 0
 Silent n k r = kind_lefts k n [] r.kind ≡ []
@@ -107,8 +80,7 @@ each-nil f (x ∷ xs) e = let both = both-nil (f x) (flat_map f xs) e in (both.0
 -- a key is one of the operations', or these say nothing of it
 key-among : (k : List ℕ) (ops : List Op) → Exists (λ op. k ≡ op.key) ops ⊎ (puts k ops ≡ [])
 key-among k [] = inr refl
-key-among k (op ∷ ops) =
-    ⊎_elim (λ t. inl (inl ((bytes_eq-Decides k op.key).0 t)))
+key-among k (op ∷ ops) = ⊎_elim (λ t. inl (inl ((bytes_eq-Decides k op.key).0 t)))
     (λ f. ⊎_elim (λ i. inl (inr i)) (λ n. inr (ap (λ b. cond b (op.value ∷ puts k ops) (puts k ops)) f
     ∙ n)) (key-among k ops)) (cases_Bool (bytes_eq k op.key))
 
@@ -133,25 +105,10 @@ silent-free : (logs : Logs) (n c : ℕ) (k : List ℕ) (before after : List Acce
     → accepted_tablets logs ≡ before ++ after → Each (Silent n k) (path_of (hash_of k) before)
     → Each (Silent n k) (path_of (hash_of k) after) → Each (Free logs n c k) after
 silent-free logs n c k before [] m s h g = tt
-silent-free logs n c k before (b ∷ after) m s h g =
-    let q = hash_of k in
+silent-free logs n c k before (b ∷ after) m s h g = let q = hash_of k in
     let above : path_above (accepted_tablets logs) b k ≡ path_of q before =
     ap (λ w. path_above w b k) s ∙ above-before k before b after (subst (λ w. Numbered 0 (heads w)) s m) in
-    let at : (o : Bool) → owns q b.header ≡ o
-    → Each (Silent n k)
-    (flat_map (λ (w : AcceptedTablet). w.records)
-    (cond o (b ∷ filter (λ w. owns q w.header) after) (filter (λ w. owns q w.header) after))) → (o ≡ true
-    → Each (Silent n k) b.records) × Each (Silent n k) (path_of q after) =
-    λ o. elim o as
-    (λ o. owns q b.header ≡ o → Each (Silent n k)
-    (flat_map (λ (w : AcceptedTablet). w.records)
-    (cond o (b ∷ filter (λ w. owns q w.header) after) (filter (λ w. owns q w.header) after))) → (o ≡ true
-    → Each (Silent n k) b.records) × Each (Silent n k) (path_of q after)) [
-      | true ↦ λ e w. ((λ _. each-front (Silent n k) b.records (path_of q after) w), each-rest b.records (path_of q after) w)
-      | false ↦ λ e w. ((λ z. absurd (true≢false (sym z))), w)
-    ]
-    in
-    let parts = at (owns q b.header) refl g in
+    let parts = at (owns q b.header) g in
     let more : Each (Silent n k) (path_of q (before ++ b ∷ [])) =
     subst (Each (Silent n k)) (sym (path-of-append q before (b ∷ [])))
     (Each-append (Silent n k) (path_of q before) (path_of q (b ∷ [])) h (one (owns q b.header) parts.0)) in (
@@ -160,9 +117,14 @@ silent-free logs n c k before (b ∷ after) m s h g =
       silent-free logs n c k (before ++ b ∷ []) after m (s ∙ sym (append_assoc before (b ∷ []) after)) more parts.1,
     )
   where
-    each-rest : (xs ys : List Record) → Each (Silent n k) (xs ++ ys) → Each (Silent n k) ys
-    each-rest [] ys w = w
-    each-rest (x ∷ xs) ys w = each-rest xs ys w.1
+    at : (o : Bool) → Each (Silent n k) (flat_map (λ (w : AcceptedTablet). w.records)
+        (cond o (b ∷ filter (λ w. owns (hash_of k) w.header) after) (filter (λ w. owns (hash_of k) w.header) after)))
+        → (o ≡ true → Each (Silent n k) b.records) × Each (Silent n k) (path_of (hash_of k) after)
+    at true w = (
+      (λ _. each-front (Silent n k) b.records (path_of (hash_of k) after) w),
+      each-back (Silent n k) b.records (path_of (hash_of k) after) w,
+    )
+    at false w = ((λ z. absurd (true≢false (sym z))), w)
 
     one : (o : Bool) → (o ≡ true → Each (Silent n k) b.records)
         → Each (Silent n k) (flat_map (λ (w : AcceptedTablet). w.records) (cond o (b ∷ []) []))
@@ -171,9 +133,7 @@ silent-free logs n c k before (b ∷ after) m s h g =
 
 key-free : (logs : Logs) (n c : ℕ) (k : List ℕ) → is_valid logs ≡ true → puts k (provisional_ops logs n) ≡ []
     → Each (Free logs n c k) (accepted_tablets logs)
-key-free logs n c k valid e =
-    let es = accepted_tablets logs in
-    let m = each-numbered logs valid in
+key-free logs n c k valid e = let es = accepted_tablets logs in let m = each-numbered logs valid in
     let silent : Each (Silent n k) (path_of (hash_of k) es) =
     each-nil (λ (r : Record). kind_lefts k n [] r.kind) (path_of (hash_of k) es)
     (sym (provisional-lefts logs k n m (sound-logs logs k valid)) ∙ e) in
@@ -191,10 +151,7 @@ record NoTest (logs : Logs) (n c : ℕ) (b : AcceptedTablet) : Type 0 where
 
 tests-false : (logs : Logs) (n c : ℕ) (b : AcceptedTablet) → kind_at logs n c b ≡ None → NoTest logs n c b
 unfolding kind_at
-tests-false logs n c b e =
-    let one = none-cases _ _ _ e in
-    let two = none-cases _ _ _ one.1 in
-    let three = none-cases _ _ _ two.1 in
+tests-false logs n c b e = let one = none-cases _ _ _ e in let two = none-cases _ _ _ one.1 in let three = none-cases _ _ _ two.1 in
     let four = none-cases _ _ _ three.1 in
     let five = none-cases _ _ _ four.1 in
     record { same_commit = one.0; same_rollback = two.0; early_intents = three.0; no_abort = four.0; no_straggler = five.0 }
@@ -208,20 +165,17 @@ no-cases : (logs : Logs) (n c : ℕ) (bs : List AcceptedTablet)
     → ((k : List ℕ) → puts k (provisional_ops logs n) ≡ [] → Each (Free logs n c k) bs) → Each (λ b. kind_at logs n c b ≡ None) bs
     → Each (HasNoCase logs n c) bs
 no-cases logs n c [] f h = tt
-no-cases logs n c (b ∷ bs) f h =
-    let tests = tests-false logs n c b h.0 in
-    let keys = straggler-keys logs n c b tests.no_straggler in (
-      record {
-        same_commit = tests.same_commit;
-        same_rollback = tests.same_rollback;
-        early_intents = tests.early_intents;
-        no_abort = tests.no_abort;
-        no_straggler =
-            λ k o. ⊎_elim (λ i. held-out (holds b.header (hash_of k)) _ o (found-key logs n c b k (provisional_ops logs n) keys i))
-            (λ e. (f k e).0 o) (key-among k (provisional_ops logs n));
-      },
-      no-cases logs n c bs (λ k e. (f k e).1) h.1,
-    )
+no-cases logs n c (b ∷ bs) f h = let tests = tests-false logs n c b h.0 in let keys = straggler-keys logs n c b tests.no_straggler in (
+  record {
+    same_commit = tests.same_commit;
+    same_rollback = tests.same_rollback;
+    early_intents = tests.early_intents;
+    no_abort = tests.no_abort;
+    no_straggler = λ k o. ⊎_elim (λ i. held-out (holds b.header (hash_of k)) _ o (found-key logs n c b k (provisional_ops logs n) keys i))
+        (λ e. (f k e).0 o) (key-among k (provisional_ops logs n));
+  },
+  no-cases logs n c bs (λ k e. (f k e).1) h.1,
+)
 
 -- logs in which no disagreement is found agree
 pub no-disagreement : (logs : Logs) → is_valid logs ≡ true → disagreement logs ≡ None → Agrees logs
@@ -240,10 +194,7 @@ none-any p (x ∷ xs) f = ap (λ b. b || list_any p xs) (f x) ∙ none-any p xs 
 
 no-kind : (logs : Logs) (n c : ℕ) (b : AcceptedTablet) → HasNoCase logs n c b → kind_at logs n c b ≡ None
 unfolding kind_at straggler
-no-kind logs n c b h =
-    all-first _ _ _ h.same_commit
-    (all-first _ _ _ h.same_rollback
-    (all-first _ _ _ h.early_intents
+no-kind logs n c b h = all-first _ _ _ h.same_commit (all-first _ _ _ h.same_rollback (all-first _ _ _ h.early_intents
     (all-first _ _ _ h.no_abort
     (all-first _ _ _
     (none-any (λ (op : Op). straggles_on logs n c b op.key) (provisional_ops logs n)
@@ -257,15 +208,10 @@ first-none : {X Y : Type 0} (f : X → Option Y) (xs : List X) → Each (λ x. f
 first-none f [] h = refl
 first-none f (x ∷ xs) h = ap (λ o. or_else o (first_some f xs)) h.0 ∙ first-none f xs h.1
 
-every : {X : Type 0} (P : X → Type 0) (xs : List X) → ((x : X) → P x) → Each P xs
-every P [] f = tt
-every P (x ∷ xs) f = (f x, every P xs f)
-
 pub agrees-found : (logs : Logs) → Agrees logs → disagreement logs ≡ None
 unfolding disagreement disagreement_on
-agrees-found logs a =
-    first-none (λ n. option_map_or (disagreement_on logs n) (commit_of logs n) None) (applied logs)
-    (every _ (applied logs) (λ n. one n (commit_of logs n) refl))
+agrees-found logs a = first-none (λ n. option_map_or (disagreement_on logs n) (commit_of logs n) None) (applied logs)
+    (each-all _ (λ n. one n (commit_of logs n) refl) (applied logs))
   where
     one : (n : ℕ) (o : Option ℕ) → commit_of logs n ≡ o → option_map_or (disagreement_on logs n) o None ≡ None
     one n None e = refl

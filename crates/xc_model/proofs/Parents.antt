@@ -1,27 +1,16 @@
 -- The accepted tablets of well-formed logs: each has its number, and each child begins where its parent ends.
 --     heads bs      their headers
 --     Under bs b      b has no parent, or its parent is among bs under its number, and b begins at the parent's end
-use Rattle.std.proofs.Common.{◌≡◌, ℕ, zero, suc, ◌<◌, true, false, ◌&&◌, List, [], ◌∷◌, ◌++◌, length, map, Option, Some, None, refl, ap}
-use Rattle.std.proofs.Common.{sym, ◌∙◌, subst, arith, zero-add, append_assoc, append-nil}
-use Rattle.std.proofs.lemmas.Bool.{and_parts, eqb-true}
-use Rattle.std.proofs.lemmas.List.{length-map, map-append}
-use Rattle.std.proofs.lemmas.Option.{slice_get_within, slice_get-map, none-some}
-use Rattle.std.specs.Prelude.{slice_get, option_map, if◌then◌else◌}
-use Rattle.std.specs.Option.{option_map_or}
-use Rattle.xc_record.specs.declared.record.Header.{Header}
-use Rattle.xc_record.specs.declared.record.Tablet.{Tablet}
-use Rattle.xc_record.specs.declared.record.Logs.{Logs}
-use Rattle.xc_record.specs.declared.rules.Next.{Next}
-use Rattle.xc_record.specs.declared.rules.Next.TheVariants.{RootAt}
-use Rattle.xc_record.specs.Order.{accepted_from}
-use Rattle.xc_record.specs.Headers.{fits, fit_from, next_after, headers_fit, are_headers}
-use Rattle.xc_record.specs.Accepted.{AcceptedTablet, root_start, child_start, start_after, reached_after, accepted_tablet_after}
-use Rattle.xc_record.specs.Accepted.{accepted_tablets_after, accepted_tablets}
-use Rattle.xc_record.specs.SafeTime.{is_closed_in, is_closed}
-use Rattle.xc_record.specs.Valid.{is_valid, headers_of}
-use Rattle.xc_record.proofs.ListLaws.{Each, Each-append, Each-weaker}
-use Rattle.xc_record.proofs.HeaderLaws.{Line, line, Numbered, Numbered-at, Fits, Fits-none, Fits-snoc, FitsAll, headers_fit-all}
-use Rattle.xc_record.proofs.HeaderLaws.{parent_stands}
+use Rattle.xc_model.proofs.Common.{◌≡◌, ℕ, zero, suc, ◌<◌, true, false, ◌&&◌, List, [], ◌∷◌, ◌++◌, length, map, Option, Some, None, refl}
+use Rattle.xc_model.proofs.Common.{ap, sym, ◌∙◌, subst, arith, zero-add, append_assoc, append-nil, and_parts, eqb-true, length-map}
+use Rattle.xc_model.proofs.Common.{map-append, slice_get_within, slice_get-map, none-some, slice_get, option_map, if◌then◌else◌}
+use Rattle.xc_model.proofs.Common.{option_map_or, Header, Tablet, Logs, Next, accepted_from, fits, fit_from, next_after, headers_fit}
+use Rattle.xc_model.proofs.Common.{are_headers, AcceptedTablet, root_start, child_start, start_after, reached_after, accepted_tablet_after}
+use Rattle.xc_model.proofs.Common.{accepted_tablets_after, accepted_tablets, is_closed_in, is_closed, is_valid, headers_of, Each}
+use Rattle.xc_model.proofs.Common.{Each-append, Each-weaker, line, Numbered, Numbered-at, Fits, Fits-none, Fits-snoc, FitsAll}
+use Rattle.xc_model.proofs.Common.{headers_fit-all, parent_stands}
+use Rattle.xc_record.specs.declared.headers.Next.TheVariants.{RootAt}
+use Rattle.xc_record.proofs.HeaderLaws.{Line}
 
 -- ---- elements by their index
 
@@ -56,17 +45,14 @@ abbrev pub Under : List AcceptedTablet → AcceptedTablet → Type 0
 Under bs b = (p : ℕ) → b.header.parent ≡ Some p → UnderParent bs p b
 
 under-more : (bs more : List AcceptedTablet) (b : AcceptedTablet) → Under bs b → Under (bs ++ more) b
-under-more bs more b u p e =
-    let h : UnderParent bs p b =
-    u p e in record {
-      parent = h.parent;
-      there = get-append bs more p h.parent h.there;
-      below = h.below;
-      start = h.start;
-      floor = h.floor;
-      unsplit =
-          h.unsplit;
-    }
+under-more bs more b u p e = let h : UnderParent bs p b = u p e in record {
+  parent = h.parent;
+  there = get-append bs more p h.parent h.there;
+  below = h.below;
+  start = h.start;
+  floor = h.floor;
+  unsplit = h.unsplit;
+}
 
 not-reached : (d : AcceptedTablet) → d.end.split ≡ false → (d.reached && d.end.split) ≡ false
 not-reached d e = grind arith
@@ -94,8 +80,7 @@ under-one bs next t f k p e = go (slice_get bs p) refl
     go : (o : Option AcceptedTablet) → slice_get bs p ≡ o → UnderParent bs p (accepted_tablet_after bs t)
     go None g = let none : None ≡ Some stands.0 = sym (slice_get-map (λ (b : AcceptedTablet). b.header) bs p
         ∙ ap (option_map (λ (b : AcceptedTablet). b.header)) g) ∙ stands.1 in absurd (none-some stands.0 none)
-    go (Some d) g =
-        let id : t.header.id ≡ length (heads bs) = eqb-true _ _ (and_parts _ _ k).0 in
+    go (Some d) g = let id : t.header.id ≡ length (heads bs) = eqb-true _ _ (and_parts _ _ k).0 in
         let l : p < length bs = slice_get_within bs p d g in
         let n : length (heads bs) ≡ length bs = length-map bs (λ (b : AcceptedTablet). b.header) in
         under-there bs t p d e g (omega arith)
@@ -107,9 +92,7 @@ under-from : (bs : List AcceptedTablet) (next : Next) (ts : List Tablet) → Fit
     → fit_from (heads bs) next (headers_of ts) ≡ true → Each (Under bs) bs
     → Each (Under (accepted_tablets_after bs ts)) (accepted_tablets_after bs ts)
 under-from bs next [] f e h = h
-under-from bs next (t ∷ ts) f e h =
-    let b = accepted_tablet_after bs t in
-    let parts = and_parts _ _ e in
+under-from bs next (t ∷ ts) f e h = let b = accepted_tablet_after bs t in let parts = and_parts _ _ e in
     let n = next_after (heads bs) next t.header t.header.parent in
     under-from (bs ++ b ∷ []) n ts (subst (λ w. Fits w n) (sym (heads-push bs t)) (Fits-snoc (heads bs) next t.header f parts.0))
     (subst (λ w. fit_from w n (headers_of ts) ≡ true) (sym (heads-push bs t)) parts.1)
@@ -122,16 +105,14 @@ StartsRoot b = b.header.parent ≡ None → b.start ≡ root_start
 
 roots-from : (bs : List AcceptedTablet) (ts : List Tablet) → Each StartsRoot bs → Each StartsRoot (accepted_tablets_after bs ts)
 roots-from bs [] h = h
-roots-from bs (t ∷ ts) h =
-    roots-from (bs ++ accepted_tablet_after bs t ∷ []) ts
+roots-from bs (t ∷ ts) h = roots-from (bs ++ accepted_tablet_after bs t ∷ []) ts
     (Each-append StartsRoot bs (accepted_tablet_after bs t ∷ []) h ((λ e. ap (start_after bs) e), tt))
 
 -- ---- the accepted tablets of logs
 
 heads-from : (bs : List AcceptedTablet) (ts : List Tablet) → heads (accepted_tablets_after bs ts) ≡ heads bs ++ headers_of ts
 heads-from bs [] = sym (append-nil (heads bs))
-heads-from bs (t ∷ ts) =
-    heads-from (bs ++ accepted_tablet_after bs t ∷ []) ts ∙ ap (λ w. w ++ headers_of ts) (heads-push bs t)
+heads-from bs (t ∷ ts) = heads-from (bs ++ accepted_tablet_after bs t ∷ []) ts ∙ ap (λ w. w ++ headers_of ts) (heads-push bs t)
     ∙ append_assoc (heads bs) (t.header ∷ []) (headers_of ts)
 
 pub heads-logs : (logs : Logs) → heads (accepted_tablets logs) ≡ headers_of logs.tablets
@@ -139,8 +120,7 @@ unfolding accepted_tablets
 heads-logs logs = heads-from [] logs.tablets
 
 pub length-logs : (logs : Logs) → length (accepted_tablets logs) ≡ length logs.tablets
-length-logs logs =
-    sym (length-map (accepted_tablets logs) (λ (b : AcceptedTablet). b.header)) ∙ ap length (heads-logs logs)
+length-logs logs = sym (length-map (accepted_tablets logs) (λ (b : AcceptedTablet). b.header)) ∙ ap length (heads-logs logs)
     ∙ length-map logs.tablets (λ (t : Tablet). t.header)
 
 pub valid-headers : (logs : Logs) → is_valid logs ≡ true → headers_fit (headers_of logs.tablets) ≡ true
@@ -149,8 +129,7 @@ valid-headers logs v = (and_parts _ _ (and_parts _ _ v).0).1
 
 pub get-id : (logs : Logs) (i : ℕ) (b : AcceptedTablet) → is_valid logs ≡ true → slice_get (accepted_tablets logs) i ≡ Some b
     → b.header.id ≡ i
-get-id logs i b v e =
-    let all : FitsAll (headers_of logs.tablets) = headers_fit-all (headers_of logs.tablets) (valid-headers logs v) in
+get-id logs i b v e = let all : FitsAll (headers_of logs.tablets) = headers_fit-all (headers_of logs.tablets) (valid-headers logs v) in
     let there : slice_get (headers_of logs.tablets) i ≡ Some b.header =
     ap (λ w. slice_get w i) (sym (heads-logs logs)) ∙ slice_get-map (λ (b : AcceptedTablet). b.header) (accepted_tablets logs) i
     ∙ ap (option_map (λ (b : AcceptedTablet). b.header)) e in
@@ -185,6 +164,5 @@ each-numbered logs v =
 
 -- those that hold a hash stand in a line, each under the one before
 pub each-line : (logs : Logs) (hash : ℕ) → is_valid logs ≡ true → Line None (line hash (heads (accepted_tablets logs)))
-each-line logs hash v =
-    subst (λ w. Line None (line hash w)) (sym (heads-logs logs))
+each-line logs hash v = subst (λ w. Line None (line hash w)) (sym (heads-logs logs))
     ((headers_fit-all (headers_of logs.tablets) (valid-headers logs v)).1.lines hash)

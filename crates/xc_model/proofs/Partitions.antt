@@ -1,40 +1,18 @@
 -- The rows that several tablets show, merged, are the rows of the logs.
-use Rattle.std.proofs.Common.{◌≡◌, ℕ, ◌+◌, ◌*◌, ◌%◌, ◌<◌, ◌≤◌, Bool, true, false, ◌&&◌, T, List, [], ◌∷◌, ◌++◌, map, None, refl, ap, ◌∙◌}
-use Rattle.std.proofs.Common.{subst, arith, inl, inr, ⊎_elim}
-use Rattle.std.specs.Prelude.{flat_map, nat_le}
+use Rattle.xc_model.proofs.Common.{◌≡◌, ℕ, ◌+◌, ◌<◌, ◌≤◌, Bool, true, false, ◌&&◌, T, List, [], ◌∷◌, ◌++◌, map, None, refl, ap, ◌∙◌, subst}
+use Rattle.xc_model.proofs.Common.{arith, inl, inr, ⊎_elim, flat_map, nat_le, is_lt, nat_cmp, slice_cmp, nat_list_cmp_total, on_texts}
+use Rattle.xc_model.proofs.Common.{where_key, is_sorted, below_all, cases_lt, nat_tests, Logs, disagreement, hash_of, rows, Follows}
+use Rattle.xc_model.proofs.Common.{IsPartition, sort_by, Each, Each-weaker, rows-sorted}
 use Rattle.std.specs.List.Sorted.{IsPermutation, IsSortedByKey}
-use Rattle.std.specs.Ordering.{is_lt, nat_cmp}
-use Rattle.std.specs.Cmp.Lexicographic.{slice_cmp, nat_list_cmp_total, on_texts}
-use Rattle.std.specs.FinMap.Entries.{where_key, is_sorted, below_all}
-use Rattle.std.proofs.lemmas.Bool.{cases_lt}
-use Rattle.std.proofs.lemmas.Bool.Decides.{nat_tests}
 use Rattle.std.proofs.lemmas.List.MinMax.{ranks_by}
-use Rattle.xc_record.specs.declared.record.Logs.{Logs}
-use Rattle.xc_record.specs.Agreement.{disagreement}
-use Rattle.xc_record.specs.Hash.{hash_from, hash_of}
-use Rattle.xc_record.specs.Rows.{rows}
-use Rattle.xc_record.specs.Bounds.{Follows, IsPartition}
-use Rattle.xc_record.specs.Lists.{sort_by}
 use Rattle.xc_record.specs.Sharing.{Ascends, PassesOne, parts}
-use Rattle.xc_record.proofs.ListLaws.{Each, Each-weaker}
-use Rattle.xc_record.proofs.RowLaws.{rows-sorted}
 use Rattle.xc_record.proofs.ShareLaws.{sort-parts, sorted-parts}
-use Rattle.xc_model.specs.Rows.{range_of, row_cmp, all_rows}
+use Rattle.xc_model.{proofs.FromRules.hash-below, specs.Rows.range_of, specs.Rows.row_cmp, specs.Rows.all_rows}
 use Rattle.xc_model.specs.Stands.{TargetTablet, StandsFor, RestoredTo, in_range, covers, rows_shown}
 use Rattle.xc_model.specs.Laws.{ReadsShowLists, RestoredShowRows, PartitionsShowRows, RestoredPartitionsShowRows}
 
 abbrev Row : Type 0
 Row = List ℕ × List ℕ
-
--- ---- hashes
-
-hash-from-below : (h : ℕ) (k : List ℕ) → h < 65536 → hash_from h k < 65536
-hash-from-below h [] b = b
-hash-from-below h (byte ∷ k) b = hash-from-below ((31 * h + byte) % 65536) k (omega arith)
-
-hash-below : (k : List ℕ) → hash_of k < 65536
-unfolding hash_of
-hash-below k = hash-from-below 0 k (omega arith)
 
 -- ---- each key is in the range of one tablet
 
@@ -44,31 +22,21 @@ in_tablet x r = in_range x r.0
 none-holds : (lo : ℕ) (xs : List TargetTablet) (r : Row) → Follows lo 65536 (map range_of xs) → hash_of r.0 < lo
     → Each (λ x. in_tablet x r ≡ false) xs
 none-holds lo [] r f b = tt
-none-holds lo (x ∷ xs) r f b =
-    let low : x.lo ≡ lo = f.0 in
-    let wide : x.lo ≤ x.hi = f.1.0 in (
-      (let e : (nat_le x.lo (hash_of r.0) && nat_le (hash_of r.0) x.hi) ≡ false = grind (arith, nat_tests) in e),
-      none-holds (x.hi + 1) xs r
-          f.1.1 (omega arith),
-    )
+none-holds lo (x ∷ xs) r f b = let low : x.lo ≡ lo = f.0 in let wide : x.lo ≤ x.hi = f.1.0 in (
+  (let e : (nat_le x.lo (hash_of r.0) && nat_le (hash_of r.0) x.hi) ≡ false = grind (arith, nat_tests) in e),
+  none-holds (x.hi + 1) xs r f.1.1 (omega arith),
+)
 
 one-holds : (lo : ℕ) (xs : List TargetTablet) (r : Row) → Follows lo 65536 (map range_of xs) → lo ≤ hash_of r.0 → PassesOne in_tablet xs r
 one-holds lo [] r f b = let h = hash-below r.0 in let e : lo ≡ 65536 = f in absurd (omega arith)
-one-holds lo (x ∷ xs) r f b =
-    let low : x.lo ≡ lo = f.0 in
-    let wide : x.lo ≤ x.hi = f.1.0 in
-    ⊎_elim
-    (λ above. inr (
-      (let e : (nat_le x.lo (hash_of r.0) && nat_le (hash_of r.0) x.hi) ≡ false = grind (arith, nat_tests) in e),
-      one-holds (x.hi + 1) xs
-          r f.1.1 (omega arith),
-    ))
-    (λ here. inl (
-      (let e : (nat_le x.lo (hash_of r.0) && nat_le (hash_of r.0) x.hi) ≡ true = grind (arith, nat_tests) in e),
-      none-holds
-          (x.hi + 1) xs r f.1.1 (omega arith),
-    ))
-    (cases_lt x.hi (hash_of r.0))
+one-holds lo (x ∷ xs) r f b = let low : x.lo ≡ lo = f.0 in let wide : x.lo ≤ x.hi = f.1.0 in ⊎_elim (λ above. inr (
+  (let e : (nat_le x.lo (hash_of r.0) && nat_le (hash_of r.0) x.hi) ≡ false = grind (arith, nat_tests) in e),
+  one-holds (x.hi + 1) xs r f.1.1 (omega arith),
+)) (λ here. inl (
+  (let e : (nat_le x.lo (hash_of r.0) && nat_le (hash_of r.0) x.hi) ≡ true = grind (arith, nat_tests) in e),
+  none-holds
+      (x.hi + 1) xs r f.1.1 (omega arith),
+)) (cases_lt x.hi (hash_of r.0))
 
 each-one : (xs : List TargetTablet) (rs : List Row) → IsPartition (map range_of xs) → Each (PassesOne in_tablet xs) rs
 each-one xs [] p = tt
@@ -121,8 +89,7 @@ shown-parts t rs (x ∷ xs) h =
 
 all-parts : (t : ℕ) (rs : List Row) (xs : List TargetTablet) → IsPartition (map range_of xs) → Each (ShowsPart t rs) xs
     → T (is_sorted (slice_cmp nat_cmp) rs) → all_rows t xs ≡ rs
-all-parts t rs xs p h s =
-    ap (sort_by row_cmp) (shown-parts t rs xs h)
+all-parts t rs xs p h s = ap (sort_by row_cmp) (shown-parts t rs xs h)
     ∙ sort-parts row_cmp (on_texts (λ (r : Row). r.0)) in_tablet xs rs (ascends rs s) (each-one xs rs p)
 
 -- so do they in any order that is sorted by keys, as std's sort makes one
@@ -140,8 +107,7 @@ each-shows lists logs u t xs agree b h =
 
 each-restored : RestoredShowRows → (logs : Logs) (u t v : ℕ) (xs : List TargetTablet) → disagreement logs ≡ None → u ≤ v → v ≤ t
     → Each (λ x. (y : TargetTablet) × RestoredTo logs u t y x) xs → Each (ShowsPart v (rows logs v)) xs
-each-restored shows logs u t v xs agree b c h =
-    Each-weaker (λ x. (y : TargetTablet) × RestoredTo logs u t y x) (ShowsPart v (rows logs v))
+each-restored shows logs u t v xs agree b c h = Each-weaker (λ x. (y : TargetTablet) × RestoredTo logs u t y x) (ShowsPart v (rows logs v))
     (λ x s. (shows logs x s.0 u t v s.1 agree b c).1) xs h
 
 pub partitions-by : ReadsShowLists → PartitionsShowRows

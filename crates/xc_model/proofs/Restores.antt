@@ -1,10 +1,6 @@
 -- Reads after a restore.
-use Rattle.std.proofs.Common.{◌≡◌, ℕ, ◌≤◌, Bool, true, false, cond, List, [], ◌∷◌, map, refl, ap, ◌∙◌, sym, arith}
-use Rattle.std.specs.Prelude.{filter, nat_le}
-use Rattle.std.proofs.lemmas.Bool.{true≢false}
-use Rattle.std.proofs.lemmas.Bool.Decides.{nat_tests}
-use Rattle.xc_record.specs.Kept.{KeyVersion, written_by, versions_at, upto, last_of, value_of}
-use Rattle.xc_record.specs.Rows.{rows_after}
+use Rattle.xc_model.proofs.Common.{◌≡◌, ℕ, ◌≤◌, Bool, true, false, cond, List, [], ◌∷◌, map, refl, ap, ◌∙◌, sym, arith, filter, nat_le}
+use Rattle.xc_model.proofs.Common.{true≢false, nat_tests, KeyVersion, written_by, versions_at, upto, last_of, value_of, rows_after}
 use Rattle.xc_model.specs.Laws.{RestoresKeepReads}
 
 -- what passes p passes q

@@ -1,44 +1,231 @@
 -- The row at a key is what the newest committed operation of its path leaves there.
-use Rattle.std.proofs.Common.{◌≡◌, ◌≢◌, ◌==◌, ℕ, ◌<◌, ◌≤◌, Bool, true, false, cond, not, ◌||◌, List, [], ◌∷◌, ◌++◌, map, Option, Some, None}
-use Rattle.std.proofs.Common.{refl, ap, sym, ◌∙◌, arith, append_assoc, append-nil, inl, inr, ⊎_elim}
-use Rattle.std.specs.Prelude.{nat_le, nat_lt}
-use Rattle.std.specs.List.{filter, flat_map, filter_map, cons_option}
-use Rattle.std.specs.Option.{option_map_or}
-use Rattle.std.specs.declared.cmp.Ordering.{Ordering}
-use Rattle.std.specs.Ordering.{is_gt, nat_cmp, ordering_then}
-use Rattle.std.proofs.lemmas.Bool.{cases_eq, eq-eqb, ne_eqb, or_left, or_right}
-use Rattle.std.proofs.lemmas.Bool.Decides.{nat_tests}
-use Rattle.std.proofs.lemmas.List.Elements.{filter-append}
-use Rattle.std.proofs.lemmas.Grind.{flat_map-append}
-use Rattle.xc_record.specs.declared.record.Kind.{Kind}
-use Rattle.xc_record.specs.declared.record.Kind.TheVariants as log
-use Rattle.xc_record.specs.declared.record.Op.{Op}
-use Rattle.xc_record.specs.declared.record.Record.{Record}
-use Rattle.xc_record.specs.declared.record.Logs.{Logs}
-use Rattle.xc_record.specs.Hash.{hash_of}
-use Rattle.xc_record.specs.Accepted.{AcceptedTablet, accepted_tablets}
-use Rattle.xc_record.specs.Lists.{has, insert_number, distinct, first_some, or_else, sort_by}
-use Rattle.xc_record.specs.Commits.{Commit, commit_cmp, applies, applied_txn, commit_of, undone, applied, txn_ops, write_ops, writes_in}
-use Rattle.xc_record.specs.Commits.{write_commits, txn_commits, commits}
-use Rattle.xc_record.specs.Path.{Event, Put, Hold, Apply, Abort, Safe, Written, Version, version_cmp, puts, events, record_events}
-use Rattle.xc_record.specs.Path.{kind_events}
-use Rattle.xc_record.specs.Kept.{upto, newest, last_of, value_of}
-use Rattle.xc_record.specs.Rows.{ops_to, row}
-use Rattle.xc_record.proofs.HeaderLaws.{Numbered}
-use Rattle.xc_record.proofs.RowLaws.{after_puts, row-puts}
-use Rattle.xc_record.proofs.AgreementLaws.{commit-applied}
+use Rattle.xc_model.proofs.Common.{◌≡◌, ◌==◌, ℕ, ◌<◌, ◌≤◌, Bool, true, false, cond, not, List, [], ◌∷◌, ◌++◌, map, Option, Some, None, refl}
+use Rattle.xc_model.proofs.Common.{ap, sym, ◌∙◌, arith, append-nil, filter, flat_map, option_map_or, Ordering, is_gt, nat_cmp, nat_tests}
+use Rattle.xc_model.proofs.Common.{flat_map-append, Kind, Op, Record, Logs, hash_of, AcceptedTablet, accepted_tablets, has, sort_by}
+use Rattle.xc_model.proofs.Common.{Provisional, provisional_cmp, intent_ops, sub_of, intents_in, intents, provisional_ops, txn_ops, undone}
+use Rattle.xc_model.proofs.Common.{Written, puts, Numbered, Each-append, Each-weaker, ◌≢◌, ◌||◌, append_assoc, inl, inr, ⊎_elim, nat_le}
+use Rattle.xc_model.proofs.Common.{nat_lt, filter_map, cons_option, ordering_then, cases_eq, eq-eqb, ne_eqb, or_left, or_right}
+use Rattle.xc_model.proofs.Common.{filter-append, insert_number, distinct, first_some, or_else, Commit, commit_cmp, applies, applied_txn}
+use Rattle.xc_model.proofs.Common.{commit_of, applied, write_ops, writes_in, write_commits, txn_commits, commits, Event, Put, Hold, Version}
+use Rattle.xc_model.proofs.Common.{version_cmp, events, record_events, kind_events, upto, newest, last_of, value_of, ops_to, row}
+use Rattle.xc_model.proofs.Common.{after_puts, row-puts, commit-applied, Each-filter}
 use Rattle.xc_record.proofs.NumberLaws.{Rising, distinct-rising}
-use Rattle.xc_record.proofs.ListLaws.{Each-append, Each-filter, Each-weaker}
-use Rattle.xc_model.proofs.StableSort.{Each, Orders}
-use Rattle.xc_model.proofs.Paths.{Outcomes, commits_at, version_at, committed}
-use Rattle.xc_model.proofs.Parents.{heads}
-use Rattle.xc_model.proofs.Along.{owns, path_of}
-use Rattle.xc_model.proofs.ValidLogs.{KindAway, KindNumbered}
-use Rattle.xc_model.proofs.Flat.{flat-flat, flat-same, flat-all, filter-flat, map-flat, each-flat, each-all, puts-flat}
-use Rattle.xc_model.proofs.Groups.{flat-sort, sort-grouped, Distinct, IsIn}
-use Rattle.xc_model.proofs.Sorted.{Agreeing, Ties, sort-finer, ties-append, ties-same, ties-rising}
-use Rattle.xc_model.proofs.ApplyPath.{version-orders}
-use Rattle.xc_model.proofs.Intents.{Sound, away-none, kind_lefts, txn-lefts}
+use Rattle.xc_record.specs.declared.record.Kind.TheVariants as log
+use Rattle.xc_model.{proofs.Chain.Goes, proofs.Parents.heads, proofs.Elements.each-map}
+use Rattle.xc_model.proofs.ApplyPath.{filter-all, version-orders}
+use Rattle.xc_model.proofs.StableSort.{Each, Before, Orders, InOrder}
+use Rattle.xc_model.proofs.Along.{KindAway, KindNumbered, floor_by, owns, path_of, Outcomes, commits_at, version_at, committed}
+use Rattle.xc_model.proofs.Flat.{flat-flat, flat-all, flat-filter, flat-none, map-flat, puts-flat, flat-same, filter-flat, each-flat}
+use Rattle.xc_model.proofs.Flat.{each-all}
+use Rattle.xc_model.proofs.Sorts.{flat-sort, sort-in_order, Agreeing, sort-finer, ties-rising, sort-grouped, Distinct, IsIn, Ties}
+use Rattle.xc_model.proofs.Sorts.{ties-append, ties-same}
+
+-- what a key's rows rest on
+pub record Sound (es : List AcceptedTablet) (k : List ℕ) : Type 0 where
+  pub away : Each (λ e. owns (hash_of k) e.header ≡ false → Each (λ r. KindAway k r.kind) e.records) es
+  pub numbered : Each (λ e. Each (λ r. KindNumbered r.kind) e.records) es
+  pub goes : Goes 0 0 (path_of (hash_of k) es)
+
+-- tablets that don't own the key say nothing of it
+pub over-path : {B : Type 0} (g : Record → List B) (h : ℕ) (es : List AcceptedTablet)
+    → Each (λ e. owns h e.header ≡ false → flat_map g e.records ≡ []) es
+    → flat_map (λ e. flat_map g e.records) es ≡ flat_map g (path_of h es)
+over-path g h [] q = refl
+over-path g h (e ∷ es) q = go (over-path g h es q.1) (owns h e.header) refl
+  where
+    go : flat_map (λ e. flat_map g e.records) es ≡ flat_map g (path_of h es) → (b : Bool) → owns h e.header ≡ b
+        → flat_map g e.records ++ flat_map (λ e. flat_map g e.records) es ≡ flat_map g
+        (flat_map (λ w. w.records) (cond b (e ∷ filter (λ w. owns h w.header) es) (filter (λ w. owns h w.header) es)))
+    go ih true c = ap (λ w. flat_map g e.records ++ w) ih ∙ sym (flat_map-append g e.records (path_of h es))
+    go ih false c = ap (λ w. w ++ flat_map (λ (e : AcceptedTablet). flat_map g e.records) es) (q.0 c) ∙ ih
+
+pub away-none : {B : Type 0} (g : Record → List B) (k : List ℕ) (es : List AcceptedTablet) → Sound es k
+    → ((r : Record) → KindAway k r.kind → g r ≡ []) → flat_map (λ e. flat_map g e.records) es ≡ flat_map g (path_of (hash_of k) es)
+away-none g k es s f = over-path g (hash_of k) es
+    (Each-weaker (λ e. owns (hash_of k) e.header ≡ false → Each (λ r. KindAway k r.kind) e.records)
+    (λ e. owns (hash_of k) e.header ≡ false → flat_map g e.records ≡ [])
+    (λ e h c. flat-none g (λ r. KindAway k r.kind) f e.records (h c)) es s.away)
+
+-- of a transaction's operations, but for those of some subtransactions, on a key: what a record says
+abbrev pub kind_lefts : List ℕ → ℕ → List ℕ → Kind → List Written
+kind_lefts k n without (log.Intent m sub ops) = cond (m == n) (puts k (cond (not (has sub without)) ops [])) []
+kind_lefts k n without _ = []
+
+-- an operation on the key, with its intent's time
+pub record Timed : Type 0 where
+  pub time : ℕ
+  pub value : Written
+
+abbrev pub timed : ℕ → List Written → List Timed
+timed time vs = map (λ v. record { time = time; value = v }) vs
+
+abbrev is_kept : List ℕ → Provisional → Bool
+is_kept without i = not (has i.sub without)
+
+abbrev kept_ops : List ℕ → Provisional → List Op
+kept_ops without i = cond (is_kept without i) i.ops []
+
+abbrev intent_timed : List ℕ → List ℕ → Provisional → List Timed
+intent_timed k without i = timed i.time (puts k (kept_ops without i))
+
+timed-at : (time : ℕ) (vs : List Written) → Each (λ y. y.time ≡ time) (timed time vs)
+timed-at time vs = each-map (λ y. y.time ≡ time) (λ (v : Written). record { time = time; value = v }) vs (λ v. refl)
+
+timed-values : (time : ℕ) (vs : List Written) → map (λ y. y.value) (timed time vs) ≡ vs
+timed-values time [] = refl
+timed-values time (v ∷ vs) = ap (λ w. v ∷ w) (timed-values time vs)
+
+abbrev intent_of : ℕ → ℕ → ℕ → Kind → List Provisional
+intent_of n s time kind =
+    option_map_or (λ ops. record { time = time; tablet = s; sub = sub_of kind; ops = ops } ∷ []) (intent_ops n kind) []
+
+kind-timed : (k without : List ℕ) (n s time : ℕ) (kind : Kind)
+    → flat_map (intent_timed k without) (intent_of n s time kind) ≡ timed time (kind_lefts k n without kind)
+kind-timed k without n s time (log.Write ops) = refl
+kind-timed k without n s time (log.Intent m sub ops) = elim (m == n) as (λ b. flat_map (intent_timed k without)
+    (option_map_or (λ (ops : List Op). record { time = time; tablet = s; sub = sub; ops = ops } ∷ []) (cond b (Some ops) None) []) ≡
+    timed time (cond b (puts k (cond (not (has sub without)) ops [])) [])) [
+      | true ↦ append-nil (timed time (puts k (cond (not (has sub without)) ops [])))
+      | false ↦ refl
+    ]
+kind-timed k without n s time (log.Apply m c others) = refl
+kind-timed k without n s time _ = refl
+
+abbrev record_timed : List ℕ → List ℕ → ℕ → Record → List Timed
+record_timed k without n r = timed r.time (kind_lefts k n without r.kind)
+
+records-timed : (k without : List ℕ) (n s : ℕ) (rs : List Record)
+    → flat_map (intent_timed k without) (intents_in n s rs) ≡ flat_map (record_timed k without n) rs
+records-timed k without n s [] = refl
+records-timed k without n s (r ∷ rs) = flat_map-append (intent_timed k without) (intent_of n s r.time r.kind) (intents_in n s rs)
+    ∙ ap (λ w. w ++ flat_map (intent_timed k without) (intents_in n s rs)) (kind-timed k without n s r.time r.kind)
+    ∙ ap (λ w. record_timed k without n r ++ w) (records-timed k without n s rs)
+
+lefts-away : (k without : List ℕ) (n : ℕ) (kind : Kind) → KindAway k kind → kind_lefts k n without kind ≡ []
+lefts-away k without n (log.Write ops) h = refl
+lefts-away k without n (log.Intent m sub ops) h = elim (m == n) as (λ b. cond b (puts k (cond (not (has sub without)) ops [])) [] ≡ []) [
+  | true ↦ elim (has sub without) as (λ b. puts k (cond (not b) ops []) ≡ []) [ true ↦ refl | false ↦ h ]
+  | false ↦ refl
+]
+lefts-away k without n (log.Apply m c others) h = refl
+lefts-away k without n _ h = refl
+
+abbrev timed_cmp : Timed → Timed → Ordering
+timed_cmp x y = nat_cmp x.time y.time
+
+before-time : (x y : ℕ) → x ≤ y → is_gt (nat_cmp x y) ≡ false
+before-time x y h = grind (arith, nat_tests)
+
+block-in_order : (t : ℕ) (xs ys : List Timed) → Each (λ y. y.time ≡ t) xs → Each (λ y. t < y.time) ys → InOrder timed_cmp ys
+    → InOrder timed_cmp (xs ++ ys)
+block-in_order t [] ys h e s = s
+block-in_order t (x ∷ xs) ys h e s = (
+  Each-append (Before timed_cmp x) xs ys
+      (Each-weaker (λ y. y.time ≡ t) (Before timed_cmp x) (λ y q. let p : x.time ≡ t = h.0 in before-time x.time y.time (omega arith)) xs
+      h.1)
+      (Each-weaker (λ y. t < y.time) (Before timed_cmp x) (λ y q. let p : x.time ≡ t = h.0 in before-time x.time y.time (omega arith)) ys
+      e),
+  block-in_order t xs ys h.1 e s,
+)
+
+timed-in_order : (k without : List ℕ) (n f l : ℕ) (rs : List Record) → Goes f l rs
+    → InOrder timed_cmp (flat_map (record_timed k without n) rs) × Each (λ y. l < y.time) (flat_map (record_timed k without n) rs)
+timed-in_order k without n f l [] g = (tt, tt)
+timed-in_order k without n f l (r ∷ rs) g = let rest = timed-in_order k without n (floor_by f r.kind) r.time rs g.2 in
+    let vs = kind_lefts k n without r.kind in
+    let here = timed-at r.time vs in
+    let more = flat_map (record_timed k without n) rs in (
+      block-in_order r.time (timed r.time vs) more here rest.1 rest.0,
+      Each-append (λ y. l < y.time) (timed r.time vs) more
+          (Each-weaker (λ y. y.time ≡ r.time) (λ y. l < y.time) (λ y q. let p : l < r.time = g.0 in omega arith) (timed r.time vs) here)
+          (Each-weaker (λ y. r.time < y.time) (λ y. l < y.time) (λ y q. let p : l < r.time = g.0 in omega arith) more rest.1),
+    )
+
+number-total : (x y : ℕ) → is_gt (nat_cmp x y) ≡ true → is_gt (nat_cmp y x) ≡ false
+number-total x y h = grind (arith, nat_tests)
+
+number-trans : (x y z : ℕ) → is_gt (nat_cmp x y) ≡ false → is_gt (nat_cmp y z) ≡ false → is_gt (nat_cmp x z) ≡ false
+number-trans x y z h k = grind (arith, nat_tests)
+
+number-orders : Orders nat_cmp
+number-orders = record { total = λ x y h. number-total x y h; trans = λ x y z h k. number-trans x y z h k }
+
+-- ---- intents by log time alone
+
+abbrev time_cmp : Provisional → Provisional → Ordering
+time_cmp x y = nat_cmp x.time y.time
+
+time-finer : (x y : Provisional) → is_gt (provisional_cmp x y) ≡ false → is_gt (time_cmp x y) ≡ false
+time-finer x y e = grind (arith, nat_tests)
+
+intents-agree : (x y : Provisional) → x.tablet ≤ y.tablet → Agreeing provisional_cmp time_cmp x y
+intents-agree x y h e = grind (arith, nat_tests)
+
+own-intent : (s time sub : ℕ) (o : Option (List Op))
+    → Each (λ (x : Provisional). x.tablet ≡ s) (option_map_or (λ ops. record { time = time; tablet = s; sub = sub; ops = ops } ∷ []) o [])
+own-intent s time sub None = tt
+own-intent s time sub (Some ops) = (refl, tt)
+
+own-intents : (n s : ℕ) (rs : List Record) → Each (λ (x : Provisional). x.tablet ≡ s) (intents_in n s rs)
+own-intents n s [] = tt
+own-intents n s (r ∷ rs) = Each-append (λ (x : Provisional). x.tablet ≡ s) (intent_of n s r.time r.kind) (intents_in n s rs)
+    (own-intent s r.time (sub_of r.kind) (intent_ops n r.kind)) (own-intents n s rs)
+
+abbrev intents_of : ℕ → List AcceptedTablet → List Provisional
+intents_of n bs = flat_map (λ b. intents_in n b.header.id b.records) bs
+
+by-time : (n : ℕ) (bs : List AcceptedTablet) → Numbered 0 (heads bs)
+    → sort_by provisional_cmp (intents_of n bs) ≡ sort_by time_cmp (intents_of n bs)
+by-time n bs m = sort-finer provisional_cmp time_cmp time-finer (intents_of n bs)
+    (ties-rising provisional_cmp time_cmp (λ (x : Provisional). x.tablet) intents-agree (λ b. intents_in n b.header.id b.records)
+    (λ b. own-intents n b.header.id b.records) 0 bs m)
+
+-- ---- the law
+
+-- the operations of the intents, but for those of some subtransactions
+abbrev pub ops_without : Logs → ℕ → List ℕ → List Op
+ops_without logs n without = flat_map (λ i. i.ops) (filter (is_kept without) (intents logs n))
+
+pub lefts-without : (logs : Logs) (k without : List ℕ) (n : ℕ) → Numbered 0 (heads (accepted_tablets logs))
+    → Sound (accepted_tablets logs) k
+    → puts k (ops_without logs n without) ≡ flat_map (λ r. kind_lefts k n without r.kind) (path_of (hash_of k) (accepted_tablets logs))
+unfolding intents
+lefts-without logs k without n m s = let es = accepted_tablets logs in let p = path_of (hash_of k) es in let xs = intents_of n es in
+    let g = record_timed k without n in
+    let whole : flat_map (intent_timed k without) xs ≡ flat_map g p =
+    flat-flat (λ (b : AcceptedTablet). intents_in n b.header.id b.records) (intent_timed k without) es
+    ∙ flat-all (λ (b : AcceptedTablet). flat_map (intent_timed k without) (intents_in n b.header.id b.records)) (λ b. flat_map g b.records)
+    (λ b. records-timed k without n b.header.id b.records) es
+    ∙ away-none g k es s (λ r w. ap (timed r.time) (lefts-away k without n r.kind w)) in
+    ap (λ w. puts k (flat_map (λ (i : Provisional). i.ops) (filter (is_kept without) w))) (by-time n es m)
+    ∙ ap (puts k) (flat-filter (λ (i : Provisional). i.ops) (is_kept without) (sort_by time_cmp xs))
+    ∙ puts-flat k (kept_ops without) (sort_by time_cmp xs)
+    ∙ flat-all (λ (i : Provisional). puts k (kept_ops without i)) (λ i. map (λ y. y.value) (intent_timed k without i))
+    (λ i. sym (timed-values i.time (puts k (kept_ops without i)))) (sort_by time_cmp xs)
+    ∙ sym (map-flat (λ (y : Timed). y.value) (intent_timed k without) (sort_by time_cmp xs))
+    ∙ ap (map (λ (y : Timed). y.value))
+    (flat-sort nat_cmp number-orders (λ (i : Provisional). i.time) (λ (y : Timed). y.time) (intent_timed k without)
+    (λ i. timed-at i.time (puts k (kept_ops without i)))
+    (record { total = λ x y h. number-total x.time y.time h; trans = λ x y z h q. number-trans x.time y.time z.time h q }) xs
+    ∙ ap (sort_by timed_cmp) whole ∙ sort-in_order timed_cmp (flat_map g p) (timed-in_order k without n 0 0 p s.goes).0)
+    ∙ map-flat (λ (y : Timed). y.value) g p
+    ∙ flat-all (λ r. map (λ (y : Timed). y.value) (g r)) (λ r. kind_lefts k n without r.kind)
+    (λ r. timed-values r.time (kind_lefts k n without r.kind)) p
+
+-- those that were not rolled back
+pub txn-lefts : (logs : Logs) (k : List ℕ) (n : ℕ) → Numbered 0 (heads (accepted_tablets logs)) → Sound (accepted_tablets logs) k
+    → puts k (txn_ops logs n) ≡ flat_map (λ r. kind_lefts k n (undone logs n) r.kind) (path_of (hash_of k) (accepted_tablets logs))
+unfolding txn_ops
+txn-lefts logs k n m s = lefts-without logs k (undone logs n) n m s
+
+-- all of them
+pub provisional-lefts : (logs : Logs) (k : List ℕ) (n : ℕ) → Numbered 0 (heads (accepted_tablets logs)) → Sound (accepted_tablets logs) k
+    → puts k (provisional_ops logs n) ≡ flat_map (λ r. kind_lefts k n [] r.kind) (path_of (hash_of k) (accepted_tablets logs))
+unfolding provisional_ops
+provisional-lefts logs k n m s =
+    ap (λ w. puts k (flat_map (λ (i : Provisional). i.ops) w)) (sym (filter-all (intents logs n))) ∙ lefts-without logs k [] n m s
+
+-- ---- the row at a key is what the newest committed operation of its path leaves there
 
 -- what the logs make of each transaction
 abbrev pub outcomes_of : Logs → Outcomes
@@ -54,15 +241,12 @@ committed-append outcomes (Put time v ∷ es) fs =
 committed-append outcomes (Hold n sub time v ∷ es) fs =
     ap (λ w. version_at (commits_at outcomes n sub) n v ++ w) (committed-append outcomes es fs)
     ∙ sym (append_assoc (version_at (commits_at outcomes n sub) n v) (committed outcomes es) (committed outcomes fs))
-committed-append outcomes (Apply n c without ∷ es) fs = committed-append outcomes es fs
-committed-append outcomes (Abort n ∷ es) fs = committed-append outcomes es fs
-committed-append outcomes (Safe v ∷ es) fs = committed-append outcomes es fs
+committed-append outcomes (_ ∷ es) fs = committed-append outcomes es fs
 
 pub committed-records : (outcomes : Outcomes) (k : List ℕ) (rs : List Record)
     → committed outcomes (events k rs) ≡ flat_map (λ r. committed outcomes (record_events k r)) rs
 committed-records outcomes k [] = refl
-committed-records outcomes k (r ∷ rs) =
-    committed-append outcomes (record_events k r) (events k rs)
+committed-records outcomes k (r ∷ rs) = committed-append outcomes (record_events k r) (events k rs)
     ∙ ap (λ w. committed outcomes (record_events k r) ++ w) (committed-records outcomes k rs)
 
 abbrev version_made : ℕ → ℕ → Written → Version
@@ -94,19 +278,14 @@ version-other n m (Some c) v h = grind (arith, nat_tests)
 holds-other : (outcomes : Outcomes) (n m sub time : ℕ) (vs : List Written) → n ≢ m
     → filter (has_number n) (committed outcomes (map (λ v. Hold m sub time v) vs)) ≡ []
 holds-other outcomes n m sub time [] h = refl
-holds-other outcomes n m sub time (v ∷ vs) h =
-    let o = commits_at outcomes m sub in
+holds-other outcomes n m sub time (v ∷ vs) h = let o = commits_at outcomes m sub in
     let rest = committed outcomes (map (λ v. Hold m sub time v) vs) in
     filter-append (has_number n) (version_at o m v) rest ∙ ap (λ w. w ++ filter (has_number n) rest) (version-other n m o v h)
     ∙ holds-other outcomes n m sub time vs h
 
 abbrev kind_puts : List ℕ → Kind → List Written
 kind_puts k (log.Write ops) = puts k ops
-kind_puts k (log.Intent n sub ops) = []
-kind_puts k (log.Apply n c without) = []
-kind_puts k (log.Abort n) = []
-kind_puts k (log.Safe v) = []
-kind_puts k (log.Split at left right) = []
+kind_puts k _ = []
 
 kind-writes : (outcomes : Outcomes) (k : List ℕ) (time : ℕ) (kind : Kind) → KindNumbered kind
     → map (λ v. version_made time 0 v) (kind_puts k kind) ≡ filter (has_number 0) (committed outcomes (kind_events k time kind))
@@ -114,17 +293,11 @@ kind-writes outcomes k time (log.Write ops) h = puts-zero outcomes time (puts k 
 kind-writes outcomes k time (log.Intent n sub ops) h =
     sym (holds-other outcomes 0 n sub time (puts k ops) (λ q. let z : ⊥ = omega arith in z))
 kind-writes outcomes k time (log.Apply n c without) h = refl
-kind-writes outcomes k time (log.Abort n) h = refl
-kind-writes outcomes k time (log.Safe v) h = refl
-kind-writes outcomes k time (log.Split at left right) h = refl
+kind-writes outcomes k time _ h = refl
 
 writes-away : (k : List ℕ) (kind : Kind) → KindAway k kind → kind_puts k kind ≡ []
 writes-away k (log.Write ops) h = h
-writes-away k (log.Intent n sub ops) h = refl
-writes-away k (log.Apply n c without) h = refl
-writes-away k (log.Abort n) h = refl
-writes-away k (log.Safe v) h = refl
-writes-away k (log.Split at left right) h = refl
+writes-away k _ h = refl
 
 abbrev write_of : ℕ → ℕ → Kind → List Commit
 write_of s time kind = option_map_or (λ ops. record { time = time; txn = 0; tablet = s; ops = ops } ∷ []) (write_ops kind) []
@@ -132,35 +305,27 @@ write_of s time kind = option_map_or (λ ops. record { time = time; txn = 0; tab
 kind-write : (k : List ℕ) (s time : ℕ) (kind : Kind)
     → flat_map (versions_of k) (write_of s time kind) ≡ map (λ v. version_made time 0 v) (kind_puts k kind)
 kind-write k s time (log.Write ops) = append-nil (map (λ v. version_made time 0 v) (puts k ops))
-kind-write k s time (log.Intent n sub ops) = refl
-kind-write k s time (log.Apply n c without) = refl
-kind-write k s time (log.Abort n) = refl
-kind-write k s time (log.Safe v) = refl
-kind-write k s time (log.Split at left right) = refl
+kind-write k s time _ = refl
 
 abbrev record_versions : List ℕ → Record → List Version
 record_versions k r = map (λ v. version_made r.time 0 v) (kind_puts k r.kind)
 
 records-write : (k : List ℕ) (s : ℕ) (rs : List Record) → flat_map (versions_of k) (writes_in s rs) ≡ flat_map (record_versions k) rs
 records-write k s [] = refl
-records-write k s (r ∷ rs) =
-    flat_map-append (versions_of k) (write_of s r.time r.kind) (writes_in s rs)
+records-write k s (r ∷ rs) = flat_map-append (versions_of k) (write_of s r.time r.kind) (writes_in s rs)
     ∙ ap (λ w. w ++ flat_map (versions_of k) (writes_in s rs)) (kind-write k s r.time r.kind)
     ∙ ap (λ w. record_versions k r ++ w) (records-write k s rs)
 
 path-numbered : (h : ℕ) (es : List AcceptedTablet) → Each (λ e. Each (λ r. KindNumbered r.kind) e.records) es
     → Each (λ r. KindNumbered r.kind) (path_of h es)
-path-numbered h es n =
-    each-flat (λ r. KindNumbered r.kind) (λ e. e.records) (λ e. Each (λ r. KindNumbered r.kind) e.records) (λ e w. w)
+path-numbered h es n = each-flat (λ r. KindNumbered r.kind) (λ e. e.records) (λ e. Each (λ r. KindNumbered r.kind) e.records) (λ e w. w)
     (filter (λ e. owns h e.header) es) (Each-filter (λ e. Each (λ r. KindNumbered r.kind) e.records) (λ e. owns h e.header) es n)
 
 writes-at : (logs : Logs) (outcomes : Outcomes) (k : List ℕ) → Sound (accepted_tablets logs) k
     → flat_map (versions_of k) (write_commits logs) ≡ filter (has_number 0)
     (committed outcomes (events k (path_of (hash_of k) (accepted_tablets logs))))
 unfolding write_commits
-writes-at logs outcomes k s =
-    let es = accepted_tablets logs in
-    let p = path_of (hash_of k) es in
+writes-at logs outcomes k s = let es = accepted_tablets logs in let p = path_of (hash_of k) es in
     flat-flat (λ (b : AcceptedTablet). writes_in b.header.id b.records) (versions_of k) es
     ∙ flat-all (λ (b : AcceptedTablet). flat_map (versions_of k) (writes_in b.header.id b.records))
     (λ b. flat_map (record_versions k) b.records) (λ b. records-write k b.header.id b.records) es
@@ -178,8 +343,7 @@ version-same n c o v e = ap (λ w. filter (has_number n) (version_at w n v)) e �
 holds-same : (outcomes : Outcomes) (n c sub time : ℕ) (vs : List Written) → commits_at outcomes n sub ≡ Some c
     → filter (has_number n) (committed outcomes (map (λ v. Hold n sub time v) vs)) ≡ map (λ v. version_made c n v) vs
 holds-same outcomes n c sub time [] e = refl
-holds-same outcomes n c sub time (v ∷ vs) e =
-    let o = commits_at outcomes n sub in
+holds-same outcomes n c sub time (v ∷ vs) e = let o = commits_at outcomes n sub in
     let rest = committed outcomes (map (λ v. Hold n sub time v) vs) in
     filter-append (has_number n) (version_at o n v) rest ∙ ap (λ w. w ++ filter (has_number n) rest) (version-same n c o v e)
     ∙ ap (λ w. version_made c n v ∷ w) (holds-same outcomes n c sub time vs e)
@@ -194,35 +358,25 @@ holds-none outcomes n sub time (v ∷ vs) e =
 intent-holds : (outcomes : Outcomes) (k : List ℕ) (n c sub time : ℕ) (ops : List Op) → outcomes.commit n ≡ Some c
     → map (λ v. version_made c n v) (puts k (cond (not (has sub (outcomes.undone n))) ops [])) ≡ filter (has_number n)
     (committed outcomes (map (λ v. Hold n sub time v) (puts k ops)))
-intent-holds outcomes k n c sub time ops h =
-    let at : (b : Bool) → has sub (outcomes.undone n) ≡ b
-    → map (λ v. version_made c n v) (puts k (cond (not b) ops [])) ≡ filter (has_number n)
-    (committed outcomes (map (λ v. Hold n sub time v) (puts k ops))) =
-    λ b. elim b as
-    (λ b. has sub (outcomes.undone n) ≡ b → map (λ v. version_made c n v) (puts k (cond (not b) ops [])) ≡ filter (has_number n)
-    (committed outcomes (map (λ v. Hold n sub time v) (puts k ops)))) [
-      | true ↦ λ e. sym
-          (ap (filter (has_number n)) (holds-none outcomes n sub time (puts k ops) (ap (λ b. cond b None (outcomes.commit n)) e)))
-      | false ↦ λ e. sym (holds-same outcomes n c sub time (puts k ops) (ap (λ b. cond b None (outcomes.commit n)) e ∙ h))
-    ]
-    in at (has sub (outcomes.undone n)) refl
+intent-holds outcomes k n c sub time ops h = at (has sub (outcomes.undone n)) refl
+  where
+    at : (b : Bool) → has sub (outcomes.undone n) ≡ b → map (λ v. version_made c n v) (puts k (cond (not b) ops [])) ≡ filter (has_number n)
+        (committed outcomes (map (λ v. Hold n sub time v) (puts k ops)))
+    at true e = sym (ap (filter (has_number n)) (holds-none outcomes n sub time (puts k ops) (ap (λ b. cond b None (outcomes.commit n)) e)))
+    at false e = sym (holds-same outcomes n c sub time (puts k ops) (ap (λ b. cond b None (outcomes.commit n)) e ∙ h))
 
 kind-holds : (outcomes : Outcomes) (k : List ℕ) (n c time : ℕ) (kind : Kind) → 0 < n → outcomes.commit n ≡ Some c
     → map (λ v. version_made c n v) (kind_lefts k n (outcomes.undone n) kind) ≡ filter (has_number n)
     (committed outcomes (kind_events k time kind))
 kind-holds outcomes k n c time (log.Write ops) p h = sym (puts-other outcomes n time (puts k ops) p)
-kind-holds outcomes k n c time (log.Intent m sub ops) p h =
-    let left = puts k (cond (not (has sub (outcomes.undone n))) ops []) in
-    ⊎_elim
+kind-holds outcomes k n c time (log.Intent m sub ops) p h = let left = puts k (cond (not (has sub (outcomes.undone n))) ops []) in ⊎_elim
     (λ e. ap (λ b. map (λ v. version_made c n v) (cond b left [])) (eq-eqb m n (sym e)) ∙ intent-holds outcomes k n c sub time ops h
     ∙ ap (λ w. filter (has_number n) (committed outcomes (map (λ v. Hold w sub time v) (puts k ops)))) e)
     (λ e. ap (λ b. map (λ v. version_made c n v) (cond b left [])) (ne_eqb m n (λ q. e (sym q)))
     ∙ sym (holds-other outcomes n m sub time (puts k ops) e))
     (cases_eq n m)
 kind-holds outcomes k n c time (log.Apply m d without) p h = refl
-kind-holds outcomes k n c time (log.Abort m) p h = refl
-kind-holds outcomes k n c time (log.Safe v) p h = refl
-kind-holds outcomes k n c time (log.Split at left right) p h = refl
+kind-holds outcomes k n c time _ p h = refl
 
 abbrev commit_by : Option ℕ → ℕ → List Op → List Commit
 commit_by o n ops = option_map_or (λ c. record { time = c; txn = n; tablet = 0; ops = ops } ∷ []) o []
@@ -231,9 +385,7 @@ txn-at : (logs : Logs) (k : List ℕ) (n c : ℕ) → Numbered 0 (heads (accepte
     → commit_of logs n ≡ Some c
     → flat_map (versions_of k) (commit_by (commit_of logs n) n (txn_ops logs n)) ≡ filter (has_number n)
     (committed (outcomes_of logs) (events k (path_of (hash_of k) (accepted_tablets logs))))
-txn-at logs k n c m s h e =
-    let p = path_of (hash_of k) (accepted_tablets logs) in
-    let outcomes = outcomes_of logs in
+txn-at logs k n c m s h e = let p = path_of (hash_of k) (accepted_tablets logs) in let outcomes = outcomes_of logs in
     ap (λ o. flat_map (versions_of k) (commit_by o n (txn_ops logs n))) e
     ∙ append-nil (map (λ v. version_made c n v) (puts k (txn_ops logs n)))
     ∙ ap (map (λ v. version_made c n v)) (txn-lefts logs k n m s)
@@ -283,14 +435,12 @@ here-records (r ∷ rs) h =
       rest,
     )
     go rest (log.Abort n) e k = rest
-    go rest (log.Safe v) e k = rest
-    go rest (log.Split at left right) e k = rest
+    go rest _ e k = rest
 
 in-tablets : (es : List AcceptedTablet) → Each (λ e. Each (λ r. KindNumbered r.kind) e.records) es
     → Each (KnownIn es) (flat_map (λ b. filter_map (λ r. applied_txn r.kind) b.records) es)
 in-tablets [] h = tt
-in-tablets (b ∷ es) h =
-    let rest = flat_map (λ (b : AcceptedTablet). filter_map (λ r. applied_txn r.kind) b.records) es in
+in-tablets (b ∷ es) h = let rest = flat_map (λ (b : AcceptedTablet). filter_map (λ r. applied_txn r.kind) b.records) es in
     let later : ℕ → Option ℕ = λ n. first_some (λ (b : AcceptedTablet). first_some (λ r. applies n r.kind) b.records) es in
     Each-append (KnownIn (b ∷ es)) (filter_map (λ r. applied_txn r.kind) b.records) rest
     (Each-weaker (KnownHere b.records) (KnownIn (b ∷ es))
@@ -301,12 +451,11 @@ in-tablets (b ∷ es) h =
 
 each-insert : (P : ℕ → Type 0) (n : ℕ) (ns : List ℕ) → P n → Each P ns → Each P (insert_number n ns)
 each-insert P n [] p h = (p, tt)
-each-insert P n (m ∷ ms) p h =
-    elim (nat_lt n m) as (λ b. Each P (cond b (n ∷ m ∷ ms) (cond (n == m) (m ∷ ms) (m ∷ insert_number n ms)))) [
-      | true ↦ (p, h)
-      | false ↦ elim (n == m) as (λ b. Each P (cond b (m ∷ ms) (m ∷ insert_number n ms)))
-          [ true ↦ h | false ↦ (h.0, each-insert P n ms p h.1) ]
-    ]
+each-insert P n (m ∷ ms) p h = elim (nat_lt n m) as (λ b. Each P (cond b (n ∷ m ∷ ms) (cond (n == m) (m ∷ ms) (m ∷ insert_number n ms)))) [
+  | true ↦ (p, h)
+  | false ↦ elim (n == m) as (λ b. Each P (cond b (m ∷ ms) (m ∷ insert_number n ms)))
+      [ true ↦ h | false ↦ (h.0, each-insert P n ms p h.1) ]
+]
 
 each-distinct : (P : ℕ → Type 0) (ns : List ℕ) → Each P ns → Each P (distinct ns)
 each-distinct P [] h = tt
@@ -357,9 +506,7 @@ committed-in logs (Put time v ∷ es) = (inl refl, committed-in logs es)
 committed-in logs (Hold n sub time v ∷ es) =
     Each-append (λ x. IsIn x.txn (0 ∷ applied logs)) (version_at (commits_at (outcomes_of logs) n sub) n v)
     (committed (outcomes_of logs) es) (version-in logs n sub v) (committed-in logs es)
-committed-in logs (Apply n c without ∷ es) = committed-in logs es
-committed-in logs (Abort n ∷ es) = committed-in logs es
-committed-in logs (Safe v ∷ es) = committed-in logs es
+committed-in logs (_ ∷ es) = committed-in logs es
 
 -- ---- commits by time and number alone
 
@@ -387,16 +534,14 @@ tablet-agrees x y h e = grind (arith, nat_tests)
 write-first : (x y : Commit) → x.txn ≡ 0 → 0 < y.txn → Agreeing commit_cmp commit_pair x y
 write-first x y a b e = grind (arith, nat_tests)
 
-own-write : (s time : ℕ) (o : Option (List Op))
-    → Each (λ (x : Commit). (x.tablet ≡ s) × (x.txn ≡ 0))
+own-write : (s time : ℕ) (o : Option (List Op)) → Each (λ (x : Commit). (x.tablet ≡ s) × (x.txn ≡ 0))
     (option_map_or (λ ops. record { time = time; txn = 0; tablet = s; ops = ops } ∷ []) o [])
 own-write s time None = tt
 own-write s time (Some ops) = ((refl, refl), tt)
 
 own-writes : (s : ℕ) (rs : List Record) → Each (λ (x : Commit). (x.tablet ≡ s) × (x.txn ≡ 0)) (writes_in s rs)
 own-writes s [] = tt
-own-writes s (r ∷ rs) =
-    Each-append (λ (x : Commit). (x.tablet ≡ s) × (x.txn ≡ 0)) (write_of s r.time r.kind) (writes_in s rs)
+own-writes s (r ∷ rs) = Each-append (λ (x : Commit). (x.tablet ≡ s) × (x.txn ≡ 0)) (write_of s r.time r.kind) (writes_in s rs)
     (own-write s r.time (write_ops r.kind)) (own-writes s rs)
 
 commit-tablet : (o : Option ℕ) (n : ℕ) (ops : List Op) → Each (λ (x : Commit). x.tablet ≡ 0) (commit_by o n ops)
@@ -410,9 +555,7 @@ commit-number (Some c) n ops h = (h, tt)
 all-tied : (logs : Logs) → Numbered 0 (heads (accepted_tablets logs)) → Each (Known logs) (applied logs)
     → Ties commit_cmp commit_pair (write_commits logs ++ txn_commits logs)
 unfolding write_commits txn_commits
-all-tied logs m known =
-    let bs = accepted_tablets logs in
-    let f : ℕ → List Commit = λ n. commit_by (commit_of logs n) n (txn_ops logs n) in
+all-tied logs m known = let bs = accepted_tablets logs in let f : ℕ → List Commit = λ n. commit_by (commit_of logs n) n (txn_ops logs n) in
     let g : AcceptedTablet → List Commit = λ b. writes_in b.header.id b.records in
     let zero : Each (λ (y : Commit). y.tablet ≡ 0) (flat_map f (applied logs)) =
     each-flat (λ (y : Commit). y.tablet ≡ 0) f (λ n. Unit {0}) (λ n _. commit-tablet (commit_of logs n) n (txn_ops logs n))
@@ -440,15 +583,14 @@ apart x y h k = grind (arith, nat_tests)
 
 made-keys : (c n : ℕ) (vs : List Written)
     → Each (λ (x : Version). ◌≡◌ {A = ℕ × ℕ} (x.commit, x.txn) (c, n)) (map (λ v. version_made c n v) vs)
-made-keys c n [] = tt
-made-keys c n (v ∷ vs) = (refl, made-keys c n vs)
+made-keys c n vs =
+    each-map (λ (x : Version). ◌≡◌ {A = ℕ × ℕ} (x.commit, x.txn) (c, n)) (λ v. version_made c n v) vs (λ v. refl)
 
 txns-at : (logs : Logs) (k : List ℕ) → Numbered 0 (heads (accepted_tablets logs)) → Sound (accepted_tablets logs) k
     → flat_map (versions_of k) (txn_commits logs) ≡ flat_map
     (λ n. filter (has_number n) (committed (outcomes_of logs) (events k (path_of (hash_of k) (accepted_tablets logs))))) (applied logs)
 unfolding txn_commits
-txns-at logs k m s =
-    flat-flat (λ n. commit_by (commit_of logs n) n (txn_ops logs n)) (versions_of k) (applied logs)
+txns-at logs k m s = flat-flat (λ n. commit_by (commit_of logs n) n (txn_ops logs n)) (versions_of k) (applied logs)
     ∙ flat-same (λ n. flat_map (versions_of k) (commit_by (commit_of logs n) n (txn_ops logs n)))
     (λ n. filter (has_number n) (committed (outcomes_of logs) (events k (path_of (hash_of k) (accepted_tablets logs))))) (Known logs)
     (λ n h. txn-at logs k n h.1.0 m s h.0 h.1.1) (applied logs) (numbers-known logs s.numbered)
@@ -458,9 +600,7 @@ pub commits-at : (logs : Logs) (k : List ℕ) → Numbered 0 (heads (accepted_ta
     → flat_map (versions_of k) (commits logs) ≡ sort_by version_cmp
     (committed (outcomes_of logs) (events k (path_of (hash_of k) (accepted_tablets logs))))
 unfolding commits
-commits-at logs k m s =
-    let evs = events k (path_of (hash_of k) (accepted_tablets logs)) in
-    let x = committed (outcomes_of logs) evs in
+commits-at logs k m s = let evs = events k (path_of (hash_of k) (accepted_tablets logs)) in let x = committed (outcomes_of logs) evs in
     let all = write_commits logs ++ txn_commits logs in
     let known = numbers-known logs s.numbered in
     ap (flat_map (versions_of k)) (sort-finer commit_cmp commit_pair pair-finer all (all-tied logs m known))
@@ -491,8 +631,7 @@ made-upto t c n (v ∷ vs) = grind (arith, made-upto t c n vs)
 commits-upto : (t : ℕ) (k : List ℕ) (cs : List Commit)
     → filter (upto t) (flat_map (versions_of k) cs) ≡ flat_map (versions_of k) (filter (λ c. nat_le c.time t) cs)
 commits-upto t k [] = refl
-commits-upto t k (c ∷ cs) =
-    let early = filter (λ (c : Commit). nat_le c.time t) cs in
+commits-upto t k (c ∷ cs) = let early = filter (λ (c : Commit). nat_le c.time t) cs in
     filter-append (upto t) (versions_of k c) (flat_map (versions_of k) cs)
     ∙ ap (λ w. w ++ filter (upto t) (flat_map (versions_of k) cs)) (made-upto t c.time c.txn (puts k c.ops))
     ∙ ap (λ w. cond (nat_le c.time t) (versions_of k c) [] ++ w) (commits-upto t k cs)
@@ -514,10 +653,7 @@ pub row-newest : (logs : Logs) (t : ℕ) (k : List ℕ) → Numbered 0 (heads (a
     → row logs t k ≡ value_of
     (newest t (sort_by version_cmp (committed (outcomes_of logs) (events k (path_of (hash_of k) (accepted_tablets logs))))))
 unfolding ops_to
-row-newest logs t k m s =
-    let cs = filter (λ (c : Commit). nat_le c.time t) (commits logs) in
-    row-puts logs t k
-    ∙ ap (after_puts None)
+row-newest logs t k m s = let cs = filter (λ (c : Commit). nat_le c.time t) (commits logs) in row-puts logs t k ∙ ap (after_puts None)
     (puts-flat k (λ (c : Commit). c.ops) cs
     ∙ flat-all (λ (c : Commit). puts k c.ops) (λ c. map (λ v. v.value) (versions_of k c))
     (λ c. sym (made-values c.time c.txn (puts k c.ops))) cs

@@ -1,32 +1,21 @@
 -- What the commands keep of a session.
-use Rattle.std.proofs.Common.{◌≡◌, ◌==◌, ℕ, zero, suc, ◌-◌, ◌<◌, ◌≤◌, min, max, Bool, true, false, ◌&&◌, List, [], ◌∷◌, map, length}
-use Rattle.std.proofs.Common.{replicate, Option, Some, None, refl, ap, sym, ◌∙◌, arith, subst, ⊎_elim}
-use Rattle.std.specs.Prelude.{nat_lt, slice_get, slice_index, slice_set, if◌then◌else◌, option_and_then, MatchOption}
-use Rattle.std.specs.Option.{option_map_or, option_map}
-use Rattle.std.proofs.lemmas.Bool.{cases_Bool, cases_eq, eqb-true, eq-eqb, true≢false}
-use Rattle.std.proofs.lemmas.Bool.Decides.{nat_tests}
-use Rattle.std.proofs.lemmas.List.{get_or-set_same, get_or-set_other, length-set, length-replicate, length-map, map-set, set-get_or}
-use Rattle.std.proofs.lemmas.List.{get_or_past}
-use Rattle.std.proofs.lemmas.Option.{same_Some, none-some, slice_get_within, slice_get_past, slice_get-map}
-use Rattle.xc_record.specs.declared.record.Header.{Header}
-use Rattle.xc_record.specs.declared.record.Tablet.{Tablet}
-use Rattle.xc_record.specs.declared.record.Logs.{Logs}
-use Rattle.xc_record.specs.declared.record.Break.{Break}
-use Rattle.xc_record.specs.declared.session.Command.{Command}
-use Rattle.xc_record.specs.declared.session.Command.TheVariants as command
+use Rattle.xc_model.proofs.Common.{◌≡◌, ◌==◌, ℕ, zero, suc, ◌-◌, ◌<◌, ◌≤◌, min, max, Bool, true, false, ◌&&◌, List, [], ◌∷◌, map, length}
+use Rattle.xc_model.proofs.Common.{replicate, Option, Some, None, refl, ap, sym, ◌∙◌, arith, subst, ⊎_elim, nat_lt, slice_get, slice_index}
+use Rattle.xc_model.proofs.Common.{slice_set, if◌then◌else◌, option_and_then, MatchOption, option_map_or, option_map, cases_Bool, cases_eq}
+use Rattle.xc_model.proofs.Common.{eqb-true, eq-eqb, true≢false, nat_tests, get_or-set_same, get_or-set_other, length-set, length-replicate}
+use Rattle.xc_model.proofs.Common.{length-map, map-set, set-get_or, get_or_past, same_Some, none-some, slice_get_within, slice_get_past}
+use Rattle.xc_model.proofs.Common.{slice_get-map, Header, Tablet, Logs, Break, Command, PollAnswer, AcceptedTablet, accepted_tablets}
+use Rattle.xc_model.proofs.Common.{accepted_tablet, records, parent_of, halt, halt_of, place, is_closed_in, is_closed, is_started}
+use Rattle.xc_model.proofs.Common.{safe_time, StartsAfter, IsPlaces, is_valid, Position, Session, new_position, position, places_of}
+use Rattle.xc_model.proofs.Common.{safe_now, start, IsInOrder, IsSession, awaits, answer_from, poll_answer, with_position, moved, set_back}
+use Rattle.xc_model.proofs.Common.{acknowledge, poll_step, stop_step, drained_to, drained, prune_step, open_step, is_change}
+use Rattle.xc_model.proofs.Common.{safe_time-rises, Each}
 use Rattle.xc_record.specs.declared.session.Line.{Line}
-use Rattle.xc_record.specs.declared.session.Line.TheVariants as line
-use Rattle.xc_record.specs.declared.session.PollAnswer.{PollAnswer}
-use Rattle.xc_record.specs.declared.session.PollAnswer.TheVariants as poll
-use Rattle.xc_record.specs.Accepted.{AcceptedTablet, accepted_tablets, accepted_tablet, records, parent_of, halt, halt_of}
-use Rattle.xc_record.specs.SafeTime.{place, is_closed_in, is_closed, is_started, safe_time, StartsAfter, IsPlaces}
-use Rattle.xc_record.specs.Valid.{is_valid}
-use Rattle.xc_record.specs.Session.{Position, Session, new_position, position, places_of, safe_now, start, IsInOrder, IsSession}
-use Rattle.xc_record.specs.Step.{awaits, answer_from, poll_answer, with_position, moved, set_back, acknowledge, poll_step, stop_step}
-use Rattle.xc_record.specs.Step.{drained_to, drained, prune_step, open_step, is_change, step}
-use Rattle.xc_record.proofs.SafeLaws.{safe_time-rises}
-use Rattle.xc_record.proofs.ListLaws.{Each}
+use Rattle.xc_record.specs.Step.{step}
 use Rattle.xc_record.proofs.HeaderLists.{get_of_headers}
+use Rattle.xc_record.specs.declared.session.Command.TheVariants as command
+use Rattle.xc_record.specs.declared.session.Line.TheVariants as line
+use Rattle.xc_record.specs.declared.session.PollAnswer.TheVariants as poll
 use Rattle.xc_model.specs.Laws.{StepsKeepSessions, SessionsStart, StepsKeepTimes}
 use Rattle.xc_model.proofs.Parents.{heads-logs, length-logs, get-id, get-under, UnderParent, each-get, each-from, closed-of, none-closed}
 
@@ -71,8 +60,7 @@ stays-at logs xs ys p h w = go (slice_get (accepted_tablets logs) p) refl
   where
     go : (o : Option AcceptedTablet) → slice_get (accepted_tablets logs) p ≡ o → is_closed logs xs p ≡ true → is_closed logs ys p ≡ true
     go None e c = absurd (true≢false (sym c ∙ none-closed logs xs p e))
-    go (Some b) e c =
-        closed-of logs ys p b e
+    go (Some b) e c = closed-of logs ys p b e
         ∙ stays b xs ys (h b.header.id) (each-get (λ b. place ys b ≤ length b.records) (accepted_tablets logs) p b w e)
         (sym (closed-of logs xs p b e) ∙ c)
 
@@ -104,8 +92,7 @@ module _ (logs : Logs) (valid : is_valid logs ≡ true) (ps : List ℕ) (legal :
 
   at-same : (i : ℕ) (d : AcceptedTablet) → slice_get (accepted_tablets logs) i ≡ Some d → i ≡ s → (d ≡ b) × (place (slice_set ps s v) d ≡ v)
   at-same i d e q = (
-    same_Some d b (sym e ∙ ap (slice_get (accepted_tablets logs)) q
-        ∙ there),
+    same_Some d b (sym e ∙ ap (slice_get (accepted_tablets logs)) q ∙ there),
     ap (slice_index (slice_set ps s v)) (get-id logs i d valid e ∙ q) ∙ get_or-set_same ps s v 0 low,
   )
 
@@ -114,8 +101,7 @@ module _ (logs : Logs) (valid : is_valid logs ≡ true) (ps : List ℕ) (legal :
   at-other i d e n = get_or-set_other ps s d.header.id v 0 (λ q. n (sym (get-id logs i d valid e) ∙ q))
 
   within-new : Each (λ d. place (slice_set ps s v) d ≤ length d.records) (accepted_tablets logs)
-  within-new = each-from (λ d. place (slice_set ps s v) d ≤ length d.records) (accepted_tablets logs) (λ i d e.
-      ⊎_elim
+  within-new = each-from (λ d. place (slice_set ps s v) d ≤ length d.records) (accepted_tablets logs) (λ i d e. ⊎_elim
       (λ q. let both = at-same i d e q in let l : length d.records ≡ length b.records = ap (λ (w : AcceptedTablet). length w.records) both.0
       in let p = both.1 in omega arith)
       (λ n. let p = at-other i d e n in let w : place ps d ≤ length d.records = each-get (λ d. place ps d ≤ length d.records)
@@ -148,16 +134,14 @@ parent-same logs s b e = go (slice_get logs.tablets s) refl
     go : (o : Option Tablet) → slice_get logs.tablets s ≡ o → parent_of logs s ≡ b.header.parent
     go None q = let none : None ≡ Some b.header = ap (option_map (λ (t : Tablet). t.header)) (sym q)
         ∙ head in absurd (none-some b.header none)
-    go (Some t) q =
-        ap (λ o. option_and_then (λ (t : Tablet). t.header.parent) o) q
+    go (Some t) q = ap (λ o. option_and_then (λ (t : Tablet). t.header.parent) o) q
         ∙ ap (λ (h : Header). h.parent) (same_Some t.header b.header (ap (option_map (λ (t : Tablet). t.header)) (sym q) ∙ head))
 
 -- where nothing is awaited, the tablet has started
 free-started : (logs : Logs) (m : Session) (s : ℕ) (q : Option ℕ) → parent_of logs s ≡ q → awaits logs m s ≡ None
     → is_started logs (places_of m) q ≡ true
 free-started logs m s None q e = refl
-free-started logs m s (Some p) q e =
-    go (is_closed logs (places_of m) p)
+free-started logs m s (Some p) q e = go (is_closed logs (places_of m) p)
     (sym (ap (λ o. option_and_then (λ parent. if is_closed logs (places_of m) parent then None else Some parent) o) q) ∙ e)
   where
     go : (c : Bool) → (if c then None else Some p) ≡ None → c ≡ true
@@ -186,16 +170,12 @@ get-none (x ∷ xs) (suc i) e = let q : length xs ≤ i = get-none xs i e in ome
 
 no-position : (logs : Logs) (m : Session) (s : ℕ) → length (places_of m) ≡ length logs.tablets → slice_get (accepted_tablets logs) s ≡ None
     → position m s ≡ new_position
-no-position logs m s c e =
-    let l : length (accepted_tablets logs) ≤ s = get-none (accepted_tablets logs) s e in
-    let d = length-logs logs in
+no-position logs m s c e = let l : length (accepted_tablets logs) ≤ s = get-none (accepted_tablets logs) s e in let d = length-logs logs in
     let k = length-map m.positions (λ (p : Position). p.place) in
     ap (λ o. option_map_or (λ (p : Position). p) o new_position) (slice_get_past m.positions s (omega arith))
 
 no-records : (logs : Logs) (s : ℕ) → slice_get (accepted_tablets logs) s ≡ None → length (records logs s) ≡ 0
-no-records logs s e =
-    let l : length (accepted_tablets logs) ≤ s = get-none (accepted_tablets logs) s e in
-    let d = length-logs logs in
+no-records logs s e = let l : length (accepted_tablets logs) ≤ s = get-none (accepted_tablets logs) s e in let d = length-logs logs in
     ap (λ o. length (option_map_or (λ (t : Tablet). t.records) o [])) (slice_get_past logs.tablets s (omega arith))
 
 waits-for : (logs : Logs) (m : Session) (s p : ℕ) (q : Option ℕ) → parent_of logs s ≡ q
@@ -243,9 +223,7 @@ answer-says logs m s n count = first (awaits logs m s) refl
     tablet free None e = ap (λ (p : Position). p.cursor) (no-position logs m s count e) ∙ sym (no-records logs s e)
     tablet free (Some b) e = second b free e (if (position m s).cursor == length b.records then halt_of b (records logs s) else None) refl
 
-    first : (o : Option ℕ) → awaits logs m s ≡ o
-        → AnswerSays logs m s n
-        (option_map_or (λ parent. poll.Waits parent) o
+    first : (o : Option ℕ) → awaits logs m s ≡ o → AnswerSays logs m s n (option_map_or (λ parent. poll.Waits parent) o
         (option_map_or (λ b. answer_from b (records logs s) (position m s).cursor n) (accepted_tablet logs s) poll.AtEnd))
     first None e = tablet e (accepted_tablet logs s) refl
     first (Some p) e = waits-for logs m s p (parent_of logs s) refl e
@@ -273,8 +251,7 @@ module _ (logs : Logs) (valid : is_valid logs ≡ true) (m : Session) (st : IsSe
   good-same = record { session = st; climbs = λ i. omega arith }
 
   place-within : (s : ℕ) (b : AcceptedTablet) → slice_get (accepted_tablets logs) s ≡ Some b → (position m s).place ≤ length b.records
-  place-within s b e =
-      let w : place (places_of m) b ≤ length b.records =
+  place-within s b e = let w : place (places_of m) b ≤ length b.records =
       each-get (λ b. place (places_of m) b ≤ length b.records) (accepted_tablets logs) s b st.places.within e in
       let at : slice_index (places_of m) s ≡ (position m s).place = places-at m.positions s in
       let q : slice_index (places_of m) s ≤ length b.records =
@@ -286,17 +263,15 @@ module _ (logs : Logs) (valid : is_valid logs ≡ true) (m : Session) (st : IsSe
   module _ (free : m.closed ≡ None) where
     -- a session whose places are as before
     good-with : (s : ℕ) (p : Position) → IsInOrder p → p.place ≡ (position m s).place → Good logs m (with_position s p m)
-    good-with s p o e =
-        let same : places_of (with_position s p m) ≡ places_of m = places-same m s p e in
-        record {
-          session = record {
-            places = subst (IsPlaces logs) (sym same) st.places;
-            order = each-set IsInOrder m.positions s p st.order o;
-            cutoff = subst (λ w. m.cutoff ≤ safe_time logs w) (sym same) st.cutoff;
-            closed = still-open logs (with_position s p m) m.closed free;
-          };
-          climbs = λ i. subst (λ w. slice_index (places_of m) i ≤ slice_index w i) (sym same) (omega arith);
-        }
+    good-with s p o e = let same : places_of (with_position s p m) ≡ places_of m = places-same m s p e in record {
+      session = record {
+        places = subst (IsPlaces logs) (sym same) st.places;
+        order = each-set IsInOrder m.positions s p st.order o;
+        cutoff = subst (λ w. m.cutoff ≤ safe_time logs w) (sym same) st.cutoff;
+        closed = still-open logs (with_position s p m) m.closed free;
+      };
+      climbs = λ i. subst (λ w. slice_index (places_of m) i ≤ slice_index w i) (sym same) (omega arith);
+    }
 
     good-back : (s : ℕ) → Good logs m (with_position s (set_back (position m s)) m)
     good-back s = let o = in-order s in good-with s (set_back (position m s)) (record { cursor = omega arith; acknowledged = omega arith })
@@ -307,9 +282,7 @@ module _ (logs : Logs) (valid : is_valid logs ≡ true) (m : Session) (st : IsSe
         (record { cursor = omega arith; acknowledged = omega arith }) refl
 
     good-moved : (s n k : ℕ) → WasPolled logs m s n k → Good logs m (with_position s (moved k (position m s)) m)
-    good-moved s n k was =
-        let o = in-order s in
-        let p = moved k (position m s) in
+    good-moved s n k was = let o = in-order s in let p = moved k (position m s) in
         let old : slice_index (places_of m) s ≡ (position m s).place = places-at m.positions s in
         let w : (position m s).place ≤ length was.tablet.records = place-within s was.tablet was.there in
         let few = was.count in
@@ -334,21 +307,16 @@ module _ (logs : Logs) (valid : is_valid logs ≡ true) (m : Session) (st : IsSe
 
     good-poll : (s n : ℕ) (a : PollAnswer) → AnswerSays logs m s n a → Good logs m (poll_step m s a).0
     good-poll s n (poll.Polled k) e = good-moved s n k e
-    good-poll s n (poll.Waits parent) e = good-same
-    good-poll s n poll.AtEnd e = good-same
-    good-poll s n (poll.Halted number kind) e = good-same
+    good-poll s n _ e = good-same
 
     good-stop : (s : ℕ) (a : PollAnswer) → Good logs m (stop_step m s a).0
     good-stop s (poll.Polled k) = good-back s
-    good-stop s (poll.Waits parent) = good-same
-    good-stop s poll.AtEnd = good-same
-    good-stop s (poll.Halted number kind) = good-same
+    good-stop s _ = good-same
 
     good-prune : (u : ℕ) → Good logs m (prune_step logs m u).0
     good-prune u = go (nat_lt (safe_now logs m) u) refl
       where
-        go : (b : Bool) → nat_lt (safe_now logs m) u ≡ b
-            → Good logs m
+        go : (b : Bool) → nat_lt (safe_now logs m) u ≡ b → Good logs m
             (either b (m, line.Ahead u (safe_now logs m) ∷ []) (record m { cutoff = max m.cutoff u }, line.Prune (max m.cutoff u) ∷ [])).0
         go true e = good-same
         go false e = record {
@@ -380,8 +348,7 @@ module _ (logs : Logs) (valid : is_valid logs ≡ true) (m : Session) (st : IsSe
 
     end-place : (i : ℕ) (d : AcceptedTablet) → slice_get (accepted_tablets logs) i ≡ Some d → place ends_of d ≡ length d.records
     unfolding ends_of
-    end-place i d e =
-        ap (slice_index (map (λ b. length b.records) (accepted_tablets logs))) (get-id logs i d valid e)
+    end-place i d e = ap (slice_index (map (λ b. length b.records) (accepted_tablets logs))) (get-id logs i d valid e)
         ∙ ends-at (accepted_tablets logs) i d e
 
     ends-climb : Climbs (places_of m) ends_of
@@ -403,8 +370,7 @@ module _ (logs : Logs) (valid : is_valid logs ≡ true) (m : Session) (st : IsSe
     ends-starts : (i : ℕ) (d : AcceptedTablet) (q : Option ℕ) → slice_get (accepted_tablets logs) i ≡ Some d → d.header.parent ≡ q
         → is_started logs ends_of q ≡ false → place ends_of d ≡ 0
     ends-starts i d None e p waits = cc
-    ends-starts i d (Some p) e is waits =
-        let u : UnderParent (accepted_tablets logs) p d = get-under logs i d valid e p is in
+    ends-starts i d (Some p) e is waits = let u : UnderParent (accepted_tablets logs) p d = get-under logs i d valid e p is in
         let shut : is_closed_in ends_of u.parent ≡ false = sym (closed-of logs ends_of p u.parent u.there) ∙ waits in
         let open_ : u.parent.end.split ≡ false =
         sym (ap (λ o. o && u.parent.end.split)
@@ -430,8 +396,7 @@ module _ (logs : Logs) (valid : is_valid logs ≡ true) (m : Session) (st : IsSe
     same-drained = drained-places (accepted_tablets logs)
 
     good-drain : Good logs m (drained logs m)
-    good-drain =
-        let q : m.cutoff ≤ safe_now logs m = st.cutoff in
+    good-drain = let q : m.cutoff ≤ safe_now logs m = st.cutoff in
         let w : safe_now logs m ≤ safe_time logs ends_of = safe_time-rises logs (places_of m) ends_of ends-places ends-climb in
         record {
           session = record {
@@ -455,14 +420,10 @@ module _ (logs : Logs) (valid : is_valid logs ≡ true) (m : Session) (st : IsSe
     good-open (command.Ack id) = good-ack id
     good-open (command.Restart id) = good-back id
     good-open command.Drain = good-drain
-    good-open command.Safe = good-same
-    good-open (command.Read key) = good-same
-    good-open (command.ReadAt t key) = good-same
-    good-open command.Scan = good-same
     good-open (command.Prune t) = good-prune t
     good-open command.Failover =
         record { session = record { places = st.places; order = st.order; cutoff = st.cutoff; closed = refl }; climbs = λ i. omega arith }
-    good-open command.Report = good-same
+    good-open _ = good-same
 
 -- ---- a closed session
 
@@ -472,17 +433,7 @@ asked : (logs : Logs) (m : Session) (c : Command) (t : ℕ) (o : Option ℕ) →
 unfolding open_step
 asked logs m c t None e = cc
 asked logs m (command.Poll id n) t (Some v) e = refl
-asked logs m (command.Stop id n last) t (Some v) e = refl
-asked logs m (command.Ack id) t (Some v) e = refl
-asked logs m (command.Restart id) t (Some v) e = refl
-asked logs m command.Drain t (Some v) e = refl
-asked logs m command.Safe t (Some v) e = refl
-asked logs m (command.Read key) t (Some v) e = refl
-asked logs m (command.ReadAt u key) t (Some v) e = refl
-asked logs m command.Scan t (Some v) e = refl
-asked logs m (command.Prune u) t (Some v) e = refl
-asked logs m command.Failover t (Some v) e = refl
-asked logs m command.Report t (Some v) e = refl
+asked logs m _ t (Some v) e = refl
 
 pub stays-closed : (logs : Logs) (m : Session) (c : Command) (t : ℕ) → m.closed ≡ Some t → (step logs m c).0 ≡ m
 unfolding step

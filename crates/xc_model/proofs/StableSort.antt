@@ -1,9 +1,6 @@
 -- What the laws of sorts rest on: an order by `cmp`, where x may stand before y unless `cmp x y` is greater.
-use Rattle.std.specs.Prelude.{◌≡◌, true, false, List, [], ◌∷◌}
-use Rattle.std.specs.declared.cmp.Ordering.{Ordering}
-use Rattle.std.specs.Ordering.{is_gt}
+use Rattle.xc_model.proofs.Common.{◌≡◌, true, false, List, [], ◌∷◌, Ordering, is_gt, ◌⊎◌}
 pub use Rattle.std.specs.List.{AllByRecursion as Each}
-use Rattle.std.proofs.Common.{◌⊎◌}
 
 -- x may stand before y
 abbrev pub Before : {A : Type 0} → (A → A → Ordering) → A → A → Type 0

@@ -1,25 +1,16 @@
 -- The times that a session names, along its commands.
-use Rattle.std.proofs.Common.{◌≡◌, ℕ, ◌≤◌, max, Bool, true, false, List, [], ◌∷◌, ◌++◌, map, Option, Some, None, refl, ap, sym, ◌∙◌, arith}
-use Rattle.std.proofs.Common.{subst, ◌⊎◌, inl, inr, ⊎_elim}
-use Rattle.std.specs.Prelude.{nat_lt, if◌then◌else◌, MatchOption}
-use Rattle.std.specs.Option.{option_map_or, option_map}
-use Rattle.std.specs.List.{filter_map, cons_option}
-use Rattle.std.proofs.lemmas.List.Elements.{filter_map-append}
-use Rattle.xc_record.specs.declared.record.Logs.{Logs}
-use Rattle.xc_record.specs.declared.record.Break.{Break}
-use Rattle.xc_record.specs.declared.session.Command.{Command}
-use Rattle.xc_record.specs.declared.session.Command.TheVariants as command
+use Rattle.xc_model.proofs.Common.{◌≡◌, ℕ, ◌≤◌, max, Bool, true, false, List, [], ◌∷◌, ◌++◌, map, Option, Some, None, refl, ap, sym, ◌∙◌}
+use Rattle.xc_model.proofs.Common.{arith, subst, ◌⊎◌, inl, inr, ⊎_elim, nat_lt, if◌then◌else◌, MatchOption, option_map_or, option_map}
+use Rattle.xc_model.proofs.Common.{filter_map, cons_option, filter_map-append, Logs, Break, Command, PollAnswer, AcceptedTablet}
+use Rattle.xc_model.proofs.Common.{accepted_tablets, halt, Session, IsSession, safe_now, rows, row, poll_answer, poll_step, stop_step}
+use Rattle.xc_model.proofs.Common.{drained, read_at_line, prune_step, open_step, refuses, lines_from, Each, Each-append}
 use Rattle.xc_record.specs.declared.session.Line.{Line}
+use Rattle.xc_record.specs.Step.{step}
+use Rattle.xc_record.specs.declared.session.Command.TheVariants as command
 use Rattle.xc_record.specs.declared.session.Line.TheVariants as line
-use Rattle.xc_record.specs.declared.session.PollAnswer.{PollAnswer}
 use Rattle.xc_record.specs.declared.session.PollAnswer.TheVariants as poll
-use Rattle.xc_record.specs.Accepted.{AcceptedTablet, accepted_tablets, halt}
-use Rattle.xc_record.specs.Session.{Session, IsSession, safe_now}
-use Rattle.xc_record.specs.Rows.{rows, row}
-use Rattle.xc_record.specs.Step.{poll_answer, poll_step, stop_step, drained, read_at_line, prune_step, open_step, refuses, step, lines_from}
 use Rattle.xc_model.specs.Sessions.{named, named_times, IsRising}
 use Rattle.xc_model.specs.Laws.{FailoverCloses, NamedTimesRise, ClosedStays, ClosedTimesStay}
-use Rattle.xc_record.proofs.ListLaws.{Each, Each-append}
 use Rattle.xc_model.proofs.SessionLaws.{either, steps-keep, steps-rise, stays-closed, is-open}
 
 -- lines name no time, or t alone
@@ -28,15 +19,11 @@ Names t ls = (named_times ls ≡ []) ⊎ (named_times ls ≡ t ∷ [])
 
 poll-names : (m : Session) (s t : ℕ) (a : PollAnswer) → Names t (poll_step m s a).1
 poll-names m s t (poll.Polled k) = inl refl
-poll-names m s t (poll.Waits parent) = inl refl
-poll-names m s t poll.AtEnd = inl refl
-poll-names m s t (poll.Halted number kind) = inl refl
+poll-names m s t _ = inl refl
 
 stop-names : (m : Session) (s t : ℕ) (a : PollAnswer) → Names t (stop_step m s a).1
 stop-names m s t (poll.Polled k) = inl refl
-stop-names m s t (poll.Waits parent) = inl refl
-stop-names m s t poll.AtEnd = inl refl
-stop-names m s t (poll.Halted number kind) = inl refl
+stop-names m s t _ = inl refl
 
 row-names : (rs : List (List ℕ × List ℕ)) → named_times (map (λ r. line.Row r.0 r.1) rs) ≡ []
 row-names [] = refl
@@ -65,9 +52,7 @@ read-names logs m u key = go (nat_lt (safe_now logs m) u) (nat_lt u m.cutoff) (r
     go false false v = refl
 
 prune-names : (logs : Logs) (m : Session) (u : ℕ) → named_times (prune_step logs m u).1 ≡ []
-prune-names logs m u =
-    elim (nat_lt (safe_now logs m) u) as
-    (λ b. named_times
+prune-names logs m u = elim (nat_lt (safe_now logs m) u) as (λ b. named_times
     (either b (m, line.Ahead u (safe_now logs m) ∷ []) (record m { cutoff = max m.cutoff u }, line.Prune (max m.cutoff u) ∷ [])).1 ≡
     []) [ true ↦ refl | false ↦ refl ]
 
@@ -76,8 +61,6 @@ open-names : (logs : Logs) (m : Session) (c : Command) → Names (safe_now logs 
 unfolding open_step
 open-names logs m (command.Poll id n) = poll-names m id _ (poll_answer logs m id n)
 open-names logs m (command.Stop id n last) = stop-names m id _ (poll_answer logs m id n)
-open-names logs m (command.Ack id) = inl refl
-open-names logs m (command.Restart id) = inl refl
 open-names logs m command.Drain = inr (ap (λ w. safe_now logs (drained logs m) ∷ w) (halt-names logs (accepted_tablets logs)))
 open-names logs m command.Safe = inr refl
 open-names logs m (command.Read key) = inr refl
@@ -85,7 +68,7 @@ open-names logs m (command.ReadAt t key) = inl (read-names logs m t key)
 open-names logs m command.Scan = inr (ap (λ w. safe_now logs m ∷ w) (row-names (rows logs (safe_now logs m))))
 open-names logs m (command.Prune t) = inl (prune-names logs m t)
 open-names logs m command.Failover = inr (ap (λ w. safe_now logs m ∷ w) (row-names (rows logs (safe_now logs m))))
-open-names logs m command.Report = inl refl
+open-names logs m _ = inl refl
 
 step-names : (logs : Logs) (m : Session) (c : Command) → Names (safe_now logs (step logs m c).0) (step logs m c).1
 unfolding step
@@ -103,9 +86,7 @@ lower a b (t ∷ ts) h r = ((let q : b ≤ t = r.0 in omega arith), r.1)
 
 pub named-times-rise : NamedTimesRise
 named-times-rise logs m [] valid st = tt
-named-times-rise logs m (c ∷ commands) valid st =
-    let n = (step logs m c).0 in
-    let lines = (step logs m c).1 in
+named-times-rise logs m (c ∷ commands) valid st = let n = (step logs m c).0 in let lines = (step logs m c).1 in
     let up : safe_now logs m ≤ safe_now logs n = steps-rise logs m c valid st in
     let rest : IsRising (safe_now logs n) (named_times (lines_from logs n commands)) =
     named-times-rise logs n commands valid (steps-keep logs m c valid st) in
@@ -133,9 +114,7 @@ names-same t v ls e n = ⊎_elim (λ none. subst (Each (λ w. w ≡ t)) (sym non
 
 pub closed-times : ClosedTimesStay
 closed-times logs m [] t st e = tt
-closed-times logs m (c ∷ commands) t st e =
-    let same : (step logs m c).0 ≡ m = stays-closed logs m c t e in
-    let lines = (step logs m c).1 in
+closed-times logs m (c ∷ commands) t st e = let same : (step logs m c).0 ≡ m = stays-closed logs m c t e in let lines = (step logs m c).1 in
     let time : safe_now logs (step logs m c).0 ≡ t = ap (safe_now logs) same ∙ closing-time logs m t st e in
     subst (Each (λ w. w ≡ t)) (sym (filter_map-append named lines (lines_from logs (step logs m c).0 commands)))
     (Each-append (λ w. w ≡ t) (named_times lines) (named_times (lines_from logs (step logs m c).0 commands))

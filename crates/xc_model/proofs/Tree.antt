@@ -1,44 +1,30 @@
 -- The tablets that hold a hash stand in a line of parent and child, each beginning where its parent ends.
-use Rattle.std.proofs.Common.{◌≡◌, ◌≢◌, ◌==◌, ℕ, suc, ◌+◌, ◌<◌, ◌≤◌, true, false, cond, List, [], ◌∷◌, length, Option, Some, None, refl, ap}
-use Rattle.std.proofs.Common.{sym, ◌∙◌, arith, subst, zero-add, inl, inr, ⊎_elim}
-use Rattle.std.specs.List.{filter}
-use Rattle.std.specs.Prelude.{fold, slice_get}
-use Rattle.std.specs.Option.{option_map_or}
-use Rattle.std.proofs.lemmas.Bool.{cases_Bool, and_parts, eqb-true, true≢false, false_from_ne_true}
-use Rattle.std.proofs.lemmas.Option.{same_Some}
-use Rattle.xc_record.specs.declared.record.Record.{Record}
-use Rattle.xc_record.specs.declared.record.Logs.{Logs}
-use Rattle.xc_record.specs.Order.{Progress, after}
-use Rattle.xc_record.specs.Accepted.{AcceptedTablet, accepted_tablets}
-use Rattle.xc_record.specs.SafeTime.{place, is_closed_in, is_closed, is_started, StartsAfter, IsPlaces}
-use Rattle.xc_record.specs.Valid.{is_valid}
-use Rattle.xc_record.proofs.HeaderLaws.{Line, line_end, line, Numbered}
-use Rattle.xc_record.proofs.AcceptedLaws.{IsGrown, accepted_tablets-grown}
-use Rattle.xc_record.proofs.ListLaws.{Each-filter, Each-weaker}
+use Rattle.xc_model.proofs.Common.{◌≡◌, ◌≢◌, ◌==◌, ℕ, suc, ◌+◌, ◌<◌, ◌≤◌, true, false, cond, List, [], ◌∷◌, length, Option, Some, None}
+use Rattle.xc_model.proofs.Common.{refl, ap, sym, ◌∙◌, arith, subst, zero-add, inl, inr, ⊎_elim, filter, fold, slice_get, option_map_or}
+use Rattle.xc_model.proofs.Common.{cases_Bool, and_parts, eqb-true, true≢false, false_from_ne_true, same_Some, Record, Logs, Progress}
+use Rattle.xc_model.proofs.Common.{after, AcceptedTablet, accepted_tablets, place, is_closed_in, is_closed, is_started, StartsAfter}
+use Rattle.xc_model.proofs.Common.{IsPlaces, is_valid, line_end, line, Numbered, IsGrown, accepted_tablets-grown, Each-filter, Each-weaker}
+use Rattle.xc_record.proofs.HeaderLaws.{Line}
+use Rattle.xc_model.proofs.Along.{Covers, owns, own, origin, begun, Continues, Threads, Stops, LegalChain}
 use Rattle.xc_model.proofs.StableSort.{Each, Exists}
-use Rattle.xc_model.proofs.Elements.{exists-filter, each-passes, each-both, each-itself, each-at, exists-each}
+use Rattle.xc_model.proofs.Elements.{exists-filter, each-filtered, each-both, each-itself, each-at, exists-each}
 use Rattle.xc_model.proofs.Parents.{heads, Under, UnderParent, StartsRoot, each-under, each-root, each-numbered, each-line}
-use Rattle.xc_model.proofs.Along.{owns, own, origin, begun, Continues, Threads, Stops, LegalChain}
-use Rattle.xc_model.proofs.ValidLogs.{Covers}
 
 -- ---- tablets by their numbers
 
 get-numbered : (n : ℕ) (bs : List AcceptedTablet) (b : AcceptedTablet) → Numbered n (heads bs) → Exists (λ d. d ≡ b) bs
     → (i : ℕ) × ((b.header.id ≡ n + i) × (slice_get bs i ≡ Some b))
 get-numbered n [] b m i = absurd i
-get-numbered n (d ∷ bs) b m i =
-    ⊎_elim (λ e. (
-      0,
-      (let q : b.header.id ≡ d.header.id = ap (λ (w : AcceptedTablet). w.header.id) (sym e) in let w = m.0 in omega arith, ap Some e),
-    ))
-    (λ r. let deep = get-numbered (n + 1) bs b m.1 r in let q : b.header.id ≡ n + 1 + deep.0 = deep.1.0 in
+get-numbered n (d ∷ bs) b m i = ⊎_elim (λ e. (
+  0,
+  (let q : b.header.id ≡ d.header.id = ap (λ (w : AcceptedTablet). w.header.id) (sym e) in let w = m.0 in omega arith, ap Some e),
+)) (λ r. let deep = get-numbered (n + 1) bs b m.1 r in let q : b.header.id ≡ n + 1 + deep.0 = deep.1.0 in
     (suc deep.0, (omega arith, deep.1.1))) i
 
 -- a tablet is found under its number
 pub get-tablet : (bs : List AcceptedTablet) (b : AcceptedTablet) → Numbered 0 (heads bs) → Exists (λ d. d ≡ b) bs
     → slice_get bs b.header.id ≡ Some b
-get-tablet bs b m i =
-    let found = get-numbered 0 bs b m i in let q : b.header.id ≡ found.0 = found.1.0
+get-tablet bs b m i = let found = get-numbered 0 bs b m i in let q : b.header.id ≡ found.0 = found.1.0
     ∙ zero-add found.0 in subst (λ (w : ℕ). slice_get bs w ≡ Some b) (sym q) found.1.1
 
 pub closed-of : (logs : Logs) (ps : List ℕ) (b : AcceptedTablet) → Numbered 0 (heads (accepted_tablets logs))
@@ -50,8 +36,7 @@ closed-of logs ps b m i = ap (λ o. option_map_or (is_closed_in ps) o false) (ge
 
 heads-own : (h : ℕ) (bs : List AcceptedTablet) → heads (filter (own h) bs) ≡ line h (heads bs)
 heads-own h [] = refl
-heads-own h (b ∷ bs) =
-    elim (owns h b.header) as
+heads-own h (b ∷ bs) = elim (owns h b.header) as
     (λ o. heads (cond o (b ∷ filter (own h) bs) (filter (own h) bs)) ≡ cond o (b.header ∷ line h (heads bs)) (line h (heads bs)))
     [ true ↦ ap (λ w. b.header ∷ w) (heads-own h bs) | false ↦ heads-own h bs ]
 
@@ -63,16 +48,12 @@ pub record IsOne (bs : List AcceptedTablet) (b : AcceptedTablet) : Type 0 where
   pub root : StartsRoot b
 
 pub each-one : (logs : Logs) → is_valid logs ≡ true → Each (IsOne (accepted_tablets logs)) (accepted_tablets logs)
-each-one logs v =
-    let bs = accepted_tablets logs in
-    each-itself (IsOne bs) bs
-    (λ b i. record {
-      there = i;
-      grown = each-at IsGrown bs b (accepted_tablets-grown logs) i;
-      under = each-at (Under bs) bs b (each-under logs v)
-          i;
-      root = each-at StartsRoot bs b (each-root logs) i;
-    })
+each-one logs v = let bs = accepted_tablets logs in each-itself (IsOne bs) bs (λ b i. record {
+  there = i;
+  grown = each-at IsGrown bs b (accepted_tablets-grown logs) i;
+  under = each-at (Under bs) bs b (each-under logs v) i;
+  root = each-at StartsRoot bs b (each-root logs) i;
+})
 
 -- no tablet begins with a split
 pub one-unsplit : (bs : List AcceptedTablet) (b : AcceptedTablet) → IsOne bs b → b.start.split ≡ false
@@ -88,13 +69,10 @@ below-one bs b p o e = (o.under p e).below
 
 continues : (bs : List AcceptedTablet) (prev b : AcceptedTablet) → Numbered 0 (heads bs) → Exists (λ d. d ≡ prev) bs → IsOne bs b
     → b.header.parent ≡ Some prev.header.id → Continues prev.end b
-continues bs prev b m i o e =
-    let u : UnderParent bs prev.header.id b = o.under prev.header.id e in
-    record {
-      grown = o.grown;
-      start = u.start
-          ∙ ap (λ (w : AcceptedTablet). begun w.end) (same_Some u.parent prev (sym u.there ∙ get-tablet bs prev m i));
-    }
+continues bs prev b m i o e = let u : UnderParent bs prev.header.id b = o.under prev.header.id e in record {
+  grown = o.grown;
+  start = u.start ∙ ap (λ (w : AcceptedTablet). begun w.end) (same_Some u.parent prev (sym u.there ∙ get-tablet bs prev m i));
+}
 
 threads-from : (bs : List AcceptedTablet) (prev : AcceptedTablet) (xs : List AcceptedTablet) → Numbered 0 (heads bs)
     → Exists (λ d. d ≡ prev) bs → Line (Some prev.header.id) (heads xs) → Each (IsOne bs) xs → Threads prev.end xs
@@ -112,8 +90,7 @@ pub record Chained (logs : Logs) (h : ℕ) (xs : List AcceptedTablet) : Type 0 w
   pub ones : Each (IsOne (accepted_tablets logs)) xs
 
 pub chained : (logs : Logs) (h : ℕ) → is_valid logs ≡ true → Chained logs h (filter (own h) (accepted_tablets logs))
-chained logs h v =
-    let bs = accepted_tablets logs in
+chained logs h v = let bs = accepted_tablets logs in
     let stands : Line None (heads (filter (own h) bs)) = subst (Line None) (sym (heads-own h bs)) (each-line logs h v) in
     let ones = Each-filter (IsOne bs) (own h) bs (each-one logs v) in
     record { line = stands; threads = threads-root bs (filter (own h) bs) (each-numbered logs v) stands ones; ones = ones }
@@ -123,12 +100,10 @@ chained logs h v =
 ids-rise : (bs : List AcceptedTablet) (p : ℕ) (xs : List AcceptedTablet) → Line (Some p) (heads xs) → Each (IsOne bs) xs
     → Each (λ b. p < b.header.id) xs
 ids-rise bs p [] l o = tt
-ids-rise bs p (b ∷ xs) l o =
-    let first : p < b.header.id = below-one bs b p o.0 l.0 in (
-      first,
-      Each-weaker (λ d. b.header.id < d.header.id) (λ d. p < d.header.id) (λ d q. omega arith) xs
-          (ids-rise bs b.header.id xs l.1 o.1),
-    )
+ids-rise bs p (b ∷ xs) l o = let first : p < b.header.id = below-one bs b p o.0 l.0 in (
+  first,
+  Each-weaker (λ d. b.header.id < d.header.id) (λ d. p < d.header.id) (λ d q. omega arith) xs (ids-rise bs b.header.id xs l.1 o.1),
+)
 
 last-above : (p : ℕ) (b : AcceptedTablet) (xs : List AcceptedTablet) → Each (λ d. p < d.header.id) (b ∷ xs)
     → Some p ≢ line_end (Some b.header.id) (heads xs)
@@ -159,16 +134,13 @@ stops-by bs h o prev (b ∷ xs) q e n = stops-by bs h b.end (Some b.header.id) x
 
 pub stops : (logs : Logs) (h : ℕ) → is_valid logs ≡ true → Covers (accepted_tablets logs) h
     → Stops origin (filter (own h) (accepted_tablets logs))
-stops logs h v c =
-    let bs = accepted_tablets logs in
-    let xs = filter (own h) bs in
-    let chain = chained logs h v in
+stops logs h v c = let bs = accepted_tablets logs in let xs = filter (own h) bs in let chain = chained logs h v in
     stops-by bs h origin None xs (λ _. c.root)
     (Each-weaker (λ b. (b.end.split ≡ true → owns h b.header ≡ true → HasChild bs h (Some b.header.id)) × (own h b ≡ true))
     (λ b. b.end.split ≡ true → HasChild bs h (Some b.header.id)) (λ b w s. w.0 s w.1) xs
     (each-both (λ b. b.end.split ≡ true → owns h b.header ≡ true → HasChild bs h (Some b.header.id)) (λ b. own h b ≡ true) xs
     (Each-filter (λ b. b.end.split ≡ true → owns h b.header ≡ true → HasChild bs h (Some b.header.id)) (own h) bs c.child)
-    (each-passes (own h) bs)))
+    (each-filtered (λ b. own h b ≡ true) (own h) bs (λ b e. e))))
     (λ i. exists-each (λ d. d.header.parent ≡ line_end None (heads xs)) xs
     (exists-filter (λ d. (d.header.parent ≡ line_end None (heads xs)) × (owns h d.header ≡ true))
     (λ d. d.header.parent ≡ line_end None (heads xs)) (own h) (λ d w. (w.1, w.0)) bs i)
@@ -182,9 +154,7 @@ empty-split o (r ∷ rs) s h = absurd (omega arith)
 
 -- at place 0 no tablet is closed
 pub empty-open : (ps : List ℕ) (b : AcceptedTablet) → IsGrown b → b.start.split ≡ false → place ps b ≡ 0 → is_closed_in ps b ≡ false
-empty-open ps b g s z =
-    false_from_ne_true (is_closed_in ps b) (λ c.
-    let parts = and_parts (place ps b == length b.records) b.end.split c in
+empty-open ps b g s z = false_from_ne_true (is_closed_in ps b) (λ c. let parts = and_parts (place ps b == length b.records) b.end.split c in
     let none : length b.records ≡ 0 = sym (eqb-true (place ps b) (length b.records) parts.0) ∙ z in
     true≢false (sym parts.1 ∙ ap (λ (w : Progress). w.split) g.end ∙ empty-split b.start b.records s none))
 
@@ -192,8 +162,7 @@ zeros : (logs : Logs) (ps : List ℕ) (p : ℕ) (o : Progress) (xs : List Accept
     → Line (Some p) (heads xs) → Threads o xs → is_closed logs ps p ≡ false → Each (IsOne (accepted_tablets logs)) xs
     → Each (StartsAfter logs ps) xs → Each (λ d. place ps d ≡ 0) xs
 zeros logs ps p o [] m l t c i s = tt
-zeros logs ps p o (b ∷ xs) m l t c i s =
-    let here : place ps b ≡ 0 = s.0 (ap (is_started logs ps) l.0 ∙ c) in
+zeros logs ps p o (b ∷ xs) m l t c i s = let here : place ps b ≡ 0 = s.0 (ap (is_started logs ps) l.0 ∙ c) in
     let open_ : is_closed_in ps b ≡ false = empty-open ps b t.0.grown (ap (λ (w : Progress). w.split) t.0.start) here in
     (here, zeros logs ps b.header.id b.end xs m l.1 t.1 (closed-of logs ps b m i.0.there ∙ open_) i.1 s.1)
 
@@ -211,8 +180,6 @@ legal-chain logs ps prev o (b ∷ xs) m l t i w s = (
 -- along the tablets that hold h legal places are legal
 pub legal-own : (logs : Logs) (ps : List ℕ) (h : ℕ) → is_valid logs ≡ true → IsPlaces logs ps
     → LegalChain ps (filter (own h) (accepted_tablets logs))
-legal-own logs ps h v l =
-    let bs = accepted_tablets logs in
-    let chain = chained logs h v in
+legal-own logs ps h v l = let bs = accepted_tablets logs in let chain = chained logs h v in
     legal-chain logs ps None origin (filter (own h) bs) (each-numbered logs v) chain.line chain.threads chain.ones
     (Each-filter (λ b. place ps b ≤ length b.records) (own h) bs l.within) (Each-filter (StartsAfter logs ps) (own h) bs l.starts)

@@ -1,21 +1,15 @@
 -- Tablets of the target over small logs, from a new one on, record by record, and that each stands for the logs. The logs have a split
 -- tablet, a transaction over both of its children, a removal, and a subtransaction that was rolled back. Their keys are a and z.
-use Rattle.std.proofs.Common.{◌≡◌, ℕ, ◌+◌, true, false, List, [], ◌∷◌, Bool, Some, None, refl, sym, subst, arith, ⊎_elim}
-use Rattle.std.specs.Prelude.{codes, slice_index, slice_set, bytes_eq, if◌then◌else◌}
-use Rattle.std.proofs.lemmas.Bool.{cases_Bool, false≢true}
-use Rattle.std.proofs.lemmas.Slice.Eq.{bytes_eq-Decides}
+use Rattle.xc_model.proofs.Common.{◌≡◌, ℕ, ◌+◌, true, false, List, [], ◌∷◌, Bool, Some, None, refl, sym, subst, arith, ⊎_elim, codes}
+use Rattle.xc_model.proofs.Common.{slice_index, slice_set, bytes_eq, if◌then◌else◌, cases_Bool, false≢true, bytes_eq-Decides, Record}
+use Rattle.xc_model.proofs.Common.{record_events, is_valid, headers_of, Kept, KeyVersion, KeyWaiting, steps, list_all, and_parts, ◌&&◌, map}
 use Rattle.xc_record.specs.declared.record.Kind.TheVariants.{Write, Intent, Apply, Safe, Split}
-use Rattle.xc_record.specs.declared.record.Record.{Record}
-use Rattle.xc_record.specs.Path.{record_events}
-use Rattle.xc_record.specs.Valid.{is_valid, headers_of}
-use Rattle.xc_record.proofs.WorkedLogs.{computed, at, sets, removes, a, z, with_both_children}
-use Rattle.xc_record.specs.Kept.{Kept, KeyVersion, KeyWaiting, steps}
-use Rattle.xc_model.specs.Floors.{floors_after}
-use Rattle.xc_model.specs.Stands.{TargetTablet, in_range, kept_at, KeepsWithin, StandsFor, new_tablet, owned_by, TakesIn, TakesAll}
-use Rattle.xc_model.proofs.KeepLaws.{new-stands}
+use Rattle.xc_record.proofs.WorkedLogs.{computed, at, sets, removes, a, z, with_both_children as logs}
+use Rattle.xc_model.{proofs.FromRules.all-each, specs.Floors.floors_after, proofs.KeepLaws.new-stands, proofs.Batches.batches-grow}
+use Rattle.xc_model.specs.Stands.{TargetTablet, in_range, kept_at, StandsFor, new_tablet, owned_by, TakesIn, TakesAll}
 use Rattle.xc_model.proofs.DeliverLaw.{deliveries-keep, batches-keep}
 
-pub valid : is_valid with_both_children ≡ true
+pub valid : is_valid logs ≡ true
 unfolding computed
 valid = refl
 
@@ -26,8 +20,7 @@ pub record IsOther (k : List ℕ) : Type 0 where
   pub z : bytes_eq k z ≡ false
 
 pub by-key : (P : List ℕ → Type 0) → P a → P z → ((k : List ℕ) → IsOther k → P k) → (k : List ℕ) → P k
-by-key P at-a at-z at-other k =
-    ⊎_elim (λ e. subst P (sym ((bytes_eq-Decides k a).0 e)) at-a)
+by-key P at-a at-z at-other k = ⊎_elim (λ e. subst P (sym ((bytes_eq-Decides k a).0 e)) at-a)
     (λ not-a. ⊎_elim (λ e. subst P (sym ((bytes_eq-Decides k z).0 e)) at-z) (λ not-z. at-other k (record { a = not-a; z = not-z }))
     (cases_Bool (bytes_eq k z)))
     (cases_Bool (bytes_eq k a))
@@ -48,15 +41,55 @@ abbrev At : ℕ → Record → TargetTablet → TargetTablet → List ℕ → Ty
 At s r x y k = kept_at y k ≡ if owned_by x s k then steps (record_events k r) (kept_at x k) else kept_at x k
 
 taken : (s : ℕ) (r : Record) (vs : List KeyVersion) (ws : List KeyWaiting) (x : TargetTablet)
-    → ((k : List ℕ) → in_range x k ≡ true → At s r x (after s r vs ws x) k) → KeepsWithin (after s r vs ws x)
-    → TakesIn s r x (after s r vs ws x)
-taken s r vs ws x keys within = record { range = (refl, refl); places = refl; floors = refl; keys = keys; within = within }
+    → ((k : List ℕ) → in_range x k ≡ true → At s r x (after s r vs ws x) k)
+    → (list_all (λ v. in_range x v.key) vs && list_all (λ w. in_range x w.key) ws) ≡ true → TakesIn s r x (after s r vs ws x)
+taken s r vs ws x keys within = record {
+  range = (refl, refl);
+  places = refl;
+  floors = refl;
+  keys = keys;
+  within = record {
+    versions = all-each (λ v. in_range x v.key) vs (and_parts _ _ within).0;
+    held = all-each (λ w. in_range x w.key) ws (and_parts _ _ within).1;
+  };
+}
 
-taken-by-key : (s : ℕ) (r : Record) (vs : List KeyVersion) (ws : List KeyWaiting) (x : TargetTablet)
-    → (in_range x a ≡ true → At s r x (after s r vs ws x) a) → (in_range x z ≡ true → At s r x (after s r vs ws x) z)
-    → ((k : List ℕ) → IsOther k → At s r x (after s r vs ws x) k) → KeepsWithin (after s r vs ws x) → TakesIn s r x (after s r vs ws x)
-taken-by-key s r vs ws x at-a at-z at-other within =
-    taken s r vs ws x (by-key (λ k. in_range x k ≡ true → At s r x (after s r vs ws x) k) at-a at-z (λ k other _. at-other k other)) within
+-- ---- records one after another
+
+-- a record, and the versions and the operations that wait after it
+record Stage : Type 0 where
+  r : Record
+  versions : List KeyVersion
+  held : List KeyWaiting
+
+abbrev to : Record → List KeyVersion → List KeyWaiting → Stage
+to r versions held = record { r = r; versions = versions; held = held }
+
+abbrev next : ℕ → Stage → TargetTablet → TargetTablet
+next s t x = after s t.r t.versions t.held x
+
+abbrev through : ℕ → List Stage → TargetTablet → TargetTablet
+through s [] x = x
+through s (t ∷ ts) x = through s ts (next s t x)
+
+abbrev AtEach : ℕ → List Stage → TargetTablet → List ℕ → Type 0
+AtEach s [] x k = Unit {0}
+AtEach s (t ∷ ts) x k = At s t.r x (next s t x) k × AtEach s ts (next s t x) k
+
+abbrev within : TargetTablet → List Stage → Bool
+within x ts = list_all (λ t. list_all (λ v. in_range x v.key) t.versions && list_all (λ w. in_range x w.key) t.held) ts
+
+all-taken : (s : ℕ) (ts : List Stage) (x : TargetTablet) → ((k : List ℕ) → in_range x k ≡ true → AtEach s ts x k)
+    → within x ts ≡ true → TakesAll s (map (λ t. t.r) ts) x (through s ts x)
+all-taken s [] x keys all = refl
+all-taken s (t ∷ ts) x keys all = let parts = and_parts _ _ all in (
+  next s t x,
+  (taken s t.r t.versions t.held x (λ k e. (keys k e).0) parts.0, all-taken s ts (next s t x) (λ k e. (keys k e).1) parts.1),
+)
+
+-- a key out of the range
+beyond : {A : Type 0} → false ≡ true → A
+beyond e = absurd (false≢true e)
 
 -- where the record changes nothing, it doesn't matter whether its tablet owns the key
 either : (b : Bool) (x : Kept) → x ≡ if b then x else x
@@ -134,20 +167,17 @@ written-both = version a 10 0 (codes "1") ∷ version a 16 5 (codes "3") ∷ ver
 -- ---- tablets of all hashes, after the parent's records
 
 abbrev pub new : TargetTablet
-new = new_tablet 0 65535 (headers_of with_both_children.tablets)
+new = new_tablet 0 65535 (headers_of logs.tablets)
 
-pub new-stands-for : StandsFor with_both_children 0 new
-new-stands-for = new-stands with_both_children 0 65535 valid
+pub new-stands-for : StandsFor logs 0 new
+new-stands-for = new-stands logs 0 65535 valid
 
-abbrev after_write : TargetTablet
-after_write = after 0 the_write written [] new
-
-abbrev after_undone : TargetTablet
-after_undone = after 0 undone_intent written (waits-undone ∷ []) after_write
+abbrev first_stages : List Stage
+first_stages = to the_write written [] ∷ to undone_intent written (waits-undone ∷ []) ∷ to the_intent written waits ∷ []
 
 -- three of the parent's records
 abbrev pub after_intent : TargetTablet
-after_intent = after 0 the_intent written waits after_undone
+after_intent = through 0 first_stages new
 
 abbrev pub after_safe : TargetTablet
 after_safe = after 0 parent_safe written waits after_intent
@@ -156,53 +186,36 @@ after_safe = after 0 parent_safe written waits after_intent
 abbrev pub early : TargetTablet
 early = after 0 the_split written waits after_safe
 
-write-taken : TakesIn 0 the_write new after_write
+three-taken : TakesAll 0 (the_write ∷ undone_intent ∷ the_intent ∷ []) new after_intent
 unfolding computed
-write-taken = taken-by-key 0 the_write written [] new (λ _. refl) (λ _. refl) (λ k other. rw (other.a, other.z) (either _ _))
-    (record { versions = (refl, (refl, tt)); held = tt })
-
-undone-taken : TakesIn 0 undone_intent after_write after_undone
-unfolding computed
-undone-taken =
-    taken-by-key 0 undone_intent written (waits-undone ∷ []) after_write (λ _. refl) (λ _. refl)
-    (λ k other. rw (other.a, other.z) (either _ _))
-    (record { versions = (refl, (refl, tt)); held = (refl, tt) })
-
-intent-taken : TakesIn 0 the_intent after_undone after_intent
-unfolding computed
-intent-taken = taken-by-key 0 the_intent written waits after_undone (λ _. refl) (λ _. refl) (λ k other. rw (other.a, other.z) (either _ _))
-    (record { versions = (refl, (refl, tt)); held = (refl, (refl, (refl, tt))) })
+three-taken = all-taken 0 first_stages new
+    (by-key (λ k. in_range new k ≡ true → AtEach 0 first_stages new k) (λ _. (refl, (refl, (refl, tt))))
+    (λ _. (refl, (refl, (refl, tt)))) (λ k other _. rw (other.a, other.z) (either _ _, (either _ _, (either _ _, tt))))) refl
 
 safe-taken : TakesIn 0 parent_safe after_intent after_safe
 unfolding computed
-safe-taken = taken 0 parent_safe written waits after_intent (λ k _. either _ _)
-    (record { versions = (refl, (refl, tt)); held = (refl, (refl, (refl, tt))) })
+safe-taken = taken 0 parent_safe written waits after_intent (λ k _. either _ _) refl
 
 pub split-taken : TakesIn 0 the_split after_safe early
 unfolding computed
-split-taken = taken 0 the_split written waits after_safe (λ k _. either _ _)
-    (record { versions = (refl, (refl, tt)); held = (refl, (refl, (refl, tt))) })
+split-taken = taken 0 the_split written waits after_safe (λ k _. either _ _) refl
 
 pub before-split-taken : TakesAll 0 before_split new after_safe
-before-split-taken =
-    (after_write, (write-taken, (after_undone, (undone-taken, (after_intent, (intent-taken, (after_safe, (safe-taken, refl))))))))
-
-pub three-taken : TakesAll 0 (the_write ∷ undone_intent ∷ the_intent ∷ []) new after_intent
-three-taken = (after_write, (write-taken, (after_undone, (undone-taken, (after_intent, (intent-taken, refl))))))
+before-split-taken = batches-grow 0
+    (the_write ∷ undone_intent ∷ the_intent ∷ []) parent_safe new after_intent after_safe three-taken safe-taken
 
 pub last-taken : TakesAll 0 (parent_safe ∷ the_split ∷ []) after_intent early
 last-taken = (after_safe, (safe-taken, (early, (split-taken, refl))))
 
-pub three-stand : StandsFor with_both_children 0 after_intent
+three-stand : StandsFor logs 0 after_intent
 unfolding computed
-three-stand = batches-keep with_both_children new after_intent 0 0 1 (the_write ∷ undone_intent ∷ the_intent ∷ []) new-stands-for refl
+three-stand = batches-keep logs new after_intent 0 0 1 (the_write ∷ undone_intent ∷ the_intent ∷ []) new-stands-for refl
     (omega arith) (omega arith) refl three-taken
 
 -- the records from the second on, of which two are skipped
-pub early-stands : StandsFor with_both_children 0 early
+pub early-stands : StandsFor logs 0 early
 unfolding computed
-early-stands =
-    batches-keep with_both_children after_intent early 0 0 2 (undone_intent ∷ the_intent ∷ parent_safe ∷ the_split ∷ []) three-stand refl
+early-stands = batches-keep logs after_intent early 0 0 2 (undone_intent ∷ the_intent ∷ parent_safe ∷ the_split ∷ []) three-stand refl
     (omega arith) (omega arith) refl last-taken
 
 -- ---- and after the children's
@@ -214,53 +227,36 @@ half = after 1 left_apply written-a (waits-z ∷ []) early
 abbrev after_left : TargetTablet
 after_left = after 1 left_safe written-a (waits-z ∷ []) half
 
-abbrev after_both : TargetTablet
-after_both = after 2 right_apply written-both [] after_left
+abbrev right_stages : List Stage
+right_stages = to right_apply written-both [] ∷ to right_safe written-both [] ∷ []
 
 abbrev pub drained : TargetTablet
-drained = after 2 right_safe written-both [] after_both
+drained = through 2 right_stages after_left
 
 pub left_apply-taken : TakesIn 1 left_apply early half
 unfolding computed
-left_apply-taken =
-    taken-by-key 1 left_apply written-a (waits-z ∷ []) early (λ _. refl) (λ _. refl) (λ k other. rw (other.a, other.z) (either _ _))
-    (record { versions = (refl, (refl, (refl, tt))); held = (refl, tt) })
+left_apply-taken = taken 1 left_apply written-a (waits-z ∷ []) early (by-key (λ k. in_range early k ≡ true → At 1 left_apply early half k)
+    (λ _. refl) (λ _. refl) (λ k other _. rw (other.a, other.z) (either _ _))) refl
 
-pub half-stands : StandsFor with_both_children 0 half
+pub half-stands : StandsFor logs 0 half
 unfolding computed
-half-stands = deliveries-keep with_both_children early half 0 1 left_apply early-stands refl refl left_apply-taken
+half-stands = deliveries-keep logs early half 0 1 left_apply early-stands refl refl left_apply-taken
 
-left_safe-taken : TakesIn 1 left_safe half after_left
+left-stands : StandsFor logs 0 after_left
 unfolding computed
-left_safe-taken =
-    taken 1 left_safe written-a (waits-z ∷ []) half (λ k _. either _ _)
-    (record { versions = (refl, (refl, (refl, tt))); held = (refl, tt) })
+left-stands = deliveries-keep logs half after_left 0 1 left_safe half-stands refl refl
+    (taken 1 left_safe written-a (waits-z ∷ []) half (λ k _. either _ _) refl)
 
-left-stands : StandsFor with_both_children 0 after_left
+pub drained-stands : StandsFor logs 0 drained
 unfolding computed
-left-stands = deliveries-keep with_both_children half after_left 0 1 left_safe half-stands refl refl left_safe-taken
-
-right_apply-taken : TakesIn 2 right_apply after_left after_both
-unfolding computed
-right_apply-taken =
-    taken-by-key 2 right_apply written-both [] after_left (λ _. refl) (λ _. refl) (λ k other. rw (other.a, other.z) (either _ _))
-    (record { versions = (refl, (refl, (refl, (refl, tt)))); held = tt })
-
-right_safe-taken : TakesIn 2 right_safe after_both drained
-unfolding computed
-right_safe-taken =
-    taken 2 right_safe written-both [] after_both (λ k _. either _ _) (record { versions = (refl, (refl, (refl, (refl, tt)))); held = tt })
-
-pub drained-stands : StandsFor with_both_children 0 drained
-unfolding computed
-drained-stands =
-    batches-keep with_both_children after_left drained 0 2 1 right_records left-stands refl (omega arith) (omega arith) refl
-    (after_both, (right_apply-taken, (drained, (right_safe-taken, refl))))
+drained-stands = batches-keep logs after_left drained 0 2 1 right_records left-stands refl (omega arith) (omega arith) refl
+    (all-taken 2 right_stages after_left (by-key (λ k. in_range after_left k ≡ true → AtEach 2 right_stages after_left k)
+    (λ _. (refl, (refl, tt))) (λ _. (refl, (refl, tt))) (λ k other _. rw (other.a, other.z) (either _ _, (either _ _, tt)))) refl)
 
 -- ---- a tablet of the lower hashes; that of z is not among them
 
 abbrev lower_new : TargetTablet
-lower_new = new_tablet 0 32767 (headers_of with_both_children.tablets)
+lower_new = new_tablet 0 32767 (headers_of logs.tablets)
 
 abbrev lower_written : List KeyVersion
 lower_written = version a 10 0 (codes "1") ∷ []
@@ -271,105 +267,39 @@ lower_waits = waits-undone ∷ waits-a ∷ []
 abbrev lower_committed : List KeyVersion
 lower_committed = version a 10 0 (codes "1") ∷ version a 16 5 (codes "3") ∷ []
 
-abbrev lower_after_write : TargetTablet
-lower_after_write = after 0 the_write lower_written [] lower_new
+abbrev lower_stages : List Stage
+lower_stages = to the_write lower_written [] ∷ to undone_intent lower_written (waits-undone ∷ []) ∷ to the_intent lower_written lower_waits
+    ∷ to parent_safe lower_written lower_waits ∷ to the_split lower_written lower_waits ∷ []
 
-abbrev lower_after_undone : TargetTablet
-lower_after_undone = after 0 undone_intent lower_written (waits-undone ∷ []) lower_after_write
+abbrev lower_split : TargetTablet
+lower_split = through 0 lower_stages lower_new
 
-abbrev lower_after_intent : TargetTablet
-lower_after_intent = after 0 the_intent lower_written lower_waits lower_after_undone
+lower_split-stands : StandsFor logs 0 lower_split
+unfolding computed
+lower_split-stands = batches-keep logs lower_new lower_split 0 0 1 parent_records
+    (new-stands logs 0 32767 valid) refl (omega arith) (omega arith) refl
+    (all-taken 0 lower_stages lower_new (by-key (λ k. in_range lower_new k ≡ true → AtEach 0 lower_stages lower_new k)
+    (λ _. (refl, (refl, (refl, (refl, (refl, tt)))))) beyond
+    (λ k other _. rw (other.a, other.z) (either _ _, (either _ _, (either _ _, (either _ _, (either _ _, tt))))))) refl)
 
-abbrev lower_after_safe : TargetTablet
-lower_after_safe = after 0 parent_safe lower_written lower_waits lower_after_intent
-
-abbrev lower_after_split : TargetTablet
-lower_after_split = after 0 the_split lower_written lower_waits lower_after_safe
-
-abbrev lower_after_apply : TargetTablet
-lower_after_apply = after 1 left_apply lower_committed [] lower_after_split
+abbrev left_stages : List Stage
+left_stages = to left_apply lower_committed [] ∷ to left_safe lower_committed [] ∷ []
 
 -- after the parent's and the left child's records
 abbrev pub lower : TargetTablet
-lower = after 1 left_safe lower_committed [] lower_after_apply
+lower = through 1 left_stages lower_split
 
-lower-write-taken : TakesIn 0 the_write lower_new lower_after_write
+pub lower-stands : StandsFor logs 0 lower
 unfolding computed
-lower-write-taken =
-    taken-by-key 0 the_write lower_written [] lower_new (λ _. refl) (λ e. absurd (false≢true e))
-    (λ k other. rw (other.a, other.z) (either _ _))
-    (record { versions = (refl, tt); held = tt })
-
-lower-undone-taken : TakesIn 0 undone_intent lower_after_write lower_after_undone
-unfolding computed
-lower-undone-taken =
-    taken-by-key 0 undone_intent lower_written (waits-undone ∷ []) lower_after_write (λ _. refl) (λ e. absurd (false≢true e))
-    (λ k other. rw other.a (either _ _))
-    (record { versions = (refl, tt); held = (refl, tt) })
-
-lower-intent-taken : TakesIn 0 the_intent lower_after_undone lower_after_intent
-unfolding computed
-lower-intent-taken =
-    taken-by-key 0 the_intent lower_written lower_waits lower_after_undone (λ _. refl) (λ e. absurd (false≢true e))
-    (λ k other. rw (other.a, other.z) (either _ _))
-    (record { versions = (refl, tt); held = (refl, (refl, tt)) })
-
-lower-safe-taken : TakesIn 0 parent_safe lower_after_intent lower_after_safe
-unfolding computed
-lower-safe-taken =
-    taken 0 parent_safe lower_written lower_waits lower_after_intent (λ k _. either _ _)
-    (record { versions = (refl, tt); held = (refl, (refl, tt)) })
-
-lower-split-taken : TakesIn 0 the_split lower_after_safe lower_after_split
-unfolding computed
-lower-split-taken =
-    taken 0 the_split lower_written lower_waits lower_after_safe (λ k _. either _ _)
-    (record { versions = (refl, tt); held = (refl, (refl, tt)) })
-
-lower-apply-taken : TakesIn 1 left_apply lower_after_split lower_after_apply
-unfolding computed
-lower-apply-taken =
-    taken-by-key 1 left_apply lower_committed [] lower_after_split (λ _. refl) (λ e. absurd (false≢true e))
-    (λ k other. rw other.a (either _ _))
-    (record { versions = (refl, (refl, tt)); held = tt })
-
-lower-left_safe-taken : TakesIn 1 left_safe lower_after_apply lower
-unfolding computed
-lower-left_safe-taken =
-    taken 1 left_safe lower_committed [] lower_after_apply (λ k _. either _ _) (record { versions = (refl, (refl, tt)); held = tt })
-
-lower_split-stands : StandsFor with_both_children 0 lower_after_split
-unfolding computed
-lower_split-stands =
-    batches-keep with_both_children lower_new lower_after_split 0 0 1 parent_records (new-stands with_both_children 0 32767 valid) refl
-    (omega arith) (omega arith) refl (
-      lower_after_write,
-      (
-        lower-write-taken,
-        (
-          lower_after_undone,
-          (
-            lower-undone-taken,
-            (
-              lower_after_intent,
-              (lower-intent-taken, (lower_after_safe, (lower-safe-taken, (lower_after_split, (lower-split-taken, refl))))),
-            ),
-          ),
-        ),
-      ),
-    )
-
-pub lower-stands : StandsFor with_both_children 0 lower
-unfolding computed
-lower-stands =
-    batches-keep with_both_children lower_after_split lower 0 1 1 (left_apply ∷ left_safe ∷ []) lower_split-stands refl (omega arith)
-    (omega arith) refl
-    (lower_after_apply, (lower-apply-taken, (lower, (lower-left_safe-taken, refl))))
+lower-stands = batches-keep logs lower_split lower 0 1 1 (left_apply ∷ left_safe ∷ []) lower_split-stands refl (omega arith)
+    (omega arith) refl (all-taken 1 left_stages lower_split
+    (by-key (λ k. in_range lower_split k ≡ true → AtEach 1 left_stages lower_split k)
+    (λ _. (refl, (refl, tt))) beyond (λ k other _. rw other.a (either _ _, (either _ _, tt)))) refl)
 
 -- ---- a tablet of the upper hashes; that of a is not among them
 
 abbrev upper_new : TargetTablet
-upper_new = new_tablet 32768 65535 (headers_of with_both_children.tablets)
+upper_new = new_tablet 32768 65535 (headers_of logs.tablets)
 
 abbrev upper_written : List KeyVersion
 upper_written = version z 10 0 (codes "2") ∷ []
@@ -377,86 +307,27 @@ upper_written = version z 10 0 (codes "2") ∷ []
 abbrev upper_committed : List KeyVersion
 upper_committed = version z 10 0 (codes "2") ∷ removed z 16 5 ∷ []
 
-abbrev upper_after_write : TargetTablet
-upper_after_write = after 0 the_write upper_written [] upper_new
+abbrev upper_stages : List Stage
+upper_stages = to the_write upper_written [] ∷ to undone_intent upper_written [] ∷ to the_intent upper_written (waits-z ∷ [])
+    ∷ to parent_safe upper_written (waits-z ∷ []) ∷ to the_split upper_written (waits-z ∷ []) ∷ []
 
-abbrev upper_after_undone : TargetTablet
-upper_after_undone = after 0 undone_intent upper_written [] upper_after_write
+abbrev upper_split : TargetTablet
+upper_split = through 0 upper_stages upper_new
 
-abbrev upper_after_intent : TargetTablet
-upper_after_intent = after 0 the_intent upper_written (waits-z ∷ []) upper_after_undone
-
-abbrev upper_after_safe : TargetTablet
-upper_after_safe = after 0 parent_safe upper_written (waits-z ∷ []) upper_after_intent
-
-abbrev upper_after_split : TargetTablet
-upper_after_split = after 0 the_split upper_written (waits-z ∷ []) upper_after_safe
+upper_split-stands : StandsFor logs 0 upper_split
+unfolding computed
+upper_split-stands = batches-keep logs upper_new upper_split 0 0 1 parent_records
+    (new-stands logs 32768 65535 valid) refl (omega arith) (omega arith) refl
+    (all-taken 0 upper_stages upper_new (by-key (λ k. in_range upper_new k ≡ true → AtEach 0 upper_stages upper_new k) beyond
+    (λ _. (refl, (refl, (refl, (refl, (refl, tt))))))
+    (λ k other _. rw (other.a, other.z) (either _ _, (either _ _, (either _ _, (either _ _, (either _ _, tt))))))) refl)
 
 -- after the parent's records and the right child's apply
 abbrev pub upper : TargetTablet
-upper = after 2 right_apply upper_committed [] upper_after_split
+upper = after 2 right_apply upper_committed [] upper_split
 
-upper-write-taken : TakesIn 0 the_write upper_new upper_after_write
+pub upper-stands : StandsFor logs 0 upper
 unfolding computed
-upper-write-taken =
-    taken-by-key 0 the_write upper_written [] upper_new (λ e. absurd (false≢true e)) (λ _. refl)
-    (λ k other. rw (other.a, other.z) (either _ _))
-    (record { versions = (refl, tt); held = tt })
-
-upper-undone-taken : TakesIn 0 undone_intent upper_after_write upper_after_undone
-unfolding computed
-upper-undone-taken =
-    taken-by-key 0 undone_intent upper_written [] upper_after_write (λ e. absurd (false≢true e)) (λ _. refl)
-    (λ k other. rw (other.a, other.z) (either _ _))
-    (record { versions = (refl, tt); held = tt })
-
-upper-intent-taken : TakesIn 0 the_intent upper_after_undone upper_after_intent
-unfolding computed
-upper-intent-taken =
-    taken-by-key 0 the_intent upper_written (waits-z ∷ []) upper_after_undone (λ e. absurd (false≢true e)) (λ _. refl)
-    (λ k other. rw (other.a, other.z) (either _ _))
-    (record { versions = (refl, tt); held = (refl, tt) })
-
-upper-safe-taken : TakesIn 0 parent_safe upper_after_intent upper_after_safe
-unfolding computed
-upper-safe-taken =
-    taken 0 parent_safe upper_written (waits-z ∷ []) upper_after_intent (λ k _. either _ _)
-    (record { versions = (refl, tt); held = (refl, tt) })
-
-upper-split-taken : TakesIn 0 the_split upper_after_safe upper_after_split
-unfolding computed
-upper-split-taken =
-    taken 0 the_split upper_written (waits-z ∷ []) upper_after_safe (λ k _. either _ _)
-    (record { versions = (refl, tt); held = (refl, tt) })
-
-upper-apply-taken : TakesIn 2 right_apply upper_after_split upper
-unfolding computed
-upper-apply-taken =
-    taken-by-key 2 right_apply upper_committed [] upper_after_split (λ e. absurd (false≢true e)) (λ _. refl)
-    (λ k other. rw other.z (either _ _))
-    (record { versions = (refl, (refl, tt)); held = tt })
-
-upper_split-stands : StandsFor with_both_children 0 upper_after_split
-unfolding computed
-upper_split-stands =
-    batches-keep with_both_children upper_new upper_after_split 0 0 1 parent_records (new-stands with_both_children 32768 65535 valid) refl
-    (omega arith) (omega arith) refl (
-      upper_after_write,
-      (
-        upper-write-taken,
-        (
-          upper_after_undone,
-          (
-            upper-undone-taken,
-            (
-              upper_after_intent,
-              (upper-intent-taken, (upper_after_safe, (upper-safe-taken, (upper_after_split, (upper-split-taken, refl))))),
-            ),
-          ),
-        ),
-      ),
-    )
-
-pub upper-stands : StandsFor with_both_children 0 upper
-unfolding computed
-upper-stands = deliveries-keep with_both_children upper_after_split upper 0 2 right_apply upper_split-stands refl refl upper-apply-taken
+upper-stands = deliveries-keep logs upper_split upper 0 2 right_apply upper_split-stands refl refl
+    (taken 2 right_apply upper_committed [] upper_split (by-key (λ k. in_range upper_split k ≡ true → At 2 right_apply upper_split upper k)
+    beyond (λ _. refl) (λ k other _. rw other.z (either _ _))) refl)

@@ -372,9 +372,7 @@ impl Poller {
             Step::Batch(batch) => {
                 let count = tablets.len();
                 let records = batch.records.as_slice();
-                if deliver_first(tablets, count, self.header.id, batch.from, records).is_err() {
-                    return Err(NextFail::NoMemory);
-                }
+                deliver_first(tablets, count, self.header.id, batch.from, records)?;
                 self.done(&batch);
                 Ok(PollAnswer::Polled(batch.records.as_slice().len() as u64))
             }
@@ -399,9 +397,7 @@ impl Poller {
         match step {
             Step::Batch(batch) => {
                 let records = batch.records.as_slice();
-                if deliver_first(tablets, last + 1, self.header.id, batch.from, records).is_err() {
-                    return Err(NextFail::NoMemory);
-                }
+                deliver_first(tablets, last + 1, self.header.id, batch.from, records)?;
                 self.restart();
                 Ok(PollAnswer::Polled(records.len() as u64))
             }

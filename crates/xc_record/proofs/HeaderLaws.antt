@@ -9,8 +9,8 @@ use Rattle.std.specs.Option.{option_map_or}
 use Rattle.std.specs.List.{list_any}
 use Rattle.std.proofs.lemmas.List.Elements.{filter-append}
 use Rattle.xc_record.specs.declared.record.Header.{Header}
-use Rattle.xc_record.specs.declared.rules.Next.{Next}
-use Rattle.xc_record.specs.declared.rules.Next.TheVariants.{RootAt, LeftChild, RightChild}
+use Rattle.xc_record.specs.declared.headers.Next.{Next}
+use Rattle.xc_record.specs.declared.headers.Next.TheVariants.{RootAt, LeftChild, RightChild}
 use Rattle.xc_record.specs.Hash.{holds}
 use Rattle.xc_record.specs.Headers.{hi_of, after_child, root_fits, is_child_of, fits, next_after, fit_from, headers_fit, parent_fits}
 use Rattle.xc_record.specs.Headers.{splits_off, child_fits}

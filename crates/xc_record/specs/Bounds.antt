@@ -1,9 +1,10 @@
 -- The ranges of the target's tablets.
---     are_bounds bounds      from 1 to 16 hashes, the first 0, each above the one before: where the tablets' ranges begin
+--     are_bounds bounds      from 1 to MOST_TARGETS hashes, the first 0, each above the one before: where the tablets' ranges begin
 --     ranges bounds      the first and the last hash of each tablet, both included
 --     SharesOut whole ranges      the ranges share out the hashes of the range `whole`, in order
 --     IsPartition ranges      the ranges share out all hashes, in order
 use Rattle.std.specs.Prelude.{◌≡◌, ℕ, ◌+◌, ◌-◌, ◌≤◌, Bool, true, false, ◌&&◌, ◌==◌, nat_le, nat_lt, List, [], ◌∷◌, length}
+use Rattle.xc_base.specs.declared.limits.TheConstants.{MOST_TARGETS}
 
 -- each number is above the one before, and is a hash
 abbrev pub rises_from : ℕ → List ℕ → Bool
@@ -15,7 +16,7 @@ starts_at_0 [] = false
 starts_at_0 (b ∷ bs) = b == 0 && rises_from 0 bs
 
 unfoldable pub are_bounds : List ℕ → Bool
-are_bounds bounds = starts_at_0 bounds && nat_le (length bounds) 16
+are_bounds bounds = starts_at_0 bounds && nat_le (length bounds) MOST_TARGETS
 
 abbrev pub ranges_from : ℕ → List ℕ → List (ℕ × ℕ)
 ranges_from lo [] = (lo, 65535) ∷ []

@@ -4,15 +4,16 @@
 --     next_after next h      what may stand after h
 --     fits before next h      h may stand next after the headers before
 --     headers_fit hs      the rules hold of all the headers
---     are_headers hs      the same, and there are at most 64 of them
+--     are_headers hs      the same, and there are at most MOST_TABLETS of them
 --     children hs id      the two headers that name id as their parent
 use Rattle.std.specs.Prelude.{ℕ, ◌+◌, Bool, true, false, List, [], ◌∷◌, ◌++◌, Option, Some, None, if◌then◌else◌, ◌&&◌, ◌==◌, nat_le, nat_lt}
 use Rattle.std.specs.Prelude.{not, length, slice_get}
 use Rattle.std.specs.List.{list_any}
 use Rattle.std.specs.Option.{option_map_or}
+use Rattle.xc_base.specs.declared.limits.TheConstants.{MOST_TABLETS}
 use Rattle.xc_record.specs.declared.record.Header.{Header}
-use Rattle.xc_record.specs.declared.rules.Next.{Next}
-use Rattle.xc_record.specs.declared.rules.Next.TheVariants.{RootAt, LeftChild, RightChild}
+use Rattle.xc_record.specs.declared.headers.Next.{Next}
+use Rattle.xc_record.specs.declared.headers.Next.TheVariants.{RootAt, LeftChild, RightChild}
 
 abbrev pub is_child_of : ℕ → Header → Bool
 is_child_of id h = option_map_or (λ parent. parent == id) h.parent false
@@ -67,7 +68,7 @@ unfoldable pub headers_fit : List Header → Bool
 headers_fit hs = fit_from [] (RootAt 0) hs
 
 unfoldable pub are_headers : List Header → Bool
-are_headers hs = nat_le (length hs) 64 && headers_fit hs
+are_headers hs = nat_le (length hs) MOST_TABLETS && headers_fit hs
 
 abbrev pub with_next : Header → List Header → Option (Header × Header)
 with_next left [] = None

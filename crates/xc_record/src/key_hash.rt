@@ -1,4 +1,4 @@
-ghost use Rattle.std.specs.Prelude.{◌≡◌, ◌≤◌, ◌<◌, ℕ};
+ghost use Rattle.std.specs.Prelude.{◌≡◌, ◌≤◌, ◌<◌, ◌+◌, ◌*◌, ◌%◌, ℕ};
 ghost use Rattle.xc_record.specs.Hash.{hash_of};
 
 use xc_base::Key;
@@ -22,4 +22,12 @@ pub fn hash_bytes(key: &[u8]) -> u16
         h = (31 * h + u32::from(*byte)) % 65_536;
     }
     h as u16
+}
+
+/// The hash of the bytes so far and one more, where `hash` is that of the bytes so far, and 0 that of none.
+#[inline(always)]
+pub fn hash_with(hash: u16, byte: u8) -> u16
+    ensures { result ≡ (31 * hash + byte) % 65536 }
+{
+    ((31 * u32::from(hash) + u32::from(byte)) % 65_536) as u16
 }

@@ -1,20 +1,22 @@
 //! Records of the source's logs, and the definitions over them.
 #![tactic(auto)]
 
+mod headers;
 mod key_hash;
 mod ops;
 mod packed;
 mod record;
-mod rules;
 mod session;
 mod subs;
+mod valid_logs;
 
-pub use key_hash::{hash, hash_bytes};
+pub use headers::{Next, children};
+pub use key_hash::{hash, hash_bytes, hash_with};
 pub use ops::{OpAt, Ops, OpsIter};
 pub use record::{AgreeKind, Break, Header, Kind, Logs, Op, Record, Records, Tablet, Tablets};
-pub use rules::{Next, children, fits, may_end, next_after, valid};
 pub use session::{Command, Line, Numbers, PollAnswer};
-pub use subs::{LAST_SUB, Subs, SubsIter};
+pub use subs::{Subs, SubsIter};
+pub use valid_logs::{is_time, valid};
 pub use xc_time::HybridTime;
 
 #[cfg(test)]

@@ -11,7 +11,7 @@ use std::alloc::AllocError;
 use xc_base::{Key, Value};
 
 #[inline]
-pub fn text(bytes: &[u8]) -> &[u8]
+pub(crate) fn text(bytes: &[u8]) -> &[u8]
     requires { HasText bytes.now }
     ensures { result.now ≡ text_of bytes.now }
 {
@@ -19,7 +19,7 @@ pub fn text(bytes: &[u8]) -> &[u8]
 }
 
 #[inline]
-pub fn after_text(bytes: &[u8]) -> &[u8]
+pub(crate) fn after_text(bytes: &[u8]) -> &[u8]
     requires { HasText bytes.now }
     ensures { result.now ≡ after_text bytes.now }
 {
@@ -27,7 +27,7 @@ pub fn after_text(bytes: &[u8]) -> &[u8]
 }
 
 #[inline]
-pub fn value(bytes: &[u8]) -> Option<Value>
+pub(crate) fn value(bytes: &[u8]) -> Option<Value>
     requires { HasValue bytes.now }
     ensures { result ≡ value_of bytes.now }
 {
@@ -52,7 +52,7 @@ fn after_value(bytes: &[u8]) -> &[u8]
 
 /// What is behind the first operation.
 #[inline]
-pub fn after_op(bytes: &[u8]) -> &[u8]
+pub(crate) fn after_op(bytes: &[u8]) -> &[u8]
     requires { IsAt bytes.now }
     ensures { result.now ≡ after_op bytes.now }
 {
@@ -73,11 +73,15 @@ fn put_text(bytes: &mut Vec<u8>, text: &[u8])
 }
 
 /// The most bytes of an operation.
-pub const OP_BYTES: usize = 99;
+pub(crate) const OP_BYTES: usize = 99;
 
 /// Puts an operation of these bytes last, or leaves the bytes as they are.
 #[inline]
-pub fn put_parts(bytes: &mut Vec<u8>, key: &[u8], value: Option<&[u8]>) -> Result<(), AllocError>
+pub(crate) fn put_parts(
+    bytes: &mut Vec<u8>,
+    key: &[u8],
+    value: Option<&[u8]>,
+) -> Result<(), AllocError>
     requires key { is_key key.now ≡ true }
     requires value { option_map_or is_value (option_copied value) true ≡ true }
     ensures items { bytes.new.items
@@ -98,7 +102,7 @@ pub fn put_parts(bytes: &mut Vec<u8>, key: &[u8], value: Option<&[u8]>) -> Resul
 }
 
 /// Puts an operation last, or leaves the bytes as they are.
-pub fn put_op(bytes: &mut Vec<u8>, op: &Op) -> Result<(), AllocError>
+pub(crate) fn put_op(bytes: &mut Vec<u8>, op: &Op) -> Result<(), AllocError>
     ensures items { bytes.new.items ≡ (if is_ok result then bytes.old.items ++ encode_op op.now else bytes.old.items) }
     ensures well { OnOk result (is_op op.now ≡ true) }
 {

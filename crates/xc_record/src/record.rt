@@ -1,5 +1,5 @@
 // What the source's logs are made of: tablets, each with a header and its write-ahead records.
-ghost use Rattle.std.specs.Prelude.{◌≡◌, ◌<◌, ◌++◌, ◌∷◌, [], length, OnOk, is_ok, if◌then◌else◌};
+ghost use Rattle.std.specs.Prelude.{◌≡◌, ◌<◌, ◌++◌, ◌∷◌, [], length, OnOk, OnErr, is_ok, if◌then◌else◌};
 ghost use Rattle.xc_record.specs.Hash.{holds};
 ghost use Rattle.xc_record.specs.Grown.{with_record};
 
@@ -27,7 +27,7 @@ pub enum Kind {
         ops: Ops,
     },
     /// Provisional records of a distributed transaction: its operations wait here until its apply or abort. They belong
-    /// to the transaction's subtransaction `sub`, 1 to 64, or to none where it is 0.
+    /// to the transaction's subtransaction `sub`, 1 to `LAST_SUB`, or to none where it is 0.
     Intent {
         txn: u32,
         sub: u8,
@@ -181,7 +181,8 @@ impl Tablets {
     /// Puts the record behind those of the tablet of this number. After an error all is as before.
     pub fn push_record(&mut self, id: u32, item: Record) -> Result<(), AllocError>
         requires { id < length self.old }
-        ensures { OnOk result (self.new ≡ with_record id item self.old) }
+        ensures ok { OnOk result (self.new ≡ with_record id item self.old) }
+        ensures err { OnErr result (self.new ≡ self.old) }
     {
         self.items[id as usize].records.push(item)
     }

@@ -5,11 +5,9 @@ ghost use Rattle.xc_record.specs.Lists.{has, insert_number};
 ghost use Rattle.xc_record.specs.Subs.{are_subs};
 
 use std::marker::Model;
+use xc_base::LAST_SUB;
 
-/// The greatest number of a subtransaction. The transaction itself, outside all of them, is 0.
-pub const LAST_SUB: u8 = 64;
-
-/// Numbers of subtransactions, from 1 to 64, which contracts see as their rising list. They take no memory.
+/// Numbers of subtransactions, from 1 to [`LAST_SUB`], which contracts see as their rising list. They take no memory.
 #[derive(Drop, Debug)]
 pub struct Subs {
     bits: u64,
@@ -34,7 +32,7 @@ impl Subs {
         Subs { bits: 0 }
     }
 
-    /// Whether the number is among them; 0 and numbers above 64 never are.
+    /// Whether the number is among them; 0 and numbers above [`LAST_SUB`] never are.
     #[inline]
     pub fn contains(&self, sub: u8) -> bool
         ensures { result ≡ has sub self.now }
@@ -49,7 +47,7 @@ impl Subs {
     /// Puts the number among them.
     pub fn insert(&mut self, sub: u8)
         requires low { 1 ≤ sub }
-        requires high { sub ≤ 64 }
+        requires high { sub ≤ LAST_SUB }
         ensures { self.new ≡ insert_number sub self.old }
     {
         self.bits |= 1 << (sub - 1);

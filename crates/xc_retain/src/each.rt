@@ -6,7 +6,7 @@ ghost use Rattle.xc_model.specs.Stands.{KeepsFrom, restore};
 use xc_tablet::TargetTablet;
 
 /// Lets go the history before the cutoff in each tablet.
-pub fn keep_all_from(tablets: &mut [TargetTablet], cutoff: u64)
+pub(crate) fn keep_all_from(tablets: &mut [TargetTablet], cutoff: u64)
     ensures { AllZip (KeepsFrom cutoff) tablets.old tablets.new }
 {
     for tablet in tablets.iter_mut() {
@@ -15,7 +15,7 @@ pub fn keep_all_from(tablets: &mut [TargetTablet], cutoff: u64)
 }
 
 /// Lets go what is later than `t`, and all that waits, in each tablet.
-pub fn restore_all(tablets: &mut [TargetTablet], t: u64)
+pub(crate) fn restore_all(tablets: &mut [TargetTablet], t: u64)
     ensures { AllZip (λ x y. y ≡ restore t x) tablets.old tablets.new }
 {
     for tablet in tablets.iter_mut() {

@@ -4,6 +4,7 @@
 use Rattle.std.specs.Prelude.{◌≡◌, ℕ, ◌+◌, ◌^◌, ◌<◌, ◌≤◌, true, List, [], ◌∷◌, length, count_by}
 use Rattle.std.specs.List.{AllByRecursion, list_all}
 use Rattle.xc_base.specs.Names.{is_key}
+use Rattle.xc_base.specs.declared.limits.TheConstants.{MOST_TABLETS, MOST_RECORDS, WATCHED_KEYS, MOST_SCANS, MOST_DRAINS, SCRIPT_LINES}
 use Rattle.xc_record.specs.Bounds.{are_bounds}
 use Rattle.xc_record.specs.declared.session.Command.{Command}
 use Rattle.xc_record.specs.declared.session.Command.TheVariants.{Poll, Stop, Ack, Restart, Read, ReadAt, Prune}
@@ -13,13 +14,13 @@ use Rattle.xc_script.specs.ScriptText.{is_scan, is_drain}
 -- a source tablet
 pub record IsSource (sources id : ℕ) : Type 0 where
   pub known : id < sources
-  pub small : id < 64
+  pub small : id < MOST_TABLETS
 
 -- a poll of up to n records of a source tablet
 pub record IsPoll (sources id n : ℕ) : Type 0 where
   pub source : IsSource sources id
   pub least : 1 ≤ n
-  pub most : n ≤ 2 ^ 20
+  pub most : n ≤ MOST_RECORDS
 
 -- a poll that stops after the target tablets 0 to last
 pub record IsStop (sources targets id n last : ℕ) : Type 0 where
@@ -52,9 +53,9 @@ lines_in script = watch_lines script.watched + length script.commands + 3
 
 pub record IsScript (sources : ℕ) (script : Script) : Type 0 where
   pub bounds : are_bounds script.bounds ≡ true
-  pub watched : length script.watched ≤ 16
+  pub watched : length script.watched ≤ WATCHED_KEYS
   pub named : list_all is_key script.watched ≡ true
   pub commands : AllByRecursion (IsAllowed sources (length script.bounds)) script.commands
-  pub scans : count_by is_scan script.commands ≤ 8
-  pub drains : count_by is_drain script.commands ≤ 64
-  pub lines : lines_in script ≤ 65536
+  pub scans : count_by is_scan script.commands ≤ MOST_SCANS
+  pub drains : count_by is_drain script.commands ≤ MOST_DRAINS
+  pub lines : lines_in script ≤ SCRIPT_LINES

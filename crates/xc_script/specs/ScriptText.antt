@@ -25,6 +25,7 @@ use Rattle.xc_script.specs.declared.reading.Reading.{Reading}
 use Rattle.xc_script.specs.declared.script.Script.{Script}
 use Rattle.xc_script.specs.Kinds.{first_kind}
 use Rattle.xc_script.specs.Words.{ScriptLine, First, Target, Watch, Ask, End, line_of, numbers_fit, keys_fit, key_of, meant}
+use Rattle.xc_base.specs.declared.limits.TheConstants.{SCRIPT_LINES, WATCHED_KEYS, MOST_SCANS, MOST_DRAINS}
 
 pub record BadLine : Type 0 where
   pub line : ℕ
@@ -43,7 +44,7 @@ misplaced stage.Commands (Ask c) = false
 misplaced stage.Commands End = false
 misplaced _ l = true
 
--- the first bound isn't 0, or one isn't above the one before, or there are more than 16
+-- the first bound isn't 0, or one isn't above the one before, or there are more than MOST_TARGETS
 abbrev pub breaks_bounds : ScriptLine → Bool
 breaks_bounds (Target bounds) = not (are_bounds bounds)
 breaks_bounds l = false
@@ -64,11 +65,11 @@ abbrev pub is_drain : Command → Bool
 is_drain command.Drain = true
 is_drain c = false
 
--- one of a kind of which the script has as many as it may have, or more than 16 watched keys
+-- one of a kind of which the script has as many as it may have, or more than WATCHED_KEYS watched keys
 abbrev pub is_too_many : List Command → ScriptLine → Bool
-is_too_many before (Watch words) = nat_lt 16 (length words)
-is_too_many before (Ask command.Scan) = nat_le 8 (count_by is_scan before)
-is_too_many before (Ask command.Drain) = nat_le 64 (count_by is_drain before)
+is_too_many before (Watch words) = nat_lt WATCHED_KEYS (length words)
+is_too_many before (Ask command.Scan) = nat_le MOST_SCANS (count_by is_scan before)
+is_too_many before (Ask command.Drain) = nat_le MOST_DRAINS (count_by is_drain before)
 is_too_many before l = false
 
 -- the rules beyond those that a line meets by itself
@@ -76,7 +77,7 @@ abbrev pub later_kinds : Reading → ScriptLine → List (Bool × ScriptKind)
 later_kinds s l =
     (breaks_bounds l, kind.Target)
     ∷ (is_unknown s.sources (length s.script.bounds) l, kind.UnknownTablet)
-    ∷ (nat_le 65536 s.lines || is_too_many s.script.commands l, kind.Limit)
+    ∷ (nat_le SCRIPT_LINES s.lines || is_too_many s.script.commands l, kind.Limit)
     ∷ []
 
 abbrev pub kinds : Reading → ScriptLine → List (Bool × ScriptKind)
@@ -186,17 +187,18 @@ is_watch_line other word = false
 
 -- with one line more that breaks no rule by itself and gives this script, where there may be one
 abbrev pub forward : Reading → Stage → Script → Result Reading ScriptKind
-forward s next script = if nat_le 65536 s.lines then Err kind.Limit else Ok (after_line s next script)
+forward s next script = if nat_le SCRIPT_LINES s.lines then Err kind.Limit else Ok (after_line s next script)
 
 -- with a version, bounds, watched keys and a command that stand by themselves and in their places
 abbrev pub with_version : Reading → Version → Result Reading ScriptKind
-with_version s version = if nat_le 65536 s.lines then Err kind.Limit else Ok (moved s (First version))
+with_version s version = if nat_le SCRIPT_LINES s.lines then Err kind.Limit else Ok (moved s (First version))
 
 abbrev pub with_bounds : Reading → List ℕ → Result Reading ScriptKind
 with_bounds s bounds = if are_bounds bounds then forward s stage.Watch (record s.script { bounds = bounds }) else Err kind.Target
 
 abbrev pub with_watched : Reading → List (List ℕ) → Result Reading ScriptKind
-with_watched s keys = if nat_lt 16 (length keys) then Err kind.Limit else forward s stage.Commands (record s.script { watched = keys })
+with_watched s keys =
+    if nat_lt WATCHED_KEYS (length keys) then Err kind.Limit else forward s stage.Commands (record s.script { watched = keys })
 
 abbrev pub with_command : Reading → Command → Result Reading ScriptKind
 with_command s c =

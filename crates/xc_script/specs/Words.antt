@@ -21,6 +21,7 @@ use Rattle.xc_script.specs.Kinds.{judge}
 use Rattle.xc_script.specs.declared.kind.ScriptKind.{ScriptKind}
 use Rattle.xc_script.specs.declared.reading.Version.{Version}
 use Rattle.xc_script.specs.declared.reading.Version.TheVariants.{One, Two}
+use Rattle.xc_base.specs.declared.limits.TheConstants.{KEY_BYTES, MOST_TABLETS, MOST_TARGETS, MOST_RECORDS}
 
 pub data ScriptLine : Type 0 where
   -- the first line of a script
@@ -134,16 +135,16 @@ line_of words = if list_all is_word words then line_in words else None
 -- ---- numbers
 
 abbrev pub is_source : ℕ → Bool
-is_source id = nat_lt id 64
+is_source id = nat_lt id MOST_TABLETS
 
 abbrev pub is_target : ℕ → Bool
-is_target j = nat_lt j 16
+is_target j = nat_lt j MOST_TARGETS
 
 abbrev pub is_hash : ℕ → Bool
 is_hash b = nat_lt b 65536
 
 abbrev pub is_count : ℕ → Bool
-is_count n = nat_le 1 n && nat_le n (2 ^ 20)
+is_count n = nat_le 1 n && nat_le n MOST_RECORDS
 
 -- a time that is read or pruned at, which may be 0
 abbrev pub is_moment : ℕ → Bool
@@ -168,7 +169,7 @@ numbers_fit _ = true
 -- in version 1 a key's word is its bytes, which are plain; in version 2 it may be the word of any bytes
 abbrev pub key_fits : Version → List ℕ → Bool
 key_fits One word = is_none (key_fault word)
-key_fits Two word = is_none (word_fault 1 32 word)
+key_fits Two word = is_none (word_fault 1 KEY_BYTES word)
 
 abbrev pub key_of : Version → List ℕ → List ℕ
 key_of One word = word

@@ -12,18 +12,8 @@ use crate::kind::{Fail, ScriptKind};
 use crate::script::{Bounds, Commands, Keys, Script};
 use crate::words::{are_words, pieces, read_bounds, read_keys};
 use std::alloc::Global;
+use xc_base::{MOST_DRAINS, MOST_SCANS, MOST_TARGETS, SCRIPT_LINES, WATCHED_KEYS};
 use xc_record::Command;
-
-// The most lines of a script, watched keys, scans, drains and bounds.
-const LINES_LIMIT: u64 = 65_536;
-
-const WATCHED_LIMIT: usize = 16;
-
-const SCANS_LIMIT: usize = 8;
-
-const DRAINS_LIMIT: usize = 64;
-
-const BOUNDS_LIMIT: usize = 16;
 
 // How keys are written.
 #[derive(Clone, Copy, PartialEq, Eq, Debug)]
@@ -65,7 +55,7 @@ fn are_bounds(bounds: &[u16]) -> bool
     ensures { result ≡ are_bounds bounds.now }
 {
     match bounds {
-        [first, rest @ ..] => *first == 0 && rises_from(0, rest) && bounds.len() <= BOUNDS_LIMIT,
+        [first, rest @ ..] => *first == 0 && rises_from(0, rest) && bounds.len() <= MOST_TARGETS,
         [] => false,
     }
 }
@@ -119,8 +109,8 @@ fn is_too_many(before: &[Command], command: &Command) -> bool
     ensures { result ≡ is_too_many before.now (Ask command.now) }
 {
     match command {
-        Command::Scan => scans(before) >= SCANS_LIMIT,
-        Command::Drain => drains(before) >= DRAINS_LIMIT,
+        Command::Scan => scans(before) >= MOST_SCANS,
+        Command::Drain => drains(before) >= MOST_DRAINS,
         _ => false,
     }
 }
@@ -255,7 +245,7 @@ impl Reading {
     fn set_watched(&mut self, keys: Keys) -> Result<(), Fail>
         ensures { Answers (λ _. self.new) result (with_watched self.old keys) }
     {
-        if keys.as_slice().len() > WATCHED_LIMIT {
+        if keys.as_slice().len() > WATCHED_KEYS {
             return Err(Fail::Bad(ScriptKind::Limit));
         }
         self.go_forward(Stage::Commands)?;
@@ -307,7 +297,7 @@ impl Reading {
     fn go_forward(&mut self, stage: Stage) -> Result<(), Fail>
         ensures { Answers (λ _. self.new) result (forward self.old stage self.old.script) }
     {
-        if self.lines >= LINES_LIMIT {
+        if self.lines >= SCRIPT_LINES {
             return Err(Fail::Bad(ScriptKind::Limit));
         }
         self.lines += 1;

@@ -12,7 +12,7 @@ use crate::kind::{Fail, ScriptKind};
 use crate::reading::Version;
 use crate::script::{Bounds, Keys};
 use std::alloc::{AllocError, Global};
-use xc_base::{Key, NumberFail, read_key, read_number};
+use xc_base::{Key, MOST_RECORDS, MOST_TABLETS, MOST_TARGETS, NumberFail, read_key, read_number};
 
 /// The bytes in pieces, cut at each separator: one at least, and an empty one where two separators touch.
 pub fn pieces<'a>(
@@ -53,7 +53,7 @@ fn number_up_to(word: &[u8], most: u64) -> Result<Option<u64>, Fail>
 pub(crate) fn source(word: &[u8]) -> Result<Option<u32>, Fail>
     ensures { MatchResult result (IsNumber is_source word.now) (λ e. (e ≡ Bad Form) × (number_of word.now ≡ None)) }
 {
-    match number_up_to(word, 63)? {
+    match number_up_to(word, MOST_TABLETS as u64 - 1)? {
         Some(id) => Ok(Some(id as u32)),
         None => Ok(None),
     }
@@ -63,7 +63,7 @@ pub(crate) fn source(word: &[u8]) -> Result<Option<u32>, Fail>
 pub(crate) fn count(word: &[u8]) -> Result<Option<u64>, Fail>
     ensures { MatchResult result (IsNumber is_count word.now) (λ e. (e ≡ Bad Form) × (number_of word.now ≡ None)) }
 {
-    match number_up_to(word, 1_048_576)? {
+    match number_up_to(word, MOST_RECORDS as u64)? {
         Some(n) if n >= 1 => Ok(Some(n)),
         _ => Ok(None),
     }
@@ -73,7 +73,7 @@ pub(crate) fn count(word: &[u8]) -> Result<Option<u64>, Fail>
 pub(crate) fn target(word: &[u8]) -> Result<Option<usize>, Fail>
     ensures { MatchResult result (IsNumber is_target word.now) (λ e. (e ≡ Bad Form) × (number_of word.now ≡ None)) }
 {
-    match number_up_to(word, 15)? {
+    match number_up_to(word, MOST_TARGETS as u64 - 1)? {
         Some(last) => Ok(Some(last as usize)),
         None => Ok(None),
     }

@@ -15,8 +15,8 @@ use Rattle.xc_record.specs.declared.record.Header.{Header}
 use Rattle.xc_record.specs.declared.record.Kind.{Kind}
 use Rattle.xc_record.specs.declared.record.Kind.TheVariants as kind
 use Rattle.xc_record.specs.declared.record.Record.{Record}
-use Rattle.xc_record.specs.declared.rules.Next.{Next}
-use Rattle.xc_record.specs.declared.rules.Next.TheVariants.{RootAt, LeftChild, RightChild}
+use Rattle.xc_record.specs.declared.headers.Next.{Next}
+use Rattle.xc_record.specs.declared.headers.Next.TheVariants.{RootAt, LeftChild, RightChild}
 use Rattle.xc_record.specs.Headers.{is_child_of, splits_off, fits, next_after, hi_of, may_end, fit_from, with_next}
 use Rattle.xc_record.specs.Headers.{children}
 use Rattle.xc_record.specs.Order.{is_split}

@@ -11,7 +11,7 @@ use Rattle.std.proofs.lemmas.List.Folds.{list_all-append}
 use Rattle.xc_time.specs.Times.{last_time}
 use Rattle.xc_record.specs.declared.record.Header.{Header}
 use Rattle.xc_record.specs.declared.record.Record.{Record}
-use Rattle.xc_record.specs.declared.rules.Next.TheVariants.{RootAt, LeftChild}
+use Rattle.xc_record.specs.declared.headers.Next.TheVariants.{RootAt, LeftChild}
 use Rattle.xc_record.specs.Headers.{is_child_of, fit_from, children}
 use Rattle.xc_record.specs.Order.{is_split}
 use Rattle.xc_record.specs.Valid.{record_fits, ends_fit, ops_in}

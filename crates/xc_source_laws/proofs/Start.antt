@@ -7,7 +7,7 @@ use Rattle.std.proofs.lemmas.Bool.Decides.{nat_tests}
 use Rattle.std.proofs.lemmas.Bool.{and_parts, eqb-true, leb-true}
 use Rattle.std.proofs.lemmas.List.{length_push}
 use Rattle.xc_record.specs.declared.record.Header.{Header}
-use Rattle.xc_record.specs.declared.rules.Next.TheVariants.{RootAt}
+use Rattle.xc_record.specs.declared.headers.Next.TheVariants.{RootAt}
 use Rattle.xc_record.specs.Headers.{are_headers, headers_fit, fit_from, fits, parent_fits, next_after}
 use Rattle.xc_record.specs.Accepted.{AcceptedTablet, root_start}
 use Rattle.xc_record.proofs.ListLaws.{Each, Each-weaker}

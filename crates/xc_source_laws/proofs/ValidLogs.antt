@@ -12,8 +12,8 @@ use Rattle.xc_time.specs.Times.{last_time}
 use Rattle.xc_record.specs.declared.record.Header.{Header}
 use Rattle.xc_record.specs.declared.record.Record.{Record}
 use Rattle.xc_record.specs.declared.record.Tablet.{Tablet}
-use Rattle.xc_record.specs.declared.rules.Next.{Next}
-use Rattle.xc_record.specs.declared.rules.Next.TheVariants.{RootAt}
+use Rattle.xc_record.specs.declared.headers.Next.{Next}
+use Rattle.xc_record.specs.declared.headers.Next.TheVariants.{RootAt}
 use Rattle.xc_record.specs.Headers.{is_child_of, fits, next_after, may_end, fit_from, headers_fit, are_headers}
 use Rattle.xc_record.specs.Valid.{tablet_fits, headers_of, ops_in, is_valid}
 use Rattle.xc_record.specs.Accepted.{AcceptedTablet}

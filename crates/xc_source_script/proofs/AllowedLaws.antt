@@ -10,7 +10,7 @@ use Rattle.std.proofs.lemmas.List.{length-append, append-nil}
 use Rattle.xc_base.specs.Words.{split_on}
 use Rattle.xc_record.specs.Headers.{fit_from, headers_fit, are_headers}
 use Rattle.xc_record.specs.declared.record.Header.{Header}
-use Rattle.xc_record.specs.declared.rules.Next.TheVariants.{RootAt}
+use Rattle.xc_record.specs.declared.headers.Next.TheVariants.{RootAt}
 use Rattle.xc_script.proofs.AllowedLaws.{none_is, is_below, or_none, is_true}
 use Rattle.xc_script.proofs.ReadBack.{all_with, lt_is}
 use Rattle.xc_source.specs.declared.command.SourceCommand.{SourceCommand}

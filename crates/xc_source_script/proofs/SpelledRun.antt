@@ -9,7 +9,7 @@ use Rattle.std.proofs.lemmas.List.Folds.{list_all-append}
 use Rattle.xc_base.specs.Words.{split_on}
 use Rattle.xc_record.specs.Headers.{are_headers, fit_from, headers_fit}
 use Rattle.xc_record.specs.declared.record.Header.{Header}
-use Rattle.xc_record.specs.declared.rules.Next.TheVariants.{RootAt}
+use Rattle.xc_record.specs.declared.headers.Next.TheVariants.{RootAt}
 use Rattle.xc_script.proofs.SpelledWords.{above, bodies, decimal_is, is_lt, lines_back, words_back}
 use Rattle.xc_source.specs.declared.command.SourceCommand.{SourceCommand}
 use Rattle.xc_text.specs.declared.line.Version.{Version}

@@ -9,7 +9,7 @@ use Rattle.xc_record.specs.Headers.{fit_from, next_after, parent_fits}
 use Rattle.xc_record.specs.Valid.{is_txn}
 use Rattle.xc_record.specs.declared.record.Header.{Header}
 use Rattle.xc_record.specs.declared.record.Op.{Op}
-use Rattle.xc_record.specs.declared.rules.Next.TheVariants.{RootAt}
+use Rattle.xc_record.specs.declared.headers.Next.TheVariants.{RootAt}
 use Rattle.xc_script.proofs.AllowedLaws.{none_is}
 use Rattle.xc_script.proofs.SpelledWords.{above, decimal_is, is_lt}
 use Rattle.xc_script.specs.Words.{is_word}

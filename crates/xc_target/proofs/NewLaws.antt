@@ -10,8 +10,8 @@ use Rattle.std.proofs.lemmas.Option.{slice_get-map, slice_get_within, same_Some,
 use Rattle.xc_record.specs.declared.record.Header.{Header}
 use Rattle.xc_record.specs.declared.record.Tablet.{Tablet}
 use Rattle.xc_record.specs.declared.record.Logs.{Logs}
-use Rattle.xc_record.specs.declared.rules.Next.{Next}
-use Rattle.xc_record.specs.declared.rules.Next.TheVariants.{RootAt}
+use Rattle.xc_record.specs.declared.headers.Next.{Next}
+use Rattle.xc_record.specs.declared.headers.Next.TheVariants.{RootAt}
 use Rattle.xc_record.specs.Accepted.{AcceptedTablet, accepted_tablets, accepted_tablet}
 use Rattle.xc_record.specs.Bounds.{are_bounds, rises_from, ranges, IsPartition}
 use Rattle.xc_record.specs.Headers.{are_headers, headers_fit, fit_from, next_after, children}

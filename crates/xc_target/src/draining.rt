@@ -29,7 +29,7 @@ fn halt_of(id: u32, answer: PollAnswer) -> Option<Halt>
 
 /// Polls the source tablet until there is nothing to deliver, and answers its halt, if it has one. It fails as a poll
 /// does; the polls made so far stand.
-pub fn drain_tablet<F: Feed>(
+pub(crate) fn drain_tablet<F: Feed>(
     target: &mut Target,
     alloc: Global,
     feed: &mut F,

@@ -8,7 +8,7 @@ use xc_record::hash;
 use xc_tablet::TargetTablet;
 
 /// The least of the last safe values of the tablets that are open and not closed. It looks at up to 64 numbers.
-pub fn least_open(pollers: &[Poller]) -> u64
+pub(crate) fn least_open(pollers: &[Poller]) -> u64
     ensures { result ≡ least_open pollers.now }
 {
     let mut least: u64 = 1 << 62;
@@ -21,7 +21,7 @@ pub fn least_open(pollers: &[Poller]) -> u64
 }
 
 /// The value of the key at the time `t`, in the tablet whose range has it.
-pub fn shown<'a>(tablets: &'a [TargetTablet], key: &Key, t: u64) -> Option<&'a Value>
+pub(crate) fn shown<'a>(tablets: &'a [TargetTablet], key: &Key, t: u64) -> Option<&'a Value>
     ensures { option_copied result ≡ shown_at t key.now tablets.now }
 {
     let at = hash(key);

@@ -26,10 +26,7 @@ fn add_tablet(
     ensures { IfOk result (λ _. tablets.new.items ≡ tablets.old.items ++ new_tablet lo hi headers.now ∷ []) }
 {
     let tablet = TargetTablet::new(alloc, lo, hi, headers)?;
-    if tablets.push(tablet).is_err() {
-        return Err(NoMemory);
-    }
-    Ok(())
+    Ok(tablets.push(tablet)?)
 }
 
 // Tablets of the hashes from `lo` on, the later ones from these hashes on.
@@ -54,7 +51,7 @@ fn tablets_from(
 }
 
 /// Tablets that begin at these hashes. `NoMemory` where memory is out.
-pub fn new_tablets(
+pub(crate) fn new_tablets(
     alloc: Global,
     headers: &[Header],
     bounds: &[u16],
@@ -70,14 +67,12 @@ pub fn new_tablets(
 }
 
 /// A new poller for each header. `NoMemory` where memory is out.
-pub fn new_pollers(alloc: Global, headers: &[Header]) -> Result<Vec<Poller>, NoMemory>
+pub(crate) fn new_pollers(alloc: Global, headers: &[Header]) -> Result<Vec<Poller>, NoMemory>
     ensures { IfOk result (λ pollers. pollers.items ≡ map new_poller headers.now) }
 {
     let mut pollers = Vec::new(alloc);
     for header in headers {
-        if pollers.push(Poller::new(*header)).is_err() {
-            return Err(NoMemory);
-        }
+        pollers.push(Poller::new(*header))?;
     }
     Ok(pollers)
 }
@@ -96,7 +91,7 @@ fn open_one(poller: &mut Poller, header: &Header, parent: &Poller)
 }
 
 /// Opens the pollers of the children of a closed tablet. The headers are those of the pollers.
-pub fn open_children(pollers: &mut [Poller], headers: &[Header], parent: &Poller)
+pub(crate) fn open_children(pollers: &mut [Poller], headers: &[Header], parent: &Poller)
     requires headers { headers.now ≡ headers_of_pollers pollers.old }
     requires closed { is_closed parent.now ≡ true }
     ensures { AllZip (Opens parent.now) pollers.old pollers.new }

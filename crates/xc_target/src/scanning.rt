@@ -10,16 +10,14 @@ use xc_tablet::TargetTablet;
 use xc_versions::Rows;
 
 /// The rows that the tablets show at the time `t`, in byte order of keys. `NoMemory` where memory is out.
-pub fn rows_of_all(alloc: Global, tablets: &[TargetTablet], t: u64) -> Result<Rows, NoMemory>
+pub(crate) fn rows_of_all(alloc: Global, tablets: &[TargetTablet], t: u64) -> Result<Rows, NoMemory>
     ensures rows { IfOk result (λ found. IsPermutation (flat_map (rows_shown t) tablets.now) found) }
     ensures order { IfOk result (λ found. IsSortedByKey (λ row. row.0) (slice_cmp nat_cmp) found) }
 {
     let mut rows: Vec<(Key, Value)> = Vec::new(alloc);
     for tablet in tablets {
         let mut shown = tablet.rows(alloc, t)?.into_vec();
-        if rows.append(&mut shown).is_err() {
-            return Err(NoMemory);
-        }
+        rows.append(&mut shown)?;
     }
     // One sort serves all tablets: their ranges are of hashes, so the keys of two tablets stand in no order.
     rows.sort_unstable_by(|a, b| a.0.cmp(&b.0));

@@ -1,4 +1,5 @@
 pub mod CutLaws
+pub mod PlainFronts
 pub mod NumberLaws
 pub mod OpsLaws
 pub mod SubsRead
@@ -8,6 +9,7 @@ pub mod ValidParts
 pub mod OpsHeld
 pub mod ValidLaws
 pub mod PrintedWords
+pub mod PlainOps
 pub mod PrintedLines
 pub mod PrintedHeaders
 pub mod PrintedLaws

@@ -1,6 +1,9 @@
 -- Lines whose parts are judged before the whole.
 use Rattle.std.proofs.Common.{◌≡◌, ℕ, Bool, true, false, ◌&&◌, List, Option, Some, None, Result, Ok, Err, refl, sym, ap, subst, ◌∙◌}
-use Rattle.std.proofs.Common.{option_map, if◌then◌else◌, nat_lt, nat_le}
+use Rattle.std.proofs.Common.{option_map, if◌then◌else◌, nat_lt, nat_le, [], ◌∷◌, codes}
+use Rattle.std.specs.Str.{bytes_eq}
+use Rattle.std.proofs.lemmas.Slice.Eq.{bytes_eq-Decides}
+use Rattle.std.proofs.lemmas.Option.{same_Some}
 use Rattle.xc_record.specs.declared.record.Op.{Op}
 use Rattle.xc_record.specs.declared.record.Kind.{Kind}
 use Rattle.xc_record.specs.declared.record.Kind.TheVariants.{Write, Intent, Apply}
@@ -18,7 +21,7 @@ use Rattle.xc_text.specs.declared.kind.Fail.TheVariants as fail
 use Rattle.xc_text.specs.Kinds.{judge, before_key, after_numbers, Refuses}
 use Rattle.xc_text.specs.Lines.{first_number, sub_of, intent_of, apply_of, without_of, without_in, entry_of, ops_of, ops_in, kind_of}
 use Rattle.xc_text.specs.Lines.{kind_in, op_is_named, kind_numbers_fit, kind_names_fit, numbers_fit, names_fit, header_of}
-use Rattle.xc_text.specs.Lines.{header_numbers_fit, ◌>>=◌}
+use Rattle.xc_text.specs.Lines.{header_numbers_fit, number, line_in, line_of, line_by, ◌>>=◌}
 
 -- what is judged of a part goes on to the whole, whose numbers fit or not
 abbrev pub carried : {A B : Type 0} → Bool → (A → B) → Result A LogKind → Result B LogKind
@@ -250,3 +253,41 @@ header_refused words e h = let P : Result LogLine LogKind
 pub header_read : (words : List (List ℕ)) (h : Header) → judge header_numbers_fit (λ header. true) (header_of words) ≡ Ok h
     → line_judged (option_map line.Tablet (header_of words)) ≡ Ok (line.Tablet h)
 header_read words h is = header_judged words ∙ ap (carried true line.Tablet) is
+
+-- ---- a line that begins with a number
+
+not_word : (w text : List ℕ) (n : ℕ) → number text ≡ None → number w ≡ Some n → bytes_eq w text ≡ false
+not_word w text n none h = by (bytes_eq w text) refl
+  where
+    by : (b : Bool) → bytes_eq w text ≡ b → b ≡ false
+    by true e =
+        let same : w ≡ text = (bytes_eq-Decides w text).0 e in
+        let found : number text ≡ Some n = subst (λ t. number t ≡ Some n) same h in cc
+    by false e = refl
+
+no_number : (number (codes "xclog") ≡ None) × (number (codes "tablet") ≡ None) × (number (codes "end") ≡ None)
+unfolding number
+no_number = (refl, refl, refl)
+
+pub number_line : (v : Version) (words rest : List (List ℕ)) (id : ℕ) → first_number words ≡ Some (id, rest)
+    → line_in v words ≡ line_judged (entry_of v id rest)
+unfolding line_in line_of
+number_line v [] rest id h = cc
+number_line v (w ∷ ws) rest id h = by (number w) refl h
+  where
+    by : (o : Option ℕ) → number w ≡ o → option_map {U = ℕ × List (List ℕ)} (λ n. (n, ws)) o ≡ Some (id, rest)
+        → line_judged (line_by v w ws) ≡ line_judged (entry_of v id rest)
+    by None is k = cc
+    by (Some n) is k =
+        let p : ℕ × List (List ℕ) = (n, ws) in
+        let q : ℕ × List (List ℕ) = (id, rest) in
+        let both : p ≡ q = same_Some p q k in
+        let first : n ≡ id = ap (λ (p : ℕ × List (List ℕ)). p.0) both in
+        let others : ws ≡ rest = ap (λ (p : ℕ × List (List ℕ)). p.1) both in
+        rw (
+          not_word w (codes "xclog") n no_number.0 is,
+          not_word w (codes "tablet") n no_number.1 is,
+          not_word w (codes "end") n no_number.2 is,
+          is,
+        )
+        (ap (λ i. line_judged (entry_of v i ws)) first ∙ ap (λ more. line_judged (entry_of v id more)) others)

@@ -162,7 +162,7 @@ pub put_form : (v : Version) (seen : List Op) (w : List ℕ) (ws all : List (Lis
     → ops_in v all ≡ Err Form
 put_form v seen w ws all h is = seen_form v seen w ws all h (ap (option_map (op_meant v)) is)
 
-with_op-good : (v : Version) (seen next : List Op) (raw : Op) → with_op v seen raw ≡ Ok next
+pub with_op-good : (v : Version) (seen next : List Op) (raw : Op) → with_op v seen raw ≡ Ok next
     → (op_is_named (op_meant v raw) ≡ true) × (seen ++ op_meant v raw ∷ [] ≡ next)
 with_op-good v seen next raw h = by (op_is_named (op_meant v raw)) h
   where

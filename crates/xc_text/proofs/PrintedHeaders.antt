@@ -8,8 +8,8 @@ use Rattle.std.specs.List.{list_all, list_any}
 use Rattle.std.specs.Option.{option_map_or}
 use Rattle.std.proofs.lemmas.Option.{slice_get_within}
 use Rattle.xc_record.specs.Headers.{is_child_of, splits_off, parent_fits, fits, hi_of, next_after, fit_from, children, with_next}
-use Rattle.xc_record.specs.declared.rules.Next.{Next}
-use Rattle.xc_record.specs.declared.rules.Next.TheVariants.{RootAt, LeftChild, RightChild}
+use Rattle.xc_record.specs.declared.headers.Next.{Next}
+use Rattle.xc_record.specs.declared.headers.Next.TheVariants.{RootAt, LeftChild, RightChild}
 use Rattle.xc_record.specs.declared.record.Header.{Header}
 use Rattle.xc_text.specs.Lines.{header_numbers_fit}
 use Rattle.xc_record.proofs.ListLaws.{all-at}

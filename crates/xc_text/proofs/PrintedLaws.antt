@@ -12,7 +12,7 @@ use Rattle.xc_record.specs.Hash.{hash_of, holds}
 use Rattle.xc_record.specs.Order.{is_split}
 use Rattle.xc_record.specs.Headers.{fit_from, fits, next_after, may_end, children}
 use Rattle.xc_record.specs.Valid.{is_txn, headers_of, op_fits, ops_fit, split_fits, kind_fits, ends_fit, ops_in}
-use Rattle.xc_record.specs.declared.rules.Next.{Next}
+use Rattle.xc_record.specs.declared.headers.Next.{Next}
 use Rattle.xc_record.specs.declared.record.Op.{Op}
 use Rattle.xc_record.specs.declared.record.Kind.{Kind}
 use Rattle.xc_record.specs.declared.record.Kind.TheVariants.{Write, Intent, Apply, Abort, Safe, Split}

@@ -37,15 +37,15 @@ differs b c h = grind (arith, nat_tests)
 above : (b c : ℕ) → c ≤ 32 → nat_lt 32 b ≡ true → not (b == c) ≡ true
 above b c l h = grind (arith, nat_tests)
 
-plain_lacks : (c : ℕ) (w : List ℕ) → c ≤ 32 → plain w ≡ true → lacks c w ≡ true
+pub plain_lacks : (c : ℕ) (w : List ℕ) → c ≤ 32 → plain w ≡ true → lacks c w ≡ true
 plain_lacks c [] l h = refl
 plain_lacks c (b ∷ w) l h = let p = and_parts (nat_lt 32 b) (plain w) h in rw (above b c l p.0) (plain_lacks c w l p.1)
 
-split_at : (c : ℕ) (w rest : List ℕ) → lacks c w ≡ true → split_on c (w ++ c ∷ rest) ≡ w ∷ split_on c rest
+pub split_at : (c : ℕ) (w rest : List ℕ) → lacks c w ≡ true → split_on c (w ++ c ∷ rest) ≡ w ∷ split_on c rest
 split_at c [] rest h = rw (eq-eqb c c refl) refl
 split_at c (b ∷ w) rest h = let p = and_parts (not (b == c)) (lacks c w) h in rw (differs b c p.0, split_at c w rest p.1) refl
 
-split_none : (c : ℕ) (w : List ℕ) → lacks c w ≡ true → split_on c w ≡ w ∷ []
+pub split_none : (c : ℕ) (w : List ℕ) → lacks c w ≡ true → split_on c w ≡ w ∷ []
 split_none c [] h = refl
 split_none c (b ∷ w) h = let p = and_parts (not (b == c)) (lacks c w) h in rw (differs b c p.0, split_none c w p.1) refl
 
@@ -111,7 +111,7 @@ digits_differ (d ∷ ds) c cs h k = let p = and_parts (is_ascii_digit d) (all_as
 -- ---- operations
 
 -- a byte of the word of a key or of a value
-abbrev is_letter : ℕ → Bool
+abbrev pub is_letter : ℕ → Bool
 is_letter b = in_alphabet b || b == 37
 
 letter_above : (b : ℕ) → is_letter b ≡ true → nat_lt 32 b ≡ true
@@ -128,7 +128,7 @@ letters_lack : (w : List ℕ) → list_all is_letter w ≡ true → lacks 61 w �
 letters_lack [] h = refl
 letters_lack (b ∷ w) h = let p = and_parts (is_letter b) (list_all is_letter w) h in rw (letter_differs b p.0) (letters_lack w p.1)
 
-plain_letters : (w : List ℕ) → is_plain w ≡ true → list_all is_letter w ≡ true
+pub plain_letters : (w : List ℕ) → is_plain w ≡ true → list_all is_letter w ≡ true
 plain_letters [] h = refl
 plain_letters (b ∷ w) h = let p = and_parts (in_alphabet b) (is_plain w) h in rw p.0 (plain_letters w p.1)
 
@@ -163,7 +163,7 @@ key_bytes k h = (and_parts (within 1 32 (length k)) (are_bytes k) h).1
 value_bytes : (v : List ℕ) → is_value v ≡ true → are_bytes v ≡ true
 value_bytes v h = (and_parts (within 0 64 (length v)) (are_bytes v) h).1
 
-op_plain_by : (key : List ℕ) (value : Option (List ℕ)) → list_all is_letter key ≡ true
+pub op_plain_by : (key : List ℕ) (value : Option (List ℕ)) → list_all is_letter key ≡ true
     → option_map_or (λ w. list_all is_letter w) value true ≡ true → plain (op_by key value) ≡ true
 op_plain_by key None k v = letters_plain key k
 op_plain_by key (Some value) k v = list_all-append (λ b. nat_lt 32 b) key (61 ∷ value) ∙ rw (letters_plain key k) (letters_plain value v)
@@ -188,7 +188,7 @@ after_at w rest h =
     ap (λ n. drop (n + 1) (w ++ 61 ∷ rest)) (place_at w rest h) ∙ ap (drop (length w + 1)) (sym (append_assoc w (61 ∷ []) rest))
     ∙ drop_at (w ++ 61 ∷ []) rest (length w + 1) (length_push w 61)
 
-op_is_by : (key : List ℕ) (value : Option (List ℕ)) → list_all is_letter key ≡ true
+pub op_is_by : (key : List ℕ) (value : Option (List ℕ)) → list_all is_letter key ≡ true
     → op_written (op_by key value) ≡ Some (record { key = key; value = value })
 op_is_by key None k = refl
 op_is_by key (Some value) k = let l = letters_lack key k in rw (any_at key value, before_at key value l, after_at key value l) refl
@@ -206,7 +206,7 @@ value_said : (v : Version) (value : Option (List ℕ)) → option_map_or is_valu
 value_said v None h s = (refl, refl)
 value_said v (Some n) h s = (word_letters v n (value_bytes n h) s, ap Some (word_read v n (value_bytes n h) s))
 
-abbrev op_with : List ℕ → Option (List ℕ) → Op
+abbrev pub op_with : List ℕ → Option (List ℕ) → Op
 op_with key value = record { key = key; value = value }
 
 op_same : (key other : List ℕ) (value more : Option (List ℕ)) → key ≡ other → value ≡ more → op_with key value ≡ op_with other more

@@ -9,8 +9,8 @@ use Rattle.xc_base.specs.Words.{split_on}
 use Rattle.xc_record.specs.Grown.{with_record}
 use Rattle.xc_record.specs.Headers.{fit_from, may_end, headers_fit, are_headers, children}
 use Rattle.xc_record.specs.Valid.{is_time, headers_of, kind_fits, record_fits, ends_fit, tablet_fits, ops_in, is_valid}
-use Rattle.xc_record.specs.declared.rules.Next.{Next}
-use Rattle.xc_record.specs.declared.rules.Next.TheVariants.{RootAt}
+use Rattle.xc_record.specs.declared.headers.Next.{Next}
+use Rattle.xc_record.specs.declared.headers.Next.TheVariants.{RootAt}
 use Rattle.xc_record.specs.declared.record.Record.{Record}
 use Rattle.xc_record.specs.declared.record.Tablet.{Tablet}
 use Rattle.xc_record.specs.declared.record.Logs.{Logs}

@@ -11,8 +11,8 @@ use Rattle.xc_base.specs.Words.{split_on}
 use Rattle.xc_record.specs.Grown.{grown, with_record}
 use Rattle.xc_record.specs.Headers.{fit_from, fits, next_after, may_end, headers_fit, are_headers, children}
 use Rattle.xc_record.specs.Valid.{is_time, headers_of, record_fits, ops_in, is_valid}
-use Rattle.xc_record.specs.declared.rules.Next.{Next}
-use Rattle.xc_record.specs.declared.rules.Next.TheVariants.{RootAt}
+use Rattle.xc_record.specs.declared.headers.Next.{Next}
+use Rattle.xc_record.specs.declared.headers.Next.TheVariants.{RootAt}
 use Rattle.xc_record.specs.declared.record.Record.{Record}
 use Rattle.xc_record.specs.declared.record.Header.{Header}
 use Rattle.xc_record.specs.declared.record.Tablet.{Tablet}

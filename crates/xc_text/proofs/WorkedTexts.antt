@@ -1,6 +1,8 @@
 -- Worked texts, computed.
 use Rattle.std.proofs.Common.{◌≡◌, ℕ, Bool, true, false, List, [], ◌∷◌, ◌++◌, Option, Some, None, Result, Ok, Err, map, refl, codes}
 use Rattle.std.proofs.Common.{replicate}
+use Rattle.std.specs.Prelude.{flat_map}
+use Rattle.std.specs.List.{range_with_len}
 use Rattle.xc_record.specs.Hash.{hash_of}
 use Rattle.xc_record.specs.declared.record.Logs.{Logs}
 use Rattle.xc_text.specs.declared.kind.LogKind.{LogKind}
@@ -222,6 +224,12 @@ table =
     (split_head ++ (codes "end\n"), Some (record { line = 5; kind = kind.Orphan })) ∷
     (split_head ++ (codes "0 14 split 32768 1 2\n0 15 abort 9\n"), Some (record { line = 6; kind = kind.AfterSplit })) ∷
     (split_head ++ (codes "0 14 split 32768 2 1\n"), Some (record { line = 5; kind = kind.Range })) ∷
+    (no_head ++ (codes "tablet 0 0 9 root\n0 1 write +=1\n"), Some (record { line = 3; kind = kind.Key })) ∷
+    (no_head ++ (codes "tablet 0 0 9 root\n5 1 abort 1\n"), Some (record { line = 3; kind = kind.Header })) ∷
+    (split_head ++ (codes "0 14 split 32768 1 2\n0 15 split 32767 1 2\n"), Some (record { line = 6; kind = kind.Range })) ∷ (
+      split_head ++ (codes "0 14 split 32768 1 2\n0 15 write" ++ flat_map (λ n. codes " -a") (range_with_len 0 65) ++ codes "\n"),
+      Some (record { line = 6; kind = kind.AfterSplit }),
+    ) ∷
     (split_head ++ (codes "1 3 abort 1\n0 14 split 32768 1 2\n2 9 safe 9\nend\n"), None) ∷
     (one_head ++ (codes "0 1 write -" ++ (0 ∷ []) ++ codes "\n"), Some (record { line = 3; kind = kind.Key })) ∷
     (one_head ++ (codes "0 1 write -" ++ (195 ∷ []) ++ (169 ∷ []) ++ codes "\n"), Some (record { line = 3; kind = kind.Key })) ∷

@@ -4,3 +4,5 @@ pub mod OneOp
 pub mod LogText
 pub mod Printed
 pub mod Spelled
+pub mod Spans
+pub mod Verbs

@@ -25,6 +25,7 @@ use Rattle.xc_text.specs.declared.line.Version.TheVariants.{One, Two}
 use Rattle.xc_text.specs.declared.line.LogLine.{LogLine}
 use Rattle.xc_text.specs.declared.line.LogLine.TheVariants as line
 use Rattle.xc_text.specs.Kinds.{judge}
+use Rattle.xc_base.specs.declared.limits.TheConstants.{MOST_TABLETS, LAST_SUB}
 
 -- no key and no value
 abbrev pub no_name : List ℕ
@@ -166,11 +167,11 @@ kind_of version (verb ∷ words) = kind_by version verb words
 
 abbrev pub kind_numbers_fit : Kind → Bool
 kind_numbers_fit (Write ops) = true
-kind_numbers_fit (Intent txn sub ops) = is_txn txn && nat_le sub 64
+kind_numbers_fit (Intent txn sub ops) = is_txn txn && nat_le sub LAST_SUB
 kind_numbers_fit (Apply txn commit without) = is_txn txn && (is_time commit && are_subs without)
 kind_numbers_fit (Abort txn) = is_txn txn
 kind_numbers_fit (Safe value) = is_time value
-kind_numbers_fit (Split place left right) = nat_lt place 65536 && (nat_lt left 64 && nat_lt right 64)
+kind_numbers_fit (Split place left right) = nat_lt place 65536 && (nat_lt left MOST_TABLETS && nat_lt right MOST_TABLETS)
 
 abbrev pub kind_names_fit : Kind → Bool
 kind_names_fit (Write ops) = list_all op_is_named ops
@@ -241,12 +242,13 @@ line_of version (word ∷ words) = line_by version word words
 
 abbrev pub header_numbers_fit : Header → Bool
 header_numbers_fit h =
-    nat_lt h.id 64 && (nat_lt h.lo 65536 && (nat_lt h.hi 65536 && option_map_or (λ parent. nat_lt parent 64) h.parent true))
+    nat_lt h.id MOST_TABLETS && (nat_lt h.lo 65536
+    && (nat_lt h.hi 65536 && option_map_or (λ parent. nat_lt parent MOST_TABLETS) h.parent true))
 
 abbrev pub numbers_fit : LogLine → Bool
 numbers_fit (line.First version) = true
 numbers_fit (line.Tablet h) = header_numbers_fit h
-numbers_fit (line.Entry id r) = nat_lt id 64 && (is_time r.time && kind_numbers_fit r.kind)
+numbers_fit (line.Entry id r) = nat_lt id MOST_TABLETS && (is_time r.time && kind_numbers_fit r.kind)
 numbers_fit line.End = true
 
 abbrev pub names_fit : LogLine → Bool

@@ -4,7 +4,7 @@
 --     kinds reading line      the rules for a line after those before, in their order: where a test is true, the line is bad for this kind
 --     step reading bytes      what the lines give with one more, or why that one is bad
 -- placed, starting, between and at_line are what single functions answer, each a part of step; what a text spells doesn't rest on them.
-use Rattle.std.specs.Prelude.{◌≡◌, ℕ, ◌+◌, ◌-◌, ◌^◌, Bool, true, false, ◌&&◌, ◌||◌, ◌==◌, nat_lt, nat_le, not, List, [], ◌∷◌, ◌++◌, length}
+use Rattle.std.specs.Prelude.{◌≡◌, ℕ, ◌+◌, ◌-◌, Bool, true, false, ◌&&◌, ◌||◌, ◌==◌, nat_lt, nat_le, not, List, [], ◌∷◌, ◌++◌, length}
 use Rattle.std.specs.Prelude.{Option, Some, None, Result, Ok, Err, if◌then◌else◌, slice_get, is_some}
 use Rattle.std.specs.List.{list_all, list_any}
 use Rattle.std.specs.Option.{option_map_or}
@@ -14,7 +14,7 @@ use Rattle.xc_record.specs.Grown.{with_record}
 use Rattle.xc_record.specs.Headers.{fits, next_after, may_end, children}
 use Rattle.xc_record.specs.Order.{is_split}
 use Rattle.xc_record.specs.Valid.{headers_of, split_fits, ops_in}
-use Rattle.xc_record.specs.declared.rules.Next.TheVariants.{RootAt}
+use Rattle.xc_record.specs.declared.headers.Next.TheVariants.{RootAt}
 use Rattle.xc_record.specs.declared.record.Kind.{Kind}
 use Rattle.xc_record.specs.declared.record.Kind.TheVariants.{Write, Intent, Split}
 use Rattle.xc_record.specs.declared.record.Header.{Header}
@@ -34,6 +34,7 @@ use Rattle.xc_text.specs.declared.kind.LogsFail.{LogsFail}
 use Rattle.xc_text.specs.declared.kind.LogsFail.TheVariants as logs_fail
 use Rattle.xc_text.specs.Kinds.{first_kind}
 use Rattle.xc_text.specs.Lines.{line_of, numbers_fit, names_fit}
+use Rattle.xc_base.specs.declared.limits.TheConstants.{RECORD_OPERATIONS, MOST_RECORDS, MOST_OPERATIONS}
 
 pub record BadLine : Type 0 where
   pub line : ℕ
@@ -93,9 +94,10 @@ abbrev pub is_after_split : Reading → LogLine → Bool
 is_after_split s (line.Entry id r) = option_map_or is_split_off (slice_get s.tablets id) false
 is_after_split s _ = false
 
--- more than 64 operations, or a record or an operation more than there is room for
+-- more than RECORD_OPERATIONS operations, or a record or an operation more than there is room for
 abbrev pub is_past_limits : Reading → LogLine → Bool
-is_past_limits s (line.Entry id r) = nat_lt 64 (ops_in r.kind) || (s.records_left == 0 || nat_lt s.operations_left (ops_in r.kind))
+is_past_limits s (line.Entry id r) = nat_lt RECORD_OPERATIONS (ops_in r.kind)
+    || (s.records_left == 0 || nat_lt s.operations_left (ops_in r.kind))
 is_past_limits s _ = false
 
 abbrev pub is_orphaned : List Header → Tablet → Bool
@@ -128,7 +130,14 @@ kinds s l =
 
 -- before the first line
 abbrev pub begun : Reading
-begun = record { version = One; tablets = []; next = RootAt 0; stage = Start; records_left = 2 ^ 20; operations_left = 2 ^ 22 }
+begun = record {
+  version = One;
+  tablets = [];
+  next = RootAt 0;
+  stage = Start;
+  records_left = MOST_RECORDS;
+  operations_left = MOST_OPERATIONS;
+}
 
 -- with a line that breaks no rule
 abbrev pub moved : Reading → LogLine → Reading

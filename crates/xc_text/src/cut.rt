@@ -2,15 +2,22 @@
 ghost use Rattle.std.specs.Prelude.{◌≡◌, ◌<◌, ◌==◌, [], ◌∷◌, length, is_some, IfSome, MatchOption, MatchResult};
 ghost use Rattle.std.specs.Prelude.{count_by, take, slice_index, ◌+◌, ◌^◌, ◌≤◌, Some, None, true, false};
 ghost use Rattle.std.specs.List.{position_or_len, before_first, after_first, list_any};
-ghost use Rattle.std.specs.Option.{option_map_or};
+ghost use Rattle.std.specs.Option.{option_map_or, option_copied};
 ghost use Rattle.xc_base.specs.Words.{split_on};
-ghost use Rattle.xc_text.specs.Lines.{number, first_number, sub_of, is_over};
+ghost use Rattle.xc_record.specs.Hash.{hash_of};
+ghost use Rattle.xc_text.specs.Lines.{number, first_number, sub_of, is_over, op_is_named, kind_of};
+ghost use Rattle.xc_text.specs.Verbs.{verb_word};
+ghost use Rattle.xc_text.specs.declared.line.Version.{Version};
+ghost use Rattle.xc_text.specs.Printed.{op_by, op_spelled};
+ghost use Rattle.xc_text.specs.declared.line.Version.TheVariants.{One};
 ghost use Rattle.std.specs.Str.{all_ascii_digits};
 ghost use Rattle.std.specs.Str.Parse.{digits_value};
 ghost use Rattle.xc_text.specs.declared.kind.LogKind.TheVariants.{Form};
 ghost use Rattle.xc_text.specs.declared.kind.Fail.TheVariants.{Bad};
 
 use crate::kind::{Fail, LogKind};
+use crate::plain_op::{PlainOp, plain_op};
+use crate::verb::{Verb, quick_verb};
 use memchr::memchr;
 use std::marker::Model;
 use xc_base::{NumberFail, read_number};
@@ -46,7 +53,7 @@ pub(crate) fn cut(bytes: &[u8], separator: u8) -> (&[u8], Option<&[u8]>)
 }
 
 // The first line of a text without the byte that ends it, and what stands after that byte where there is one.
-#[inline]
+#[inline(always)]
 pub(crate) fn cut_line(text: &[u8]) -> (&[u8], Option<&[u8]>)
     ensures pieces { split_on 10 text.now ≡ result.0.now ∷ option_map_or (λ rest. split_on 10 rest.now) result.1 [] }
     ensures shorter { IfSome result.1 (λ rest. length rest.now < length text.now) }
@@ -74,7 +81,7 @@ impl<'a> Model for Words<'a> {
 }
 
 impl<'a> Words<'a> {
-    #[inline]
+    #[inline(always)]
     pub(crate) fn of(line: &'a [u8]) -> Words<'a>
         ensures { result ≡ split_on 32 line.now }
     {
@@ -82,7 +89,7 @@ impl<'a> Words<'a> {
     }
 
     // The next word.
-    #[inline]
+    #[inline(always)]
     pub(crate) fn next(&mut self) -> Option<&'a [u8]>
         ensures { MatchOption result ((self.old ≡ []) × (self.new ≡ [])) (λ word. self.old ≡ word.now ∷ self.new) }
     {
@@ -92,27 +99,117 @@ impl<'a> Words<'a> {
         Some(word)
     }
 
+    // The next word, where it is an operation of plain names.
+    #[inline(always)]
+    pub(crate) fn plain_op(&mut self) -> Option<PlainOp<'a>>
+        ensures cut { MatchOption result (self.new ≡ self.old)
+            (λ op. self.old ≡ op_by op.key.now (option_copied op.value) ∷ self.new) }
+        ensures named { IfSome result
+            (λ op. op_is_named (record { key = op.key.now; value = option_copied op.value }) ≡ true) }
+        ensures plain { IfSome result
+            (λ op. op_spelled One (record { key = op.key.now; value = option_copied op.value }) ≡ true) }
+        ensures hash { IfSome result (λ op. op.hash ≡ hash_of op.key.now) }
+    {
+        let (op, after) = plain_op(self.rest?)?;
+        self.rest = after;
+        Some(op)
+    }
+
+    // The verb that the next word is.
+    #[tactic(auto, unfolding(crate::specs::Lines::kind_of))]
+    #[inline(always)]
+    pub(crate) fn verb(&mut self) -> Option<Verb>
+        ensures { MatchOption result ((version : Version) → kind_of version self.old ≡ None)
+            (λ verb. self.old ≡ verb_word verb ∷ self.new) }
+    {
+        let Some(rest) = self.rest else {
+            return None;
+        };
+        match quick_verb(rest) {
+            Some((verb, after)) => {
+                self.rest = Some(after);
+                Some(verb)
+            }
+            None => self.any_verb(),
+        }
+    }
+
+    // The verb that the next word is, whatever stands behind it.
+    #[tactic(auto, unfolding(crate::specs::Lines::kind_of))]
+    #[inline(never)]
+    fn any_verb(&mut self) -> Option<Verb>
+        ensures { MatchOption result ((version : Version) → kind_of version self.old ≡ None)
+            (λ verb. self.old ≡ verb_word verb ∷ self.new) }
+    {
+        let Some(word) = self.next() else {
+            return None;
+        };
+        if word == b"write".as_slice() {
+            Some(Verb::Write)
+        } else if word == b"intent".as_slice() {
+            Some(Verb::Intent)
+        } else if word == b"apply".as_slice() {
+            Some(Verb::Apply)
+        } else if word == b"abort".as_slice() {
+            Some(Verb::Abort)
+        } else if word == b"safe".as_slice() {
+            Some(Verb::Safe)
+        } else if word == b"split".as_slice() {
+            Some(Verb::Split)
+        } else {
+            None
+        }
+    }
+
+    // The number that the next word spells, where it is found at once.
+    #[inline(always)]
+    pub(crate) fn quick_number(&mut self) -> Option<u64>
+        ensures { MatchOption result (self.new ≡ self.old) (λ n. first_number self.old ≡ Some (n, self.new)) }
+    {
+        let (value, after) = short_number(self.rest?)?;
+        self.rest = after;
+        Some(value)
+    }
+
     // The number that the next word spells.
-    #[inline]
+    #[inline(always)]
     pub(crate) fn number(&mut self) -> Result<u64, Fail>
         ensures { MatchResult result (λ n. first_number self.old ≡ Some (n, self.new)) (λ e. (e ≡ Bad Form)
             × (first_number self.old ≡ None)) }
     {
-        let Some(rest) = self.rest else {
-            return Err(Fail::Bad(LogKind::Form));
-        };
-        if let Some((value, after)) = short_number(rest) {
-            self.rest = after;
-            return Ok(value);
+        match self.quick_number() {
+            Some(value) => Ok(value),
+            None => self.any_number(),
         }
-        let (word, after) = cut(rest, b' ');
-        self.rest = after;
-        number(word)
+    }
+
+    // The number that the next word spells, whatever the word.
+    #[inline(never)]
+    fn any_number(&mut self) -> Result<u64, Fail>
+        ensures { MatchResult result (λ n. first_number self.old ≡ Some (n, self.new)) (λ e. (e ≡ Bad Form)
+            × (first_number self.old ≡ None)) }
+    {
+        match self.next() {
+            Some(word) => number(word),
+            None => Err(Fail::Bad(LogKind::Form)),
+        }
     }
 
     // The number of the subtransaction that the next two words name, or 0 where the next word isn't `sub`.
-    #[inline]
+    #[inline(always)]
     pub(crate) fn sub(&mut self) -> Result<u64, Fail>
+        ensures { MatchResult result (λ n. sub_of self.old ≡ Some (n, self.new)) (λ e. (e ≡ Bad Form)
+            × (sub_of self.old ≡ None)) }
+    {
+        match self.rest {
+            Some([b's', ..]) => self.named_sub(),
+            _ => Ok(0),
+        }
+    }
+
+    // The same, whatever the next word.
+    #[inline(never)]
+    fn named_sub(&mut self) -> Result<u64, Fail>
         ensures { MatchResult result (λ n. sub_of self.old ≡ Some (n, self.new)) (λ e. (e ≡ Bad Form)
             × (sub_of self.old ≡ None)) }
     {
@@ -132,7 +229,7 @@ impl<'a> Words<'a> {
     }
 
     // Whether no word is left.
-    #[inline]
+    #[inline(always)]
     pub(crate) fn end(&self) -> Result<(), Fail>
         ensures { MatchResult result (λ _. is_over self.now ≡ true) (λ e. (e ≡ Bad Form) × (is_over self.now ≡ false)) }
     {

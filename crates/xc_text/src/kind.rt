@@ -67,7 +67,7 @@ pub(crate) enum Fail {
 }
 
 // A bad key counts only where the numbers before it fit.
-#[inline]
+#[inline(always)]
 pub(crate) fn after_numbers(fail: Fail, numbers_fit: bool) -> Fail
     ensures { result ≡ after_numbers numbers_fit fail }
 {

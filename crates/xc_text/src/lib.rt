@@ -7,12 +7,15 @@ mod cut;
 mod kind;
 mod laws;
 mod line;
+mod line_ops;
 mod operations;
 mod plain;
+mod plain_op;
 mod print;
 mod read;
 mod reading;
 mod record_line;
+mod verb;
 mod without;
 
 pub use kind::{LogKind, LogsFail};

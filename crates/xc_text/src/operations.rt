@@ -1,9 +1,11 @@
 // The operations of a record's line.
-ghost use Rattle.std.specs.Prelude.{◌≡◌, ◌&&◌, true, false, is_some, MatchOption, Some, None, if◌then◌else◌};
+ghost use Rattle.std.specs.Prelude.{◌≡◌, ◌&&◌, true, false, is_some, MatchOption, IfOk, Some, None, if◌then◌else◌};
 ghost use Rattle.std.specs.List.{list_all};
 ghost use Rattle.std.specs.Option.{option_copied};
 ghost use Rattle.xc_text.specs.Kinds.{Answers};
-ghost use Rattle.xc_text.specs.Lines.{set_of, op_written, op_meant, op_of, op_is_named, ops_in, with_op};
+ghost use Rattle.xc_record.specs.Hash.{hash_of};
+ghost use Rattle.xc_text.specs.Lines.{set_of, op_written, op_meant, op_of, op_is_named, ops_in, with_op, name_of};
+ghost use Rattle.xc_text.specs.Spans.{IsSpan};
 ghost use Rattle.xc_text.specs.OneOp.{op_in};
 ghost use Rattle.xc_text.specs.Printed.{op_spelled};
 ghost use Rattle.xc_text.specs.declared.line.Version.TheVariants.{One, Two};
@@ -12,11 +14,12 @@ ghost use Rattle.xc_text.specs.declared.kind.Fail.TheVariants.{Bad};
 use crate::cut::{Words, cut};
 use crate::kind::{Fail, LogKind};
 use crate::line::Version;
+use crate::line_ops::{LineOps, Span};
 use xc_base::{Key, Value, is_key, is_plain, is_value, read_key, read_value};
-use xc_record::{Op, Ops};
+use xc_record::{Op, Ops, hash, hash_bytes};
 
 // The key and the value of `key=value`.
-#[inline]
+#[inline(always)]
 fn set_parts(rest: &[u8]) -> Option<(&[u8], Option<&[u8]>)>
     ensures { MatchOption result (set_of rest.now ≡ None) (λ parts. set_of rest.now
         ≡ Some (record { key = parts.0.now; value = option_copied parts.1 })) }
@@ -28,7 +31,7 @@ fn set_parts(rest: &[u8]) -> Option<(&[u8], Option<&[u8]>)>
 }
 
 // The key of an operation and its value, where it sets one.
-#[inline]
+#[inline(always)]
 fn parts(word: &[u8]) -> Option<(&[u8], Option<&[u8]>)>
     ensures { MatchOption result (op_written word.now ≡ None) (λ parts. op_written word.now
         ≡ Some (record { key = parts.0.now; value = option_copied parts.1 })) }
@@ -42,7 +45,7 @@ fn parts(word: &[u8]) -> Option<(&[u8], Option<&[u8]>)>
 }
 
 // Whether a key and a value are plain and well formed, so that they are their own words.
-#[inline]
+#[inline(always)]
 fn are_plain(key: &[u8], value: Option<&[u8]>) -> bool
     ensures { result
         ≡ (op_is_named (record { key = key.now; value = option_copied value.entry }) && op_spelled One
@@ -56,10 +59,11 @@ fn are_plain(key: &[u8], value: Option<&[u8]>) -> bool
         }
 }
 
-// Puts the operation last that the words of any key and value stand for.
-fn put_words(ops: &mut Ops, key: &[u8], value: Option<&[u8]>) -> Result<(), Fail>
-    ensures { Answers (λ _. ops.new) result
+// Puts the operation last that the words of any key and value stand for, and gives the hash of its key.
+fn put_words(ops: &mut Ops, key: &[u8], value: Option<&[u8]>) -> Result<u16, Fail>
+    ensures put { Answers (λ _. ops.new) result
         (with_op Two ops.old (record { key = key.now; value = option_copied value.entry })) }
+    ensures hash { IfOk result (λ hash. hash ≡ hash_of (name_of Two key.now)) }
 {
     let Ok(key) = read_key(key) else {
         return Err(Fail::Bad(LogKind::Key));
@@ -72,18 +76,18 @@ fn put_words(ops: &mut Ops, key: &[u8], value: Option<&[u8]>) -> Result<(), Fail
         },
     };
     ops.push(Op { key, value })?;
-    Ok(())
+    Ok(hash(&key))
 }
 
-// Puts the operation last that is written so.
-#[inline]
-fn put_op(version: Version, ops: &mut Ops, key: &[u8], value: Option<&[u8]>) -> Result<(), Fail>
-    ensures { Answers (λ _. ops.new) result
+// Puts the operation last that is written so, and gives the hash of its key.
+fn put_op(version: Version, ops: &mut Ops, key: &[u8], value: Option<&[u8]>) -> Result<u16, Fail>
+    ensures put { Answers (λ _. ops.new) result
         (with_op version ops.old (record { key = key.now; value = option_copied value.entry })) }
+    ensures hash { IfOk result (λ hash. hash ≡ hash_of (name_of version key.now)) }
 {
     if are_plain(key, value) {
         ops.push_bytes(key, value)?;
-        return Ok(());
+        return Ok(hash_bytes(key));
     }
     match version {
         Version::One => Err(Fail::Bad(LogKind::Key)),
@@ -92,8 +96,8 @@ fn put_op(version: Version, ops: &mut Ops, key: &[u8], value: Option<&[u8]>) -> 
 }
 
 // Whether each word that is left has the form of an operation.
-fn all_have_form(mut words: Words<'_>) -> bool
-    ensures { result ≡ list_all (λ word. is_some (op_written word)) words.entry }
+fn all_have_form(words: &mut Words<'_>) -> bool
+    ensures { result ≡ list_all (λ word. is_some (op_written word)) words.old }
 {
     'words: while let Some(word) = words.next() {
         if parts(word).is_none() {
@@ -104,9 +108,9 @@ fn all_have_form(mut words: Words<'_>) -> bool
 }
 
 // Why operations are refused of which one isn't well named, and these words are left.
-fn misnamed(words: Words<'_>) -> Fail
+fn misnamed(words: &mut Words<'_>) -> Fail
     ensures { result
-        ≡ Bad (if list_all (λ word. is_some (op_written word)) words.entry then LogKind.Key else LogKind.Form) }
+        ≡ Bad (if list_all (λ word. is_some (op_written word)) words.old then LogKind.Key else LogKind.Form) }
 {
     if all_have_form(words) {
         Fail::Bad(LogKind::Key)
@@ -115,25 +119,40 @@ fn misnamed(words: Words<'_>) -> Fail
     }
 }
 
-// Makes the operations those that the words say, however many.
-#[inline]
-pub(crate) fn read_ops(version: Version, ops: &mut Ops, mut words: Words<'_>) -> Result<(), Fail>
-    ensures { Answers (λ _. ops.new) result (ops_in version words.entry) }
+// Reads the operations that the words say, however many, in place of those that were read before.
+#[inline(never)]
+pub(crate) fn read_ops(
+    version: Version,
+    read: &mut LineOps,
+    words: &mut Words<'_>,
+) -> Result<(), Fail>
+    ensures ops { Answers (λ _. read.new.ops) result (ops_in version words.old) }
+    ensures span { IfOk result (λ _. IsSpan read.new.span read.new.ops) }
 {
-    ops.clear();
-    'words: while let Some(word) = words.next() {
+    read.ops.clear();
+    let mut span = Span::none();
+    'words: loop {
+        if let Some(op) = words.plain_op() {
+            read.ops.push_bytes(op.key, op.value)?;
+            span = span.with(op.hash);
+            continue;
+        }
+        let Some(word) = words.next() else {
+            break;
+        };
         let Some((key, value)) = parts(word) else {
             return Err(Fail::Bad(LogKind::Form));
         };
-        match put_op(version, ops, key, value) {
-            Ok(()) => {}
+        match put_op(version, &mut read.ops, key, value) {
+            Ok(hash) => span = span.with(hash),
             Err(Fail::Bad(_)) => return Err(misnamed(words)),
             Err(Fail::NoMemory) => return Err(Fail::NoMemory),
         }
     }
-    if ops.is_empty() {
+    if read.ops.is_empty() {
         return Err(Fail::Bad(LogKind::Form));
     }
+    read.span = span;
     Ok(())
 }
 

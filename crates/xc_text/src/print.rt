@@ -39,10 +39,8 @@ fn printed(alloc: Global, version: Version, logs: &Logs) -> Result<Bytes, NoMemo
     ensures { IfOk result (λ text. text ≡ text_of version logs.now) }
 {
     let mut out = Bytes::new(alloc);
-    match push_logs(&mut out, version, logs.tablets.as_slice()) {
-        Ok(()) => Ok(out),
-        Err(_) => Err(NoMemory),
-    }
+    push_logs(&mut out, version, logs.tablets.as_slice())?;
+    Ok(out)
 }
 
 fn push_first(out: &mut Bytes, version: Version) -> Result<(), AllocError>

@@ -5,6 +5,7 @@ ghost use Rattle.xc_text.specs.LogText.{at_line, logs_of, rest_of_text, Reads};
 
 use crate::cut::cut_line;
 use crate::kind::{Fail, LogKind, LogsFail};
+use crate::line_ops::{LineOps, Span};
 use crate::reading::{Reading, Stage};
 use std::alloc::Global;
 use xc_record::{Logs, Ops};
@@ -27,7 +28,10 @@ pub fn read_logs(alloc: Global, text: &[u8]) -> Result<Logs, LogsFail>
 fn read_lines(alloc: Global, text: &[u8]) -> Result<Logs, LogsFail>
     ensures { Reads result (logs_of text.now) }
 {
-    let mut scratch = Ops::new(alloc);
+    let mut read = LineOps {
+        ops: Ops::new(alloc),
+        span: Span::none(),
+    };
     let mut reading = Reading::begun(alloc);
     let mut rest = text;
     let mut number = 1u64;
@@ -36,7 +40,7 @@ fn read_lines(alloc: Global, text: &[u8]) -> Result<Logs, LogsFail>
         let Some(after) = after else {
             return ending(reading, line, number);
         };
-        if let Err(fail) = reading.take_line(alloc, &mut scratch, line) {
+        if let Err(fail) = reading.take_line(alloc, &mut read, line) {
             return Err(at_line(number, fail));
         }
         rest = after;

@@ -1,19 +1,18 @@
 // What the lines of a log text give, one by one.
-ghost use Rattle.std.specs.Prelude.{◌≡◌, true};
-ghost use Rattle.std.specs.List.{list_all, list_any};
-ghost use Rattle.xc_record.specs.Hash.{hash_of, holds};
+ghost use Rattle.std.specs.Prelude.{◌≡◌, ◌==◌, ◌<◌, ◌≤◌, ◌&&◌, ◌||◌, true, false, nat_le, nat_lt, MatchOption};
+ghost use Rattle.std.specs.List.{list_any};
 ghost use Rattle.xc_record.specs.Valid.{headers_of, ops_in};
 ghost use Rattle.xc_text.specs.Kinds.{Answers};
 ghost use Rattle.xc_text.specs.LogText.{begun, between, in_range, is_split_off, is_orphaned, is_inner, placed};
 ghost use Rattle.xc_text.specs.LogText.{starting, step};
+ghost use Rattle.xc_text.specs.Spans.{Describes, DescribesLine};
 
 use crate::kind::{Fail, LogKind};
 use crate::line::{LogLine, Version, read_line};
+use crate::line_ops::{LineOps, Span};
 use std::alloc::Global;
-use xc_record::{
-    Header, Kind, Next, Ops, Record, Records, Tablet, Tablets, children, fits, hash_bytes, may_end,
-    next_after,
-};
+use xc_base::{MOST_OPERATIONS, MOST_RECORDS, RECORD_OPERATIONS};
+use xc_record::{Header, Kind, Next, Record, Records, Tablet, Tablets, children};
 
 // How far a text is.
 #[derive(Clone, Copy, PartialEq, Eq, Debug)]
@@ -35,24 +34,22 @@ pub(crate) struct Reading {
     operations_left: usize,
 }
 
-#[inline]
-fn all_held(header: &Header, ops: &Ops) -> bool
-    ensures { result ≡ list_all (λ op. holds header.now (hash_of op.key)) ops.now }
+// Whether the tablet holds each hash from the least to the greatest.
+#[inline(always)]
+fn all_held(header: &Header, span: Span) -> bool
+    ensures held { result ≡ (nat_le header.now.lo span.least && nat_le span.greatest header.now.hi) }
+    ensures low { header.now.lo < 65536 }
 {
-    for op in ops.iter() {
-        if !header.holds(hash_bytes(op.key_bytes())) {
-            return false;
-        }
-    }
-    true
+    header.lo <= span.least && span.greatest <= header.hi
 }
 
-#[inline]
-fn in_range(tablets: &[Tablet], header: &Header, kind: &Kind) -> bool
+#[inline(always)]
+fn in_range(tablets: &[Tablet], header: &Header, kind: &Kind, span: Span) -> bool
+    requires { Describes span kind.now }
     ensures { result ≡ in_range (headers_of tablets.now) header.now kind.now }
 {
     match kind {
-        Kind::Write { ops } | Kind::Intent { ops, .. } => all_held(header, ops),
+        Kind::Write { .. } | Kind::Intent { .. } => all_held(header, span),
         Kind::Split { at, left, right } => match children(tablets, header.id) {
             None => false,
             Some((l, r)) => *at == r.lo && *left == l.id && *right == r.id,
@@ -61,7 +58,7 @@ fn in_range(tablets: &[Tablet], header: &Header, kind: &Kind) -> bool
     }
 }
 
-#[inline]
+#[inline(always)]
 fn is_split_off(tablet: &Tablet) -> bool
     ensures { result ≡ is_split_off tablet.now }
 {
@@ -83,16 +80,6 @@ fn any_orphaned(tablets: &[Tablet]) -> bool
     tablets.iter().any(|tablet| is_orphaned(tablets, tablet))
 }
 
-#[inline]
-fn operations_in(kind: &Kind) -> usize
-    ensures { result ≡ ops_in kind.now }
-{
-    match kind {
-        Kind::Write { ops } | Kind::Intent { ops, .. } => ops.len(),
-        Kind::Apply { .. } | Kind::Abort { .. } | Kind::Safe { .. } | Kind::Split { .. } => 0,
-    }
-}
-
 impl Reading {
     pub(crate) fn begun(alloc: Global) -> Reading
         ensures { result ≡ begun }
@@ -102,8 +89,8 @@ impl Reading {
             tablets: Tablets::from_vec(Vec::new(alloc)),
             next: Next::RootAt(0),
             stage: Stage::Start,
-            records_left: 1_048_576,
-            operations_left: 4_194_304,
+            records_left: MOST_RECORDS,
+            operations_left: MOST_OPERATIONS,
         }
     }
 
@@ -111,37 +98,56 @@ impl Reading {
         ensures { Answers (λ _. self.new) result (placed self.old (LogLine.Tablet header)) }
     {
         let before = self.tablets.as_slice();
-        if self.stage == Stage::Records || !fits(before, self.next, &header) {
+        if self.stage == Stage::Records || !self.next.fits(before, &header) {
             return Err(Fail::Bad(LogKind::Header));
         }
-        let next = next_after(before, self.next, &header);
+        let next = self.next.after(before, &header);
         let records = Records::from_vec(Vec::new(alloc));
         self.tablets.push(Tablet { header, records })?;
         self.next = next;
         Ok(())
     }
 
-    #[inline]
-    fn take_record(&mut self, id: u32, entry: Record) -> Result<(), Fail>
+    // How many operations the record has, where there is room for it.
+    #[inline(always)]
+    fn room_for(&self, entry: &Record, span: Span) -> Option<usize>
+        requires { Describes span entry.now.kind }
+        ensures { let past = nat_lt RECORD_OPERATIONS (ops_in entry.now.kind) || (self.now.records_left == 0
+            || nat_lt self.now.operations_left (ops_in entry.now.kind)) in
+            MatchOption result (past ≡ true) (λ count. (count ≡ ops_in entry.now.kind) × (past ≡ false)
+            × (0 < self.now.records_left) × (count ≤ self.now.operations_left)) }
+    {
+        let count = match &entry.kind {
+            Kind::Write { .. } | Kind::Intent { .. } => span.count,
+            Kind::Apply { .. } | Kind::Abort { .. } | Kind::Safe { .. } | Kind::Split { .. } => 0,
+        };
+        if count > RECORD_OPERATIONS || self.records_left == 0 || count > self.operations_left {
+            return None;
+        }
+        Some(count)
+    }
+
+    #[inline(always)]
+    fn take_record(&mut self, id: u32, entry: Record, span: Span) -> Result<(), Fail>
+        requires { Describes span entry.kind }
         ensures { Answers (λ _. self.new) result (placed self.old (LogLine.Entry id entry)) }
     {
-        if !may_end(self.next) {
+        if !self.next.may_end() {
             return Err(Fail::Bad(LogKind::Header));
         }
         let tablets = self.tablets.as_slice();
         let Some(tablet) = tablets.get(id as usize) else {
             return Err(Fail::Bad(LogKind::UnknownTablet));
         };
-        if !in_range(tablets, &tablet.header, &entry.kind) {
+        if !in_range(tablets, &tablet.header, &entry.kind, span) {
             return Err(Fail::Bad(LogKind::Range));
         }
         if is_split_off(tablet) {
             return Err(Fail::Bad(LogKind::AfterSplit));
         }
-        let count = operations_in(&entry.kind);
-        if count > 64 || self.records_left == 0 || count > self.operations_left {
+        let Some(count) = self.room_for(&entry, span) else {
             return Err(Fail::Bad(LogKind::Limit));
-        }
+        };
         self.tablets.push_record(id, entry)?;
         self.stage = Stage::Records;
         self.records_left -= 1;
@@ -152,7 +158,7 @@ impl Reading {
     fn take_end(&mut self) -> Result<(), Fail>
         ensures { Answers (λ _. self.new) result (placed self.old LogLine.End) }
     {
-        if !may_end(self.next) {
+        if !self.next.may_end() {
             return Err(Fail::Bad(LogKind::Header));
         }
         if any_orphaned(self.tablets.as_slice()) {
@@ -163,28 +169,28 @@ impl Reading {
     }
 
     // Takes the next line, given without the byte that ends it.
-    #[inline]
+    #[inline(always)]
     pub(crate) fn take_line(
         &mut self,
         alloc: Global,
-        scratch: &mut Ops,
+        read: &mut LineOps,
         line: &[u8],
     ) -> Result<(), Fail>
         ensures { Answers (λ _. self.new) result (step self.old line.now) }
     {
         match self.stage {
-            Stage::Start => self.take_first(alloc, scratch, line),
-            Stage::Headers | Stage::Records => self.take_inner(alloc, scratch, line),
+            Stage::Start => self.take_first(alloc, read, line),
+            Stage::Headers | Stage::Records => self.take_inner(alloc, read, line),
             Stage::Ended => Err(Fail::Bad(LogKind::Form)),
         }
     }
 
     // Takes the first line.
-    fn take_first(&mut self, alloc: Global, scratch: &mut Ops, line: &[u8]) -> Result<(), Fail>
+    fn take_first(&mut self, alloc: Global, read: &mut LineOps, line: &[u8]) -> Result<(), Fail>
         requires { self.old.stage ≡ Stage.Start }
         ensures { Answers (λ _. self.new) result (step self.old line.now) }
     {
-        match read_line(alloc, self.version, scratch, line) {
+        match read_line(alloc, self.version, read, line) {
             Ok(line) => self.start(line),
             Err(Fail::NoMemory) => Err(Fail::NoMemory),
             Err(Fail::Bad(_)) => Err(Fail::Bad(LogKind::Form)),
@@ -205,23 +211,24 @@ impl Reading {
     }
 
     // Takes a line between the first and the last, or the last.
-    #[inline]
-    fn take_inner(&mut self, alloc: Global, scratch: &mut Ops, line: &[u8]) -> Result<(), Fail>
+    #[inline(always)]
+    fn take_inner(&mut self, alloc: Global, read: &mut LineOps, line: &[u8]) -> Result<(), Fail>
         requires { is_inner self.old.stage ≡ true }
         ensures { Answers (λ _. self.new) result (step self.old line.now) }
     {
-        let line = read_line(alloc, self.version, scratch, line)?;
-        self.take(alloc, line)
+        let line = read_line(alloc, self.version, read, line)?;
+        self.take(alloc, line, read.span)
     }
 
-    #[inline]
-    fn take(&mut self, alloc: Global, line: LogLine) -> Result<(), Fail>
+    #[inline(always)]
+    fn take(&mut self, alloc: Global, line: LogLine, span: Span) -> Result<(), Fail>
+        requires { DescribesLine span line }
         ensures { Answers (λ _. self.new) result (between self.old line) }
     {
         match line {
             LogLine::First(_) => Err(Fail::Bad(LogKind::Form)),
             LogLine::Tablet(header) => self.take_header(alloc, header),
-            LogLine::Entry(id, entry) => self.take_record(id, entry),
+            LogLine::Entry(id, entry) => self.take_record(id, entry, span),
             LogLine::End => self.take_end(),
         }
     }

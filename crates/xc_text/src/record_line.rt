@@ -1,23 +1,27 @@
 // What a record's line says after its tablet and its time.
-ghost use Rattle.std.specs.Prelude.{◌≡◌, ◌<◌, ◌&&◌, true, false, MatchResult, option_map, nat_lt, nat_le};
+ghost use Rattle.std.specs.Prelude.{◌≡◌, ◌<◌, ◌&&◌, true, false, IfOk, MatchResult, option_map, nat_lt, nat_le};
 ghost use Rattle.xc_record.specs.Valid.{is_time, is_txn};
 ghost use Rattle.xc_record.specs.declared.record.Kind.TheVariants.{Write};
 ghost use Rattle.xc_text.specs.Kinds.{Answers, judge};
 ghost use Rattle.xc_text.specs.Lines.{kind_in, kind_numbers_fit, kind_names_fit, intent_of, apply_of, abort_of};
 ghost use Rattle.xc_text.specs.Lines.{safe_of, split_of, ops_of};
+ghost use Rattle.xc_text.specs.Spans.{Describes};
 ghost use Rattle.xc_text.specs.declared.kind.LogKind.TheVariants.{Number};
 ghost use Rattle.xc_text.specs.declared.kind.Fail.TheVariants.{Bad};
 
 use crate::cut::Words;
 use crate::kind::{Fail, LogKind, after_numbers};
 use crate::line::Version;
+use crate::line_ops::LineOps;
 use crate::operations::read_ops;
+use crate::verb::Verb;
 use crate::without::read_without;
 use std::alloc::Global;
-use xc_record::{Kind, Ops};
+use xc_base::{LAST_SUB, MOST_TABLETS};
+use xc_record::Kind;
 use xc_time::HybridTime;
 
-#[inline]
+#[inline(always)]
 pub(crate) fn time_in(value: u64) -> Result<HybridTime, Fail>
     ensures { MatchResult result (λ time. (time ≡ value) × (is_time value ≡ true)) (λ e. (e ≡ Bad Number)
         × (is_time value ≡ false)) }
@@ -28,28 +32,21 @@ pub(crate) fn time_in(value: u64) -> Result<HybridTime, Fail>
     }
 }
 
-#[inline]
-pub(crate) fn is_time(value: u64) -> bool
-    ensures { result ≡ is_time value }
-{
-    1 <= value && value < 4_611_686_018_427_387_904
-}
-
-#[inline]
+#[inline(always)]
 fn is_transaction(value: u64) -> bool
     ensures { result ≡ is_txn value }
 {
     1 <= value && value < 4_294_967_296
 }
 
-#[inline]
+#[inline(always)]
 pub(crate) fn is_tablet(value: u64) -> bool
-    ensures { result ≡ nat_lt value 64 }
+    ensures { result ≡ nat_lt value MOST_TABLETS }
 {
-    value < 64
+    value < MOST_TABLETS as u64
 }
 
-#[inline]
+#[inline(always)]
 fn transaction_in(value: u64) -> Result<u32, Fail>
     ensures { MatchResult result (λ txn. (txn ≡ value) × (is_txn value ≡ true)) (λ e. (e ≡ Bad Number)
         × (is_txn value ≡ false)) }
@@ -60,10 +57,10 @@ fn transaction_in(value: u64) -> Result<u32, Fail>
     Ok(value as u32)
 }
 
-#[inline]
+#[inline(always)]
 pub(crate) fn tablet_in(value: u64) -> Result<u32, Fail>
-    ensures { MatchResult result (λ id. (id ≡ value) × (nat_lt value 64 ≡ true)) (λ e. (e ≡ Bad Number)
-        × (nat_lt value 64 ≡ false)) }
+    ensures { MatchResult result (λ id. (id ≡ value) × (nat_lt value MOST_TABLETS ≡ true)) (λ e. (e ≡ Bad Number)
+        × (nat_lt value MOST_TABLETS ≡ false)) }
 {
     if !is_tablet(value) {
         return Err(Fail::Bad(LogKind::Number));
@@ -71,7 +68,7 @@ pub(crate) fn tablet_in(value: u64) -> Result<u32, Fail>
     Ok(value as u32)
 }
 
-#[inline]
+#[inline(always)]
 pub(crate) fn hash_in(value: u64) -> Result<u16, Fail>
     ensures { MatchResult result (λ hash. (hash ≡ value) × (nat_lt value 65536 ≡ true)) (λ e. (e ≡ Bad Number)
         × (nat_lt value 65536 ≡ false)) }
@@ -82,17 +79,17 @@ pub(crate) fn hash_in(value: u64) -> Result<u16, Fail>
     Ok(value as u16)
 }
 
-#[inline]
+#[inline(always)]
 fn is_sub(value: u64) -> bool
-    ensures { result ≡ nat_le value 64 }
+    ensures { result ≡ nat_le value LAST_SUB }
 {
-    value <= 64
+    value <= u64::from(LAST_SUB)
 }
 
-#[inline]
+#[inline(always)]
 fn sub_in(value: u64) -> Result<u8, Fail>
-    ensures { MatchResult result (λ sub. (sub ≡ value) × (nat_le value 64 ≡ true)) (λ e. (e ≡ Bad Number)
-        × (nat_le value 64 ≡ false)) }
+    ensures { MatchResult result (λ sub. (sub ≡ value) × (nat_le value LAST_SUB ≡ true)) (λ e. (e ≡ Bad Number)
+        × (nat_le value LAST_SUB ≡ false)) }
 {
     if !is_sub(value) {
         return Err(Fail::Bad(LogKind::Number));
@@ -100,52 +97,55 @@ fn sub_in(value: u64) -> Result<u8, Fail>
     Ok(value as u8)
 }
 
-#[inline]
+#[inline(always)]
 fn read_write(
     alloc: Global,
     version: Version,
-    scratch: &mut Ops,
-    words: Words<'_>,
+    read: &mut LineOps,
+    mut words: Words<'_>,
 ) -> Result<Kind, Fail>
-    ensures { Answers (λ kind. kind) result
+    ensures kind { Answers (λ kind. kind) result
         (judge kind_numbers_fit kind_names_fit (option_map Write (ops_of version words.entry))) }
+    ensures span { IfOk result (λ kind. Describes read.new.span kind) }
 {
-    read_ops(version, scratch, words)?;
+    read_ops(version, read, &mut words)?;
     Ok(Kind::Write {
-        ops: scratch.clone_in(alloc)?,
+        ops: read.ops.clone_in(alloc)?,
     })
 }
 
 // The numbers of an intent, which are looked at before its names.
-#[inline]
+#[inline(always)]
 fn numbers_fit(txn: u64, sub: u64) -> bool
-    ensures { result ≡ (is_txn txn && nat_le sub 64) }
+    ensures { result ≡ (is_txn txn && nat_le sub LAST_SUB) }
 {
     is_transaction(txn) && is_sub(sub)
 }
 
-#[inline]
+#[inline(always)]
 fn read_intent(
     alloc: Global,
     version: Version,
-    scratch: &mut Ops,
+    read: &mut LineOps,
     mut words: Words<'_>,
 ) -> Result<Kind, Fail>
-    ensures { Answers (λ kind. kind) result (judge kind_numbers_fit kind_names_fit (intent_of version words.entry)) }
+    ensures kind { Answers (λ kind. kind) result
+        (judge kind_numbers_fit kind_names_fit (intent_of version words.entry)) }
+    ensures span { IfOk result (λ kind. Describes read.new.span kind) }
 {
     let txn = words.number()?;
     let sub = words.sub()?;
-    match read_ops(version, scratch, words) {
+    match read_ops(version, read, &mut words) {
         Err(fail) => Err(after_numbers(fail, numbers_fit(txn, sub))),
         Ok(()) => Ok(Kind::Intent {
             txn: transaction_in(txn)?,
             sub: sub_in(sub)?,
-            ops: scratch.clone_in(alloc)?,
+            ops: read.ops.clone_in(alloc)?,
         }),
     }
 }
 
-#[inline]
+#[inline(always)]
 fn read_apply(mut words: Words<'_>) -> Result<Kind, Fail>
     ensures { Answers (λ kind. kind) result (judge kind_numbers_fit kind_names_fit (apply_of words.entry)) }
 {
@@ -159,7 +159,7 @@ fn read_apply(mut words: Words<'_>) -> Result<Kind, Fail>
     })
 }
 
-#[inline]
+#[inline(always)]
 fn read_abort(mut words: Words<'_>) -> Result<Kind, Fail>
     ensures { Answers (λ kind. kind) result (judge kind_numbers_fit kind_names_fit (abort_of words.entry)) }
 {
@@ -170,7 +170,7 @@ fn read_abort(mut words: Words<'_>) -> Result<Kind, Fail>
     })
 }
 
-#[inline]
+#[inline(always)]
 fn read_safe(mut words: Words<'_>) -> Result<Kind, Fail>
     ensures { Answers (λ kind. kind) result (judge kind_numbers_fit kind_names_fit (safe_of words.entry)) }
 {
@@ -197,31 +197,23 @@ fn read_split(mut words: Words<'_>) -> Result<Kind, Fail>
 
 // What the words say, from the verb on.
 #[tactic(auto, unfolding(crate::specs::Lines::kind_in, crate::specs::Lines::kind_of))]
-#[inline]
+#[inline(always)]
 pub(crate) fn read_kind(
     alloc: Global,
     version: Version,
-    scratch: &mut Ops,
+    read: &mut LineOps,
     mut words: Words<'_>,
 ) -> Result<Kind, Fail>
-    ensures { Answers (λ kind. kind) result (kind_in version words.entry) }
+    ensures kind { Answers (λ kind. kind) result (kind_in version words.entry) }
+    ensures span { IfOk result (λ kind. Describes read.new.span kind) }
 {
-    let Some(verb) = words.next() else {
-        return Err(Fail::Bad(LogKind::Form));
-    };
-    if verb == b"write".as_slice() {
-        read_write(alloc, version, scratch, words)
-    } else if verb == b"intent".as_slice() {
-        read_intent(alloc, version, scratch, words)
-    } else if verb == b"apply".as_slice() {
-        read_apply(words)
-    } else if verb == b"abort".as_slice() {
-        read_abort(words)
-    } else if verb == b"safe".as_slice() {
-        read_safe(words)
-    } else if verb == b"split".as_slice() {
-        read_split(words)
-    } else {
-        Err(Fail::Bad(LogKind::Form))
+    match words.verb() {
+        Some(Verb::Write) => read_write(alloc, version, read, words),
+        Some(Verb::Intent) => read_intent(alloc, version, read, words),
+        Some(Verb::Apply) => read_apply(words),
+        Some(Verb::Abort) => read_abort(words),
+        Some(Verb::Safe) => read_safe(words),
+        Some(Verb::Split) => read_split(words),
+        None => Err(Fail::Bad(LogKind::Form)),
     }
 }

@@ -6,6 +6,7 @@ ghost use Rattle.xc_text.specs.declared.kind.Fail.TheVariants.{Bad};
 
 use crate::cut::{Words, number};
 use crate::kind::{Fail, LogKind};
+use xc_base::LAST_SUB;
 use xc_record::Subs;
 
 // Whether each word that is left spells a number.
@@ -32,6 +33,7 @@ fn misplaced(words: Words<'_>) -> Fail
 }
 
 // The numbers that the words spell, one at least.
+#[inline(never)]
 fn read_subs(mut words: Words<'_>) -> Result<Subs, Fail>
     ensures { Answers (λ subs. subs) result (subs_in words.entry) }
 {
@@ -39,7 +41,7 @@ fn read_subs(mut words: Words<'_>) -> Result<Subs, Fail>
     let mut last = 0u64;
     'words: while let Some(word) = words.next() {
         let sub = number(word)?;
-        if sub <= last || sub > 64 {
+        if sub <= last || sub > LAST_SUB as u64 {
             return Err(misplaced(words));
         }
         subs.insert(sub as u8);
@@ -53,6 +55,7 @@ fn read_subs(mut words: Words<'_>) -> Result<Subs, Fail>
 
 // `without` and the numbers, or nothing.
 #[tactic(auto, unfolding(crate::specs::Lines::without_in, crate::specs::Lines::subs_in))]
+#[inline(always)]
 pub(crate) fn read_without(mut words: Words<'_>) -> Result<Subs, Fail>
     ensures { Answers (λ subs. subs) result (without_in words.entry) }
 {

@@ -1,5 +1,2 @@
-use Rattle.xc_model.proofs.Batches.{batches-grow}
-use Rattle.xc_model.proofs.batches_grow.Goals as goal
-
-pub returns : goal.returns
-returns c = batches-grow
+pub returns : Rattle.xc_model.proofs.batches_grow.Goals.returns
+returns c = Rattle.xc_model.proofs.Batches.batches-grow

@@ -1,5 +1,2 @@
-use Rattle.xc_model.proofs.Batches.{batches-move}
-use Rattle.xc_model.proofs.batches_move_places.Goals as goal
-
-pub returns : goal.returns
-returns c = batches-move
+pub returns : Rattle.xc_model.proofs.batches_move_places.Goals.returns
+returns c = Rattle.xc_model.proofs.Batches.batches-move

@@ -1,5 +1,2 @@
-use Rattle.xc_model.proofs.KeepLaws.{cutoffs-keep}
-use Rattle.xc_model.proofs.cutoffs_keep_standing.Goals as goal
-
-pub returns : goal.returns
-returns c = cutoffs-keep
+pub returns : Rattle.xc_model.proofs.cutoffs_keep_standing.Goals.returns
+returns c = Rattle.xc_model.proofs.KeepLaws.cutoffs-keep

@@ -1,5 +1,2 @@
-use Rattle.xc_model.proofs.FloorLaw.{kept-values}
-use Rattle.xc_model.proofs.kept_values_suffice.Goals as goal
-
-pub returns : goal.returns
-returns c = kept-values
+pub returns : Rattle.xc_model.proofs.kept_values_suffice.Goals.returns
+returns c = Rattle.xc_model.proofs.FloorLaw.kept-values

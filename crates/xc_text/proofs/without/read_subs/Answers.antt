@@ -2,7 +2,7 @@ use Rattle.std.proofs.Common.{sym, subst, ◌∙◌, arith}
 use Rattle.std.proofs.lemmas.Result.{err_from_is_err_and}
 use Rattle.xc_text.proofs.SubsRead.{Risen, at_left, risen_form, risen_misplaced, risen_more, inserted, risen_all, risen_empty}
 use Rattle.xc_text.proofs.without.read_subs.Goals as goal
-use Rattle.xc_text.proofs.without.read_subs.Goals.{then-sub-last-via-then-sub-last, then-sub-last-via-else-sub-last+then-sub-gt64}
+use Rattle.xc_text.proofs.without.read_subs.Goals.{then-sub-last-via-then-sub-last, then-sub-last-via-else-sub-last+then-sub}
 
 pub returns-in_err-sub : goal.returns-in_err-sub
 returns-in_err-sub c =
@@ -17,7 +17,7 @@ returns-then-sub-last c =
     c.in_ok-sub.ensures
     (λ above low. elim c.then-sub-last.branch [
       | then-sub-last-via-then-sub-last w ↦ let x = w.if-sub-last.true in omega arith
-      | then-sub-last-via-else-sub-last+then-sub-gt64 w ↦ let x = w.if-sub-gt64.true in omega arith
+      | then-sub-last-via-else-sub-last+then-sub w ↦ let x = w.if-sub.true in omega arith
     ]))
 
 pub words-preserved : goal.words-preserved
@@ -25,7 +25,7 @@ words-preserved c =
     let before = at_left _ _ _ _ _ c.words.invariant c.in-Some.ensures in
     subst (λ ns. Risen ns c.in_ok-sub.sub c.next.new.self c.args.words) (sym (c.insert.ensures
     ∙ inserted c.words.subs c.words.last c.in_ok-sub.sub _ _ before c.if-sub-last.false))
-    (risen_more c.words.subs c.words.last c.in_ok-sub.sub _ _ _ before c.in_ok-sub.ensures c.if-sub-last.false c.if-sub-gt64.false)
+    (risen_more c.words.subs c.words.last c.in_ok-sub.sub _ _ _ before c.in_ok-sub.ensures c.if-sub-last.false c.if-sub.false)
 
 pub returns-then-last-eq0 : goal.returns-then-last-eq0
 returns-then-last-eq0 c =

@@ -1,10 +1,7 @@
-use Rattle.std.proofs.Common.{◌≡◌, ◌≤◌, ◌∙◌, ap, arith, length}
-use Rattle.xc_record.specs.Order.{accepted_from}
+use Rattle.std.proofs.Common.{ap, arith}
 use Rattle.xc_record.proofs.OrderLaws.{accepted-length}
 use Rattle.std.proofs.lemmas.List.{length-drop, length-take}
-use Rattle.std.specs.Prelude.{T}
 use Rattle.xc_change.specs.Reader.{ReaderState}
-use Rattle.xc_change.proofs.ReaderLaws.{drop-min}
 use Rattle.xc_change.proofs.reader.Reader.check.Goals as goal
 
 pub overflow_add-self : goal.overflow_add-self

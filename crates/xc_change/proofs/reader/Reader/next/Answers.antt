@@ -1,8 +1,5 @@
-use Rattle.std.proofs.Common.{◌≡◌, ◌≤◌, ◌∙◌, ap, sym, subst}
-use Rattle.std.specs.Prelude.{IfSome}
+use Rattle.std.proofs.Common.{subst}
 use Rattle.std.proofs.lemmas.Option.{IfSome_then}
-use Rattle.xc_record.specs.declared.record.Logs.{Logs}
-use Rattle.xc_record.specs.Accepted.{AcceptedTablet}
 use Rattle.xc_change.specs.Reader.{ReaderState, FitsFeed, ReadsLogs}
 use Rattle.xc_change.specs.Taken.{looked}
 use Rattle.xc_change.proofs.ReaderLaws.{Gave, Told, fits-looked, next-is, reads-on, next-of}
@@ -12,13 +9,13 @@ pub returns-clause-fits : goal.returns-clause-fits
 returns-clause-fits g c =
     let hs = g.F.Feed.headers c.args.feed.now in
     let cs = g.F.Feed.counts c.args.feed.now in
-    let gave : Gave hs cs c.args.max c.args.self.now c.in-Ok.records =
-    subst (λ (r : ReaderState). FitsFeed hs cs r → Gave hs cs c.args.max r c.in-Ok.records) c.self.view_is
+    let gave : Gave hs cs c.args.max c.args.self.now c.in_ok-records.records =
+    subst (λ (r : ReaderState). FitsFeed hs cs r → Gave hs cs c.args.max r c.in_ok-records.records) c.self.view_is
     (λ fits. record {
       fits = fits;
       order = c.self.invariant;
-      count = c.in-Ok.ensures.count;
-      keep = c.in-Ok.ensures.keep;
+      count = c.in_ok-records.ensures.count;
+      keep = c.in_ok-records.ensures.keep;
       some = c.requires.some;
     }) c.requires.fits in
     rw (c.fetch.ensures.same_headers, c.fetch.ensures.same_counts, c.take.ensures.looked) (fits-looked _ _ _ _ _ gave)
@@ -27,28 +24,28 @@ pub returns-clause-next : goal.returns-clause-next
 returns-clause-next g c =
     let hs = g.F.Feed.headers c.args.feed.now in
     let cs = g.F.Feed.counts c.args.feed.now in
-    let gave : Gave hs cs c.args.max c.args.self.now c.in-Ok.records =
-    subst (λ (r : ReaderState). FitsFeed hs cs r → Gave hs cs c.args.max r c.in-Ok.records) c.self.view_is
+    let gave : Gave hs cs c.args.max c.args.self.now c.in_ok-records.records =
+    subst (λ (r : ReaderState). FitsFeed hs cs r → Gave hs cs c.args.max r c.in_ok-records.records) c.self.view_is
     (λ fits. record {
       fits = fits;
       order = c.self.invariant;
-      count = c.in-Ok.ensures.count;
-      keep = c.in-Ok.ensures.keep;
+      count = c.in_ok-records.ensures.count;
+      keep = c.in_ok-records.ensures.keep;
       some = c.requires.some;
     }) c.requires.fits in
     rw c.take.ensures.looked (next-is _ _ _ _ _ c.take.result gave c.take.ensures.taken)
 
 pub returns-clause-logs : goal.returns-clause-logs
 returns-clause-logs g c =
-    let rs = c.in-Ok.records in
-    rw c.take.ensures.looked (IfSome_then (g.F.Feed.logs c.args.feed.now) c.in-Ok.ensures.told (λ logs given b.
+    let rs = c.in_ok-records.records in
+    rw c.take.ensures.looked (IfSome_then (g.F.Feed.logs c.args.feed.now) c.in_ok-records.ensures.told (λ logs given b.
     subst (λ (r : ReaderState). ReadsLogs logs r b → ReadsLogs logs (looked r rs) b) c.self.view_is
     (λ reads. reads-on logs c.args.max _ rs b (record { reads = reads; order = c.self.invariant; some = c.requires.some; given = given }))))
 
 pub returns-clause-next_of : goal.returns-clause-next_of
 returns-clause-next_of g c =
-    let rs = c.in-Ok.records in
-    IfSome_then (g.F.Feed.logs c.args.feed.now) c.in-Ok.ensures.told (λ logs given b reads.
+    let rs = c.in_ok-records.records in
+    IfSome_then (g.F.Feed.logs c.args.feed.now) c.in_ok-records.ensures.told (λ logs given b reads.
     let told : Told logs c.args.max c.args.self.now rs b =
     subst (λ (r : ReaderState). ReadsLogs logs r b → Told logs c.args.max r rs b) c.self.view_is
     (λ reads. record { reads = reads; order = c.self.invariant; some = c.requires.some; given = given }) reads in

@@ -1,4 +1,4 @@
-use Rattle.std.proofs.Common.{◌≡◌, ◌≤◌, ◌∙◌, ap, arith, length}
+use Rattle.std.proofs.Common.{ap, arith, length}
 use Rattle.xc_change.specs.Reader.{ReaderState}
 use Rattle.xc_record.specs.declared.record.Records.{Records}
 use Rattle.xc_change.proofs.ReaderLaws.{new-within}

@@ -5,8 +5,8 @@ use Rattle.xc_poller.specs.Polled.{Took, TookFirst}
 use Rattle.xc_tablet.proofs.Zips.{zip-all}
 use Rattle.xc_poller.proofs.poller.Poller.give.Goals as goal
 
-pub returns-else-is_err : goal.returns-else-is_err
-returns-else-is_err c =
+pub returns-in_ok-deliver_first-in-Batch : goal.returns-in_ok-deliver_first-in-Batch
+returns-in_ok-deliver_first-in-Batch c =
     let id = c.args.self.now.header.id in
     let from = c.in-Batch.batch.from in
     let rs = c.in-Batch.batch.records in

@@ -1,8 +1,0 @@
--- No tablet so far names it as its parent.
-use Rattle.std.proofs.Common.{◌≡◌, drop}
-use Rattle.xc_record.specs.Headers.{children}
-use Rattle.xc_record.specs.Valid.{headers_of}
-use Rattle.xc_logs.proofs.log_set.child_ids.Given as goal
-
-abbrev pub invariant-loop-i : goal.invariant-loop-i
-invariant-loop-i l = children (headers_of (drop l.i l.tablets)) l.id ≡ children (headers_of l.tablets) l.id

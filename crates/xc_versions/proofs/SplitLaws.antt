@@ -5,11 +5,19 @@ use Rattle.std.proofs.lemmas.Bool.{cases_Bool, both_ways}
 use Rattle.std.specs.Prelude.{insert}
 use Rattle.std.proofs.lemmas.List.{drop_all}
 use Rattle.std.specs.Ordering.{is_gt}
+use Rattle.std.specs.VecDeque.{deque_len}
+use Rattle.std.specs.declared.collections.VecDeque.{VecDeque}
+use Rattle.std.specs.declared.alloc.Global.{Global}
+use Rattle.std.proofs.lemmas.Grind.{common_steps}
 use Rattle.xc_record.proofs.ListLaws.{Each}
 use Rattle.xc_versions.specs.Splits.{Splits, Falls}
 use Rattle.xc_versions.specs.declared.stored.StoredVersion.{StoredVersion}
 use Rattle.xc_versions.specs.Stored.{stored_cmp, InOrder, with_version}
 use Rattle.xc_versions.proofs.VersionLaws.{not-above}
+
+-- the length that a queue tells is that of its items
+pub deque-long : {X : Type 0} (d : VecDeque X Global) → deque_len d ≡ length d.items
+deque-long d = grind (arith, common_steps)
 
 pub each-at : {X : Type 0} (P : X → Type 0) (xs : List X) (i : ℕ) (d : X) → Each P xs → i < length xs → P (get_or xs i d)
 each-at P [] i d e h = absurd (omega arith)

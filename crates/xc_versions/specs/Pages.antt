@@ -7,7 +7,9 @@
 --     Dues ps rest      a cutoff below a page's `due` takes nothing from the page, where rest stands behind the pages
 --     load ps      how many versions the pages have above 32 each; 32 of no page
 --     spare_of ps n      how many versions can be added for certain where there are n empty pages
-use Rattle.std.specs.Prelude.{◌≡◌, ℕ, ◌+◌, ◌-◌, ◌*◌, ◌<◌, ◌≤◌, max, Bool, false, List, [], ◌∷◌, ◌++◌, length, flat_map, vec_capacity, Vec}
+use Rattle.std.specs.Prelude.{◌≡◌, ℕ, ◌+◌, ◌-◌, ◌*◌, ◌<◌, ◌≤◌, max, Bool, false, List, [], ◌∷◌, ◌++◌, length, flat_map}
+use Rattle.std.specs.VecDeque.{deque_capacity}
+use Rattle.std.specs.declared.collections.VecDeque.{VecDeque}
 use Rattle.std.specs.List.{AllByRecursion}
 use Rattle.std.specs.declared.alloc.Global.{Global}
 use Rattle.xc_versions.specs.declared.stored.StoredVersion.{StoredVersion}
@@ -20,11 +22,11 @@ items_of ps = flat_map (λ p. p.items.items) ps
 pub record IsPage (p : Page) : Type 0 where
   pub some : 0 < length p.items.items
   pub few : length p.items.items ≤ 64
-  pub room : 65 ≤ vec_capacity p.items
+  pub room : 65 ≤ deque_capacity p.items
 
-pub record IsEmptyPage (v : Vec StoredVersion Global) : Type 0 where
+pub record IsEmptyPage (v : VecDeque StoredVersion Global) : Type 0 where
   pub none : v.items ≡ []
-  pub room : 65 ≤ vec_capacity v
+  pub room : 65 ≤ deque_capacity v
 
 abbrev pub is_first_passed : (StoredVersion → Bool) → List StoredVersion → Bool
 is_first_passed test [] = false

@@ -2,6 +2,8 @@
 --     HasRoom pages pool      both can hold all pages and all empty pages
 --     IsStored pages pool least      and what is said of each 64 pages holds
 use Rattle.std.specs.Prelude.{ℕ, ◌+◌, ◌≤◌, length, vec_capacity, Vec}
+use Rattle.std.specs.VecDeque.{deque_capacity}
+use Rattle.std.specs.declared.collections.VecDeque.{VecDeque}
 use Rattle.std.specs.List.{AllByRecursion}
 use Rattle.std.specs.declared.alloc.Global.{Global}
 use Rattle.xc_versions.specs.declared.stored.StoredVersion.{StoredVersion}
@@ -10,15 +12,15 @@ use Rattle.std.specs.Prelude.{[]}
 use Rattle.xc_versions.specs.Pages.{IsPaged, IsEmptyPage}
 use Rattle.xc_versions.specs.Dues.{dues_of, Covers}
 
-pub record HasRoom (pages : Vec Page Global) (pool : Vec (Vec StoredVersion Global) Global) : Type 0 where
-  pub pages_room : length pages.items + length pool.items ≤ vec_capacity pages
+pub record HasRoom (pages : VecDeque Page Global) (pool : Vec (VecDeque StoredVersion Global) Global) : Type 0 where
+  pub pages_room : length pages.items + length pool.items ≤ deque_capacity pages
   pub pool_room : length pages.items + length pool.items ≤ vec_capacity pool
 
-pub record IsStore (pages : Vec Page Global) (pool : Vec (Vec StoredVersion Global) Global) : Type 0 where
+pub record IsStore (pages : VecDeque Page Global) (pool : Vec (VecDeque StoredVersion Global) Global) : Type 0 where
   pub paged : IsPaged pages.items []
   pub empty : AllByRecursion IsEmptyPage pool.items
   pub room : HasRoom pages pool
 
-pub record IsStored (pages : Vec Page Global) (pool : Vec (Vec StoredVersion Global) Global) (least : Vec ℕ Global) : Type 0 where
+pub record IsStored (pages : VecDeque Page Global) (pool : Vec (VecDeque StoredVersion Global) Global) (least : Vec ℕ Global) : Type 0 where
   pub store : IsStore pages pool
   pub dues : Covers (dues_of pages.items) least.items

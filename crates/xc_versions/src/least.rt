@@ -3,13 +3,14 @@ ghost use Rattle.std.specs.Prelude.{◌≡◌, ◌<◌, ◌≤◌, ◌*◌, ◌%
 ghost use Rattle.xc_versions.specs.Dues.{dues_of, Covers, NotAbove, Shrunk, Grew};
 
 use crate::page::Page;
+use std::collections::VecDeque;
 
 /// How many pages are a group, of which one number is kept.
-pub const GROUP: usize = 64;
+pub(crate) const GROUP: usize = 64;
 
 /// What is said of the group, or 0 where nothing is.
 #[inline]
-pub fn least_of(least: &[u64], group: usize) -> u64
+pub(crate) fn least_of(least: &[u64], group: usize) -> u64
     ensures { result ≡ slice_index_or least.now group 0 }
 {
     if group < least.len() { least[group] } else { 0 }
@@ -17,7 +18,7 @@ pub fn least_of(least: &[u64], group: usize) -> u64
 
 // Says of the group no more than this.
 #[inline]
-pub fn lower_at(least: &mut Vec<u64>, group: usize, due: u64)
+pub(crate) fn lower_at(least: &mut Vec<u64>, group: usize, due: u64)
     ensures lower { NotAbove least.old.items least.new.items }
     ensures here { slice_index_or least.new.items group 0 ≤ due }
 {
@@ -29,10 +30,10 @@ pub fn lower_at(least: &mut Vec<u64>, group: usize, due: u64)
 }
 
 // Says no more than the pages `first`, `first` + 64 and so on are due for, of the groups that they are in.
-fn lower_from(least: &mut Vec<u64>, pages: &[Page], first: usize)
+fn lower_from(least: &mut Vec<u64>, pages: &VecDeque<Page>, first: usize)
     ensures lower { NotAbove least.old.items least.new.items }
-    ensures here { (k : ℕ) → first ≤ k → k < length pages.now → k % 64 ≡ first % 64
-        → slice_index_or least.new.items (k / 64) 0 ≤ slice_index_or (dues_of pages.now) k 0 }
+    ensures here { (k : ℕ) → first ≤ k → k < length pages.now.items → k % 64 ≡ first % 64
+        → slice_index_or least.new.items (k / 64) 0 ≤ slice_index_or (dues_of pages.now.items) k 0 }
 {
     let mut i = first;
     while i < pages.len() {
@@ -43,10 +44,10 @@ fn lower_from(least: &mut Vec<u64>, pages: &[Page], first: usize)
 }
 
 /// Holds what is said after the page i of so many got other versions, or is gone.
-pub fn settle(least: &mut Vec<u64>, pages: &[Page], i: usize, before: usize)
-    requires { i ≤ length pages.now }
-    ensures { (ds : List ℕ) → length ds ≡ before → i < before → Shrunk i ds (dues_of pages.now)
-        → Covers ds least.old.items → Covers (dues_of pages.now) least.new.items }
+pub(crate) fn settle(least: &mut Vec<u64>, pages: &VecDeque<Page>, i: usize, before: usize)
+    requires { i ≤ length pages.now.items }
+    ensures { (ds : List ℕ) → length ds ≡ before → i < before → Shrunk i ds (dues_of pages.now.items)
+        → Covers ds least.old.items → Covers (dues_of pages.now.items) least.new.items }
 {
     if pages.len() < before {
         lower_from(least, pages, i / GROUP * GROUP + 63);
@@ -57,10 +58,16 @@ pub fn settle(least: &mut Vec<u64>, pages: &[Page], i: usize, before: usize)
 }
 
 /// Holds what is said after the page i of so many got a version of this commit, and may have been split.
-pub fn grown(least: &mut Vec<u64>, pages: &[Page], i: usize, commit: u64, before: usize)
-    requires { i ≤ length pages.now }
-    ensures { (ds : List ℕ) → length ds ≡ before → i < before → Grew i commit ds (dues_of pages.now)
-        → Covers ds least.old.items → Covers (dues_of pages.now) least.new.items }
+pub(crate) fn grown(
+    least: &mut Vec<u64>,
+    pages: &VecDeque<Page>,
+    i: usize,
+    commit: u64,
+    before: usize,
+)
+    requires { i ≤ length pages.now.items }
+    ensures { (ds : List ℕ) → length ds ≡ before → i < before → Grew i commit ds (dues_of pages.now.items)
+        → Covers ds least.old.items → Covers (dues_of pages.now.items) least.new.items }
 {
     lower_at(least, i / GROUP, commit);
     if before < pages.len() {
@@ -69,9 +76,9 @@ pub fn grown(least: &mut Vec<u64>, pages: &[Page], i: usize, commit: u64, before
 }
 
 // Says of the group what its pages are due for.
-fn raise(least: &mut Vec<u64>, pages: &[Page], group: usize)
-    requires { 64 * group ≤ length pages.now }
-    ensures { Covers (dues_of pages.now) least.old.items → Covers (dues_of pages.now) least.new.items }
+fn raise(least: &mut Vec<u64>, pages: &VecDeque<Page>, group: usize)
+    requires { 64 * group ≤ length pages.now.items }
+    ensures { Covers (dues_of pages.now.items) least.old.items → Covers (dues_of pages.now.items) least.new.items }
 {
     if group >= least.len() {
         return;
@@ -87,9 +94,9 @@ fn raise(least: &mut Vec<u64>, pages: &[Page], group: usize)
 
 /// Says of a group what its pages are due for, where the page i is its first.
 #[inline]
-pub fn raise_at(least: &mut Vec<u64>, pages: &[Page], i: usize)
-    requires { i ≤ length pages.now }
-    ensures { Covers (dues_of pages.now) least.old.items → Covers (dues_of pages.now) least.new.items }
+pub(crate) fn raise_at(least: &mut Vec<u64>, pages: &VecDeque<Page>, i: usize)
+    requires { i ≤ length pages.now.items }
+    ensures { Covers (dues_of pages.now.items) least.old.items → Covers (dues_of pages.now.items) least.new.items }
 {
     if i % GROUP == 0 {
         raise(least, pages, i / GROUP);
@@ -97,7 +104,7 @@ pub fn raise_at(least: &mut Vec<u64>, pages: &[Page], i: usize)
 }
 
 /// Says 0 of the groups of which nothing is said yet, as far as memory allows.
-pub fn fill(least: &mut Vec<u64>, groups: usize)
+pub(crate) fn fill(least: &mut Vec<u64>, groups: usize)
     ensures { NotAbove least.old.items least.new.items }
 {
     while least.len() < groups {

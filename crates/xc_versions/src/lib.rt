@@ -9,6 +9,7 @@ mod pages;
 #[cfg(test)]
 mod plain;
 mod prune;
+mod queue;
 mod rows;
 mod shrink;
 mod stored;

@@ -1,5 +1,5 @@
 // Pages of versions beside a pool of empty ones.
-ghost use Rattle.std.specs.Prelude.{◌≡◌, ◌<◌, ◌≤◌, ◌+◌, [], ◌∷◌, length, insert, min, ◌/◌, vec_capacity};
+ghost use Rattle.std.specs.Prelude.{◌≡◌, ◌<◌, ◌≤◌, ◌+◌, [], ◌∷◌, length, min, ◌/◌, vec_capacity};
 ghost use Rattle.std.specs.Prelude.{List, OnOk, filter};
 ghost use Rattle.std.specs.List.{AllByRecursion};
 ghost use Rattle.std.specs.Option.{option_copied, option_to_list};
@@ -15,13 +15,19 @@ ghost use Rattle.xc_versions.specs.Dues.{dues_of, Covers, Grew};
 
 use crate::least::{grown, lower_at};
 use crate::page::{PAGE, Page, pages_before, pages_reaching, take_empty};
+use crate::queue::insert_at;
 use crate::rows::put_versions;
 use crate::stored::{StoredVersion, reached};
 use std::alloc::{AllocError, Global};
+use std::collections::VecDeque;
 use xc_base::{Key, Value};
 
 // Puts the version into the first page.
-fn add_first(pages: &mut Vec<Page>, pool: &mut Vec<Vec<StoredVersion>>, version: StoredVersion)
+fn add_first(
+    pages: &mut VecDeque<Page>,
+    pool: &mut Vec<VecDeque<StoredVersion>>,
+    version: StoredVersion,
+)
     requires store { IsStore pages.old pool.old }
     requires none { pages.old.items ≡ [] }
     requires room { 1 ≤ spare_of pages.old.items (length pool.old.items) }
@@ -36,22 +42,13 @@ fn add_first(pages: &mut Vec<Page>, pool: &mut Vec<Vec<StoredVersion>>, version:
         due: version.commit,
     };
     page.put(version);
-    pages.push_reserved(page);
-}
-
-fn insert_page(pages: &mut Vec<Page>, at: usize, page: Page)
-    requires within { at ≤ length pages.old.items }
-    requires room { length pages.old.items < vec_capacity pages.old }
-    ensures items { pages.new.items ≡ insert pages.old.items at page }
-    ensures capacity { vec_capacity pages.new ≡ vec_capacity pages.old }
-{
-    let _ = pages.insert(at, page);
+    pages.push_back_reserved(page);
 }
 
 // Puts the version into the page i, the last that begins before it, or else the first.
 fn add_at(
-    pages: &mut Vec<Page>,
-    pool: &mut Vec<Vec<StoredVersion>>,
+    pages: &mut VecDeque<Page>,
+    pool: &mut Vec<VecDeque<StoredVersion>>,
     i: usize,
     version: StoredVersion,
 )
@@ -71,14 +68,14 @@ fn add_at(
     page.put(version);
     if page.is_over() {
         let upper = page.split(take_empty(pool));
-        insert_page(pages, i + 1, upper);
+        insert_at(pages, i + 1, upper);
     }
 }
 
 /// Puts the version at its place.
-pub fn add(
-    pages: &mut Vec<Page>,
-    pool: &mut Vec<Vec<StoredVersion>>,
+pub(crate) fn add(
+    pages: &mut VecDeque<Page>,
+    pool: &mut Vec<VecDeque<StoredVersion>>,
     least: &mut Vec<u64>,
     version: StoredVersion,
 )
@@ -105,9 +102,13 @@ pub fn add(
 }
 
 /// The last version that reaches the key at t.
-pub fn last_reaching<'a>(pages: &'a [Page], key: &Key, t: u64) -> Option<&'a StoredVersion>
-    requires { IsPaged pages.now [] }
-    ensures { option_to_list (option_copied result) ≡ last_of (filter (reaches key.now t) (items_of pages.now)) }
+pub(crate) fn last_reaching<'a>(
+    pages: &'a VecDeque<Page>,
+    key: &Key,
+    t: u64,
+) -> Option<&'a StoredVersion>
+    requires { IsPaged pages.now.items [] }
+    ensures { option_to_list (option_copied result) ≡ last_of (filter (reaches key.now t) (items_of pages.now.items)) }
 {
     let begin = pages_reaching(pages, key, t);
     if begin == 0 {
@@ -122,12 +123,17 @@ pub fn last_reaching<'a>(pages: &'a [Page], key: &Key, t: u64) -> Option<&'a Sto
 }
 
 /// Puts what the versions with commit at most t leave at their keys.
-pub fn put_pages(rows: &mut Vec<(Key, Value)>, pages: &[Page], t: u64) -> Result<(), AllocError>
-    requires under { AllByRecursion (λ x. Under rows.old.items x.key) (items_of pages.now) }
-    requires ordered { InOrder (items_of pages.now) }
-    ensures { OnOk result (rows.new.items ≡ rows_after (ops_to t (items_of pages.now)) rows.old.items) }
+pub(crate) fn put_pages(
+    rows: &mut Vec<(Key, Value)>,
+    pages: &VecDeque<Page>,
+    t: u64,
+) -> Result<(), AllocError>
+    requires under { AllByRecursion (λ x. Under rows.old.items x.key) (items_of pages.now.items) }
+    requires ordered { InOrder (items_of pages.now.items) }
+    ensures { OnOk result (rows.new.items ≡ rows_after (ops_to t (items_of pages.now.items)) rows.old.items) }
 {
-    for page in pages {
+    for i in 0..pages.len() {
+        let page = &pages[i];
         put_versions(rows, &page.items, t)?;
     }
     Ok(())
@@ -136,7 +142,7 @@ pub fn put_pages(rows: &mut Vec<(Key, Value)>, pages: &[Page], t: u64) -> Result
 // Puts so many empty pages into the pool, or some of them.
 fn add_empty(
     alloc: Global,
-    pool: &mut Vec<Vec<StoredVersion>>,
+    pool: &mut Vec<VecDeque<StoredVersion>>,
     more: usize,
 ) -> Result<(), AllocError>
     requires empty { AllByRecursion IsEmptyPage pool.old.items }
@@ -148,7 +154,7 @@ fn add_empty(
     ensures capacity { vec_capacity pool.new ≡ vec_capacity pool.old }
 {
     for _made in 0..more {
-        pool.push_reserved(Vec::with_capacity(alloc, PAGE + 1)?);
+        pool.push_reserved(VecDeque::with_capacity(alloc, PAGE + 1)?);
     }
     Ok(())
 }
@@ -162,10 +168,10 @@ fn pages_for(n: usize, pages: usize) -> usize
 
 /// Makes room for at least n more versions: n additions split at most as many pages as there are, and one more for each
 /// 32 of them.
-pub fn grow(
+pub(crate) fn grow(
     alloc: Global,
-    pages: &mut Vec<Page>,
-    pool: &mut Vec<Vec<StoredVersion>>,
+    pages: &mut VecDeque<Page>,
+    pool: &mut Vec<VecDeque<StoredVersion>>,
     n: usize,
 ) -> Result<(), AllocError>
     requires { IsStore pages.old pool.old }

@@ -1,11 +1,13 @@
 // What a prune takes from a page, from its last version to its first.
-ghost use Rattle.std.specs.Prelude.{◌≡◌, ℕ, List, ◌++◌, ◌<◌, ◌≤◌, length, slice_get, vec_capacity};
+ghost use Rattle.std.specs.Prelude.{◌≡◌, ℕ, List, ◌++◌, ◌<◌, ◌≤◌, length, slice_get};
+ghost use Rattle.std.specs.VecDeque.{deque_capacity};
 ghost use Rattle.std.specs.Option.{option_to_list};
 ghost use Rattle.xc_versions.specs.Stored.{next_commit, pruned_before};
 ghost use Rattle.xc_versions.specs.Pages.{IdleNext};
 ghost use Rattle.xc_versions.specs.declared.stored.StoredVersion.{StoredVersion};
 
 use crate::page::Page;
+use crate::queue::remove_at;
 use crate::stored::StoredVersion;
 
 // The commit of the next version, where it is of the same key.
@@ -28,13 +30,13 @@ fn next_commit(version: &StoredVersion, next: &Option<StoredVersion>) -> Option<
 impl Page {
     /// Removes what its next version replaces at the cutoff, and notes when more is due. Behind the page stands `next`,
     /// or nothing.
-    pub fn prune(&mut self, next: Option<StoredVersion>, cutoff: u64)
+    pub(crate) fn prune(&mut self, next: Option<StoredVersion>, cutoff: u64)
         ensures items { (rest : List StoredVersion) → slice_get rest 0 ≡ next
             → self.new.items.items ++ rest ≡ pruned_before cutoff self.old.items.items rest }
         ensures idle { (u : ℕ) (rest : List StoredVersion) → slice_get rest 0 ≡ next → u < self.new.due
             → IdleNext u self.new.items.items rest }
         ensures len { length self.new.items.items ≤ length self.old.items.items }
-        ensures capacity { vec_capacity self.new.items ≡ vec_capacity self.old.items }
+        ensures capacity { deque_capacity self.new.items ≡ deque_capacity self.old.items }
     {
         let mut behind = next;
         let mut due = u64::MAX;
@@ -44,7 +46,7 @@ impl Page {
             let version = self.items[i];
             match next_commit(&version, &behind) {
                 Some(commit) if commit <= cutoff => {
-                    let _ = self.items.remove(i);
+                    remove_at(&mut self.items, i);
                 }
                 Some(commit) => {
                     due = due.min(commit);

@@ -8,6 +8,7 @@ ghost use Rattle.xc_versions.specs.RowsSeen.{row_of, is_row_of, Below, Under, op
 
 use crate::stored::StoredVersion;
 use std::alloc::{AllocError, Global};
+use std::collections::VecDeque;
 use std::marker::Model;
 use xc_base::{Key, Value};
 
@@ -97,16 +98,17 @@ fn put_version(rows: &mut Vec<(Key, Value)>, version: &StoredVersion) -> Result<
 }
 
 /// Puts what the versions with commit at most t leave at their keys, which are at least the rows' keys.
-pub fn put_versions(
+pub(crate) fn put_versions(
     rows: &mut Vec<(Key, Value)>,
-    versions: &[StoredVersion],
+    versions: &VecDeque<StoredVersion>,
     t: u64,
 ) -> Result<(), AllocError>
-    requires under { AllByRecursion (λ x. Under rows.old.items x.key) versions.now }
-    requires ordered { InOrder versions.now }
-    ensures { OnOk result (rows.new.items ≡ rows_after (ops_to t versions.now) rows.old.items) }
+    requires under { AllByRecursion (λ x. Under rows.old.items x.key) versions.now.items }
+    requires ordered { InOrder versions.now.items }
+    ensures { OnOk result (rows.new.items ≡ rows_after (ops_to t versions.now.items) rows.old.items) }
 {
-    for version in versions {
+    for i in 0..versions.len() {
+        let version = &versions[i];
         if version.commit <= t {
             put_version(rows, version)?;
         }

@@ -2,6 +2,7 @@
 ghost use Rattle.std.specs.Prelude.{◌≡◌, ◌++◌, ◌<◌, ◌≤◌, ◌+◌, nat_lt, remove, take, drop, length, slice_get};
 ghost use Rattle.std.specs.Prelude.{slice_index_or, vec_capacity};
 ghost use Rattle.std.specs.List.{AllByRecursion};
+ghost use Rattle.std.specs.VecDeque.{deque_capacity};
 ghost use Rattle.xc_versions.specs.Stored.{kept, pruned_before, up_to};
 ghost use Rattle.xc_versions.specs.Pages.{IsPage, IsEmptyPage, items_of, spare_of};
 ghost use Rattle.xc_versions.specs.declared.page.Page.{Page};
@@ -11,22 +12,23 @@ ghost use Rattle.xc_versions.specs.Dues.{dues_of, Covers, Shrunk};
 use crate::least::{GROUP, fill, least_of, raise_at, settle};
 use crate::page::Page;
 use crate::stored::{StoredVersion, drop_later};
+use std::collections::VecDeque;
 
 // The first version of the pages from i on.
-fn first_from(pages: &[Page], i: usize) -> Option<StoredVersion>
-    requires { AllByRecursion IsPage pages.now }
-    ensures { result ≡ slice_get (items_of (drop i pages.now)) 0 }
+fn first_from(pages: &VecDeque<Page>, i: usize) -> Option<StoredVersion>
+    requires { AllByRecursion IsPage pages.now.items }
+    ensures { result ≡ slice_get (items_of (drop i pages.now.items)) 0 }
 {
     if i < pages.len() {
         let page = &pages[i];
-        page.items.first().copied()
+        page.items.front().copied()
     } else {
         None
     }
 }
 
 // Moves the empty page i to the pool.
-fn free(pages: &mut Vec<Page>, pool: &mut Vec<Vec<StoredVersion>>, i: usize)
+fn free(pages: &mut VecDeque<Page>, pool: &mut Vec<VecDeque<StoredVersion>>, i: usize)
     requires within { i < length pages.old.items }
     requires none { (q : Page) → q ≡ slice_index_or pages.old.items i q → IsEmptyPage q.items }
     requires empty { AllByRecursion IsEmptyPage pool.old.items }
@@ -34,15 +36,21 @@ fn free(pages: &mut Vec<Page>, pool: &mut Vec<Vec<StoredVersion>>, i: usize)
     ensures pages { pages.new.items ≡ remove pages.old.items i }
     ensures empty { AllByRecursion IsEmptyPage pool.new.items }
     ensures len { length pool.new.items ≡ length pool.old.items + 1 }
-    ensures pages_capacity { vec_capacity pages.new ≡ vec_capacity pages.old }
+    ensures pages_capacity { deque_capacity pages.new ≡ deque_capacity pages.old }
     ensures pool_capacity { vec_capacity pool.new ≡ vec_capacity pool.old }
 {
-    let Page { items, due: _ } = pages.remove(i);
-    pool.push_reserved(items);
+    if let Some(Page { items, due: _ }) = pages.remove(i) {
+        pool.push_reserved(items);
+    }
 }
 
 // Removes from the page i what the next version replaces at the cutoff.
-fn prune_at(pages: &mut Vec<Page>, pool: &mut Vec<Vec<StoredVersion>>, i: usize, cutoff: u64)
+fn prune_at(
+    pages: &mut VecDeque<Page>,
+    pool: &mut Vec<VecDeque<StoredVersion>>,
+    i: usize,
+    cutoff: u64,
+)
     requires store { IsStore pages.old pool.old }
     requires within { i < length pages.old.items }
     ensures store { IsStore pages.new pool.new }
@@ -50,7 +58,8 @@ fn prune_at(pages: &mut Vec<Page>, pool: &mut Vec<Vec<StoredVersion>>, i: usize,
     ensures tail { (q : Page) → q ≡ slice_index_or pages.old.items i q
         → items_of (drop i pages.new.items)
         ≡ pruned_before cutoff q.items.items (items_of (drop (i + 1) pages.old.items)) }
-    ensures spare { spare_of pages.old.items (length pool.old.items) ≤ spare_of pages.new.items (length pool.new.items) }
+    ensures spare { spare_of pages.old.items (length pool.old.items) ≤ spare_of pages.new.items
+        (length pool.new.items) }
     ensures dues { Shrunk i (dues_of pages.old.items) (dues_of pages.new.items) }
     ensures len { i ≤ length pages.new.items }
 {
@@ -67,9 +76,9 @@ fn prune_at(pages: &mut Vec<Page>, pool: &mut Vec<Vec<StoredVersion>>, i: usize,
 
 // Whether nothing of the page i is due at the cutoff.
 #[inline]
-fn is_idle(pages: &[Page], i: usize, cutoff: u64) -> bool
-    requires { i < length pages.now }
-    ensures { (q : Page) → q ≡ slice_index_or pages.now i q → result ≡ nat_lt cutoff q.due }
+fn is_idle(pages: &VecDeque<Page>, i: usize, cutoff: u64) -> bool
+    requires { i < length pages.now.items }
+    ensures { (q : Page) → q ≡ slice_index_or pages.now.items i q → result ≡ nat_lt cutoff q.due }
 {
     let page = &pages[i];
     cutoff < page.due
@@ -77,8 +86,8 @@ fn is_idle(pages: &[Page], i: usize, cutoff: u64) -> bool
 
 // The same, and what is said of the page's group holds. At the group's first page it is what the pages are due for.
 fn prune_page(
-    pages: &mut Vec<Page>,
-    pool: &mut Vec<Vec<StoredVersion>>,
+    pages: &mut VecDeque<Page>,
+    pool: &mut Vec<VecDeque<StoredVersion>>,
     least: &mut Vec<u64>,
     i: usize,
     cutoff: u64,
@@ -91,7 +100,8 @@ fn prune_page(
     ensures tail { (q : Page) → q ≡ slice_index_or pages.old.items i q
         → items_of (drop i pages.new.items)
         ≡ pruned_before cutoff q.items.items (items_of (drop (i + 1) pages.old.items)) }
-    ensures spare { spare_of pages.old.items (length pool.old.items) ≤ spare_of pages.new.items (length pool.new.items) }
+    ensures spare { spare_of pages.old.items (length pool.old.items) ≤ spare_of pages.new.items
+        (length pool.new.items) }
     ensures least { Covers (dues_of pages.new.items) least.new.items }
 {
     let count = pages.len();
@@ -100,11 +110,11 @@ fn prune_page(
     raise_at(least, pages, i);
 }
 
-/// Of each key's versions with commit at most the cutoff only the last stays. Of 64 pages that lose none, none is looked
-/// at.
-pub fn prune(
-    pages: &mut Vec<Page>,
-    pool: &mut Vec<Vec<StoredVersion>>,
+/// Of each key's versions with commit at most the cutoff only the last stays. Of 64 pages that lose none, none is
+/// looked at.
+pub(crate) fn prune(
+    pages: &mut VecDeque<Page>,
+    pool: &mut Vec<VecDeque<StoredVersion>>,
     least: &mut Vec<u64>,
     cutoff: u64,
 )
@@ -112,7 +122,8 @@ pub fn prune(
     requires least { Covers (dues_of pages.old.items) least.old.items }
     ensures store { IsStore pages.new pool.new }
     ensures items { items_of pages.new.items ≡ kept cutoff (items_of pages.old.items) }
-    ensures spare { spare_of pages.old.items (length pool.old.items) ≤ spare_of pages.new.items (length pool.new.items) }
+    ensures spare { spare_of pages.old.items (length pool.old.items) ≤ spare_of pages.new.items
+        (length pool.new.items) }
     ensures least { Covers (dues_of pages.new.items) least.new.items }
 {
     fill(least, pages.len() / GROUP + 1);
@@ -129,14 +140,15 @@ pub fn prune(
 }
 
 // Removes from the page i the versions with commit above t.
-fn drop_at(pages: &mut Vec<Page>, pool: &mut Vec<Vec<StoredVersion>>, i: usize, t: u64)
+fn drop_at(pages: &mut VecDeque<Page>, pool: &mut Vec<VecDeque<StoredVersion>>, i: usize, t: u64)
     requires store { IsStore pages.old pool.old }
     requires within { i < length pages.old.items }
     ensures store { IsStore pages.new pool.new }
     ensures front { take i pages.new.items ≡ take i pages.old.items }
     ensures tail { (q : Page) → q ≡ slice_index_or pages.old.items i q
         → items_of (drop i pages.new.items) ≡ up_to t q.items.items ++ items_of (drop (i + 1) pages.old.items) }
-    ensures spare { spare_of pages.old.items (length pool.old.items) ≤ spare_of pages.new.items (length pool.new.items) }
+    ensures spare { spare_of pages.old.items (length pool.old.items) ≤ spare_of pages.new.items
+        (length pool.new.items) }
     ensures dues { Shrunk i (dues_of pages.old.items) (dues_of pages.new.items) }
     ensures len { i ≤ length pages.new.items }
 {
@@ -148,9 +160,9 @@ fn drop_at(pages: &mut Vec<Page>, pool: &mut Vec<Vec<StoredVersion>>, i: usize, 
 }
 
 /// The versions with commit above t go, and all others stay.
-pub fn drop_after(
-    pages: &mut Vec<Page>,
-    pool: &mut Vec<Vec<StoredVersion>>,
+pub(crate) fn drop_after(
+    pages: &mut VecDeque<Page>,
+    pool: &mut Vec<VecDeque<StoredVersion>>,
     least: &mut Vec<u64>,
     t: u64,
 )
@@ -158,7 +170,8 @@ pub fn drop_after(
     requires least { Covers (dues_of pages.old.items) least.old.items }
     ensures store { IsStore pages.new pool.new }
     ensures items { items_of pages.new.items ≡ up_to t (items_of pages.old.items) }
-    ensures spare { spare_of pages.old.items (length pool.old.items) ≤ spare_of pages.new.items (length pool.new.items) }
+    ensures spare { spare_of pages.old.items (length pool.old.items) ≤ spare_of pages.new.items
+        (length pool.new.items) }
     ensures least { Covers (dues_of pages.new.items) least.new.items }
 {
     let mut i = pages.len();

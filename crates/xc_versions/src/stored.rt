@@ -1,11 +1,13 @@
 // A version as it is kept, and the search among versions in order.
-ghost use Rattle.std.specs.Prelude.{◌≡◌, ◌<◌, ◌+◌, ◌≤◌, length, vec_len, vec_capacity, true};
+ghost use Rattle.std.specs.Prelude.{◌≡◌, ◌<◌, ◌+◌, ◌≤◌, length, true};
+ghost use Rattle.std.specs.VecDeque.{deque_capacity};
 ghost use Rattle.std.specs.Ordering.{is_gt};
 ghost use Rattle.xc_versions.specs.Stored.{stored_cmp, InOrder, IsNew, with_version, reaches, up_to};
 ghost use Rattle.xc_versions.specs.Splits.{Splits};
 ghost use Rattle.xc_versions.specs.declared.stored.StoredVersion.{StoredVersion};
 
 use std::cmp::Ordering;
+use std::collections::VecDeque;
 use xc_base::{Key, Value};
 
 /// A version of a row: what its key was set to, by which transaction, and when that committed.
@@ -17,10 +19,10 @@ pub struct StoredVersion {
     pub place: u64,
     /// Its transaction's number, 0 for a write of one tablet.
     pub txn: u32,
+    /// The row's key, so near to the numbers that a comparison mostly reads one line of memory.
+    pub key: Key,
     /// What the key was set to, or None where it was removed.
     pub value: Option<Value>,
-    /// The row's key.
-    pub key: Key,
 }
 
 impl StoredVersion {
@@ -64,18 +66,18 @@ impl StoredVersion {
 
 // Whether all of the versions stand before this one: the last does.
 #[inline]
-fn is_behind_all(items: &[StoredVersion], version: &StoredVersion) -> bool
-    requires { InOrder items.now }
-    ensures { result ≡ true → Splits (λ x. is_gt (stored_cmp version.now x)) (length items.now) items.now }
+fn is_behind_all(items: &VecDeque<StoredVersion>, version: &StoredVersion) -> bool
+    requires { InOrder items.now.items }
+    ensures { result ≡ true → Splits (λ x. is_gt (stored_cmp version.now x)) (length items.now.items) items.now.items }
 {
     let count = items.len();
     count > 0 && version.is_after(&items[count - 1])
 }
 
 /// How many of the versions stand before this one. It is often the last of all.
-pub fn place_of(items: &[StoredVersion], version: &StoredVersion) -> usize
-    requires { InOrder items.now }
-    ensures { Splits (λ x. is_gt (stored_cmp version.now x)) result items.now }
+pub(crate) fn place_of(items: &VecDeque<StoredVersion>, version: &StoredVersion) -> usize
+    requires { InOrder items.now.items }
+    ensures { Splits (λ x. is_gt (stored_cmp version.now x)) result items.now.items }
 {
     if is_behind_all(items, version) {
         return items.len();
@@ -94,9 +96,9 @@ pub fn place_of(items: &[StoredVersion], version: &StoredVersion) -> usize
 }
 
 /// How many of the versions are of lesser keys, or of this key with commit at most t.
-pub fn reached(items: &[StoredVersion], key: &Key, t: u64) -> usize
-    requires { InOrder items.now }
-    ensures { Splits (reaches key.now t) result items.now }
+pub(crate) fn reached(items: &VecDeque<StoredVersion>, key: &Key, t: u64) -> usize
+    requires { InOrder items.now.items }
+    ensures { Splits (reaches key.now t) result items.now.items }
 {
     let mut low = 0;
     let mut high = items.len();
@@ -111,24 +113,10 @@ pub fn reached(items: &[StoredVersion], key: &Key, t: u64) -> usize
     low
 }
 
-/// Puts the version at its place among versions that have room for it.
-pub fn insert_version(items: &mut Vec<StoredVersion>, version: StoredVersion)
-    requires ordered { InOrder items.old.items }
-    requires fresh { IsNew version items.old.items }
-    requires room { vec_len items.old < vec_capacity items.old }
-    ensures items { items.new.items ≡ with_version version items.old.items }
-    ensures ordered { InOrder items.new.items }
-    ensures len { vec_len items.new ≡ vec_len items.old + 1 }
-    ensures capacity { vec_capacity items.old ≤ vec_capacity items.new }
-{
-    let at = place_of(items, &version);
-    let _ = items.insert(at, version);
-}
-
 /// The versions with commit above t go.
-pub fn drop_later(items: &mut Vec<StoredVersion>, t: u64)
+pub(crate) fn drop_later(items: &mut VecDeque<StoredVersion>, t: u64)
     ensures items { items.new.items ≡ up_to t items.old.items }
-    ensures capacity { vec_capacity items.new ≡ vec_capacity items.old }
+    ensures capacity { deque_capacity items.new ≡ deque_capacity items.old }
 {
     items.retain(|version| version.commit <= t);
 }

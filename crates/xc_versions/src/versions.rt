@@ -9,6 +9,7 @@ use crate::rows::Rows;
 use crate::shrink::{drop_after, prune};
 use crate::stored::StoredVersion;
 use std::alloc::Global;
+use std::collections::VecDeque;
 use std::marker::Model;
 use xc_base::{Key, NoMemory, Value};
 
@@ -17,9 +18,9 @@ use xc_base::{Key, NoMemory, Value};
 #[derive(Drop, Debug)]
 pub struct Versions {
     // Each has 1 to 64 versions.
-    pages: Vec<Page>,
+    pages: VecDeque<Page>,
     // Empty pages, for additions.
-    pool: Vec<Vec<StoredVersion>>,
+    pool: Vec<VecDeque<StoredVersion>>,
     // For each 64 pages at most the least cutoff that takes something from one of them. 0 where it has no entry.
     least: Vec<u64>,
     alloc: Global,
@@ -33,7 +34,11 @@ impl Model for Versions {
 
     ghost Value = { Store };
 
-    ghost view = { λ v. record { items = items_of v.pages.items; spare = spare_of v.pages.items (length v.pool.items) } };
+    ghost view = { λ v. record {
+      items = items_of v.pages.items;
+      spare = spare_of v.pages.items
+          (length v.pool.items);
+    } };
 
     ghost invariant = { λ v. IsStored v.pages v.pool v.least };
 }
@@ -44,7 +49,7 @@ impl Versions {
         ensures { result.items ≡ [] }
     {
         Versions {
-            pages: Vec::new(alloc),
+            pages: VecDeque::new(alloc),
             pool: Vec::new(alloc),
             least: Vec::new(alloc),
             alloc,
@@ -94,8 +99,8 @@ impl Versions {
             commit,
             place,
             txn,
-            value,
             key,
+            value,
         };
         add(&mut self.pages, &mut self.pool, &mut self.least, version);
     }

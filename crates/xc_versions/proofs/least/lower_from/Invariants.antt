@@ -7,9 +7,9 @@ invariant-loop-i l = record {
   from : l.first ≤ l.i;
   step : l.i % 64 ≡ l.first % 64;
   lower : NotAbove l.initial.least.items l.least.items;
-  here : (k : ℕ) → l.first ≤ k → k < l.i → k < length l.pages → k % 64 ≡ l.first % 64
-      → get_or l.least.items (k / 64) 0 ≤ get_or (dues_of l.pages) k 0;
+  here : (k : ℕ) → l.first ≤ k → k < l.i → k < length l.pages.items → k % 64 ≡ l.first % 64
+      → get_or l.least.items (k / 64) 0 ≤ get_or (dues_of l.pages.items) k 0;
 }
 
 abbrev pub decreases-loop-i : goal.decreases-loop-i
-decreases-loop-i l = length l.pages - l.i
+decreases-loop-i l = length l.pages.items - l.i

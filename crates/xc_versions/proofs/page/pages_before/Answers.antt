@@ -10,15 +10,15 @@ use Rattle.xc_versions.proofs.page.pages_before.Goals as goal
 pub loop-low-preserved-then-begins_before : goal.loop-low-preserved-then-begins_before
 loop-low-preserved-then-begins_before c =
     let v = c.args.version.now in
-    let falls = pages-fall (λ x. is_gt (stored_cmp v x)) c.args.pages.now c.requires.pages (above-falls v _ c.requires.ordered) in
-    let seen = rw c.deref.ensures.value at c.if-begins_before.ensures in
-    narrows-front _ _ _ _ c.loop-low.invariant falls _ c.index-pages-middle.result (omega arith)
-    (sym (seen ∙ ap (λ (p : Page). is_first_passed (λ x. is_gt (stored_cmp v x)) p.items.items) c.index-pages-middle.is))
+    let falls = pages-fall (λ x. is_gt (stored_cmp v x)) c.args.pages.now.items c.requires.pages (above-falls v _ c.requires.ordered) in
+    let seen = c.if-begins_before.ensures in
+    narrows-front _ _ _ _ c.loop-low.invariant falls _ c.index-page.result.now (omega arith)
+    (sym (seen ∙ ap (λ (p : Page). is_first_passed (λ x. is_gt (stored_cmp v x)) p.items.items) c.index-page.ensures))
 
 pub loop-low-preserved : goal.loop-low-preserved
 loop-low-preserved c =
     let v = c.args.version.now in
-    let falls = pages-fall (λ x. is_gt (stored_cmp v x)) c.args.pages.now c.requires.pages (above-falls v _ c.requires.ordered) in
-    let seen = rw c.deref.ensures.value at c.if-begins_before.ensures in
-    narrows-back _ _ _ _ c.loop-low.invariant falls _ c.index-pages-middle.result (omega arith) (omega arith)
-    (sym (seen ∙ ap (λ (p : Page). is_first_passed (λ x. is_gt (stored_cmp v x)) p.items.items) c.index-pages-middle.is))
+    let falls = pages-fall (λ x. is_gt (stored_cmp v x)) c.args.pages.now.items c.requires.pages (above-falls v _ c.requires.ordered) in
+    let seen = c.if-begins_before.ensures in
+    narrows-back _ _ _ _ c.loop-low.invariant falls _ c.index-page.result.now (omega arith) (omega arith)
+    (sym (seen ∙ ap (λ (p : Page). is_first_passed (λ x. is_gt (stored_cmp v x)) p.items.items) c.index-page.ensures))

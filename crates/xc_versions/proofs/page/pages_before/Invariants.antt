@@ -6,7 +6,7 @@ use Rattle.xc_versions.proofs.SplitLaws.{Narrows}
 use Rattle.xc_versions.proofs.page.pages_before.Given as goal
 
 abbrev pub invariant-loop-low : goal.invariant-loop-low
-invariant-loop-low l = Narrows (λ p. is_first_passed (λ x. is_gt (stored_cmp l.version x)) p.items.items) l.low l.high l.pages
+invariant-loop-low l = Narrows (λ p. is_first_passed (λ x. is_gt (stored_cmp l.version x)) p.items.items) l.low l.high l.pages.items
 
 abbrev pub decreases-loop-low : goal.decreases-loop-low
 decreases-loop-low l = l.high - l.low

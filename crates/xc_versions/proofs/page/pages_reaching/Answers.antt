@@ -10,15 +10,15 @@ use Rattle.xc_versions.proofs.page.pages_reaching.Goals as goal
 pub loop-low-preserved-then-begins_reaching : goal.loop-low-preserved-then-begins_reaching
 loop-low-preserved-then-begins_reaching c =
     let k = c.args.key.now in
-    let falls = pages-fall (reaches k c.args.t) c.args.pages.now c.requires.pages (reaches-falls k c.args.t _ c.requires.ordered) in
-    let seen = rw c.deref.ensures.value at c.if-begins_reaching.ensures in
-    narrows-front _ _ _ _ c.loop-low.invariant falls _ c.index-pages-middle.result (omega arith)
-    (sym (seen ∙ ap (λ (p : Page). is_first_passed (reaches k c.args.t) p.items.items) c.index-pages-middle.is))
+    let falls = pages-fall (reaches k c.args.t) c.args.pages.now.items c.requires.pages (reaches-falls k c.args.t _ c.requires.ordered) in
+    let seen = c.if-begins_reaching.ensures in
+    narrows-front _ _ _ _ c.loop-low.invariant falls _ c.index-page.result.now (omega arith)
+    (sym (seen ∙ ap (λ (p : Page). is_first_passed (reaches k c.args.t) p.items.items) c.index-page.ensures))
 
 pub loop-low-preserved : goal.loop-low-preserved
 loop-low-preserved c =
     let k = c.args.key.now in
-    let falls = pages-fall (reaches k c.args.t) c.args.pages.now c.requires.pages (reaches-falls k c.args.t _ c.requires.ordered) in
-    let seen = rw c.deref.ensures.value at c.if-begins_reaching.ensures in
-    narrows-back _ _ _ _ c.loop-low.invariant falls _ c.index-pages-middle.result (omega arith) (omega arith)
-    (sym (seen ∙ ap (λ (p : Page). is_first_passed (reaches k c.args.t) p.items.items) c.index-pages-middle.is))
+    let falls = pages-fall (reaches k c.args.t) c.args.pages.now.items c.requires.pages (reaches-falls k c.args.t _ c.requires.ordered) in
+    let seen = c.if-begins_reaching.ensures in
+    narrows-back _ _ _ _ c.loop-low.invariant falls _ c.index-page.result.now (omega arith) (omega arith)
+    (sym (seen ∙ ap (λ (p : Page). is_first_passed (reaches k c.args.t) p.items.items) c.index-page.ensures))

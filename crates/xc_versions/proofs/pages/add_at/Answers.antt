@@ -1,5 +1,5 @@
 use Rattle.std.proofs.Common.{◌≡◌, ◌+◌, ◌≤◌, List, [], ◌∷◌, ◌++◌, length, take, drop, set, ap, sym, ◌∙◌, subst, arith, append-nil}
-use Rattle.std.proofs.Common.{vec_capacity}
+use Rattle.std.proofs.Common.{vec_capacity, deque_capacity}
 use Rattle.std.proofs.lemmas.List.{length-set, length-take-le, length-drop}
 use Rattle.std.proofs.lemmas.Bool.{ltb-true, ltb-false}
 use Rattle.xc_versions.specs.declared.page.Page.{Page}
@@ -9,7 +9,7 @@ use Rattle.xc_versions.proofs.AddLaws.{Grown, in_page, added-at, set-cut, insert
 use Rattle.xc_versions.proofs.AddLaws.{length-set-insert}
 use Rattle.xc_versions.proofs.DueLaws.{grew-one, grew-two}
 use Rattle.xc_versions.proofs.pages.add_at.Goals as goal
-use Rattle.xc_versions.proofs.pages.add_at.Goals.{After-pages-else-is_over-1, After-insert_page}
+use Rattle.xc_versions.proofs.pages.add_at.Goals.{After-pages-else-is_over-1, After-insert_at}
 
 pub put-requires-clause-ordered : goal.put-requires-clause-ordered
 put-requires-clause-ordered c =
@@ -66,7 +66,7 @@ returns-else-is_over-clause-spare c =
     subst (λ (ps : List Page). spare_of old n ≤ spare_of ps n + 1) (sym (set-cut old c.args.i c.put.new.self c.requires.within))
     (spare-one old c.args.i c.index_mut-page.result.now c.put.new.self n c.requires.within c.index_mut-page.ensures.value c.put.ensures.len)
 
-full-page : (c : After-insert_page) → length c.index_mut-page.result.now.items.items ≡ 64
+full-page : (c : After-insert_at) → length c.index_mut-page.result.now.items.items ≡ 64
 full-page c =
     let q = c.index_mut-page.result.now in
     let page = page-at c.args.pages.now.items c.args.i q c.requires.store.paged.pages c.requires.within c.index_mut-page.ensures.value in
@@ -75,13 +75,13 @@ full-page c =
     let long = c.put.ensures.len in
     omega arith
 
-new-pages : (c : After-insert_page)
-    → c.insert_page.new.pages.items ≡ take c.args.i c.args.pages.now.items ++
+new-pages : (c : After-insert_at)
+    → c.insert_at.new.items.items ≡ take c.args.i c.args.pages.now.items ++
     ((c.split-upper.new.self ∷ c.split-upper.result ∷ []) ++ drop (c.args.i + 1) c.args.pages.now.items)
-new-pages c = c.insert_page.ensures.items
+new-pages c = c.insert_at.ensures.items
     ∙ insert-cut c.args.pages.now.items c.args.i c.split-upper.new.self c.split-upper.result c.requires.within
 
-grown-two : (c : After-insert_page) → Grown c.args.version c.args.pages.now.items c.insert_page.new.pages.items
+grown-two : (c : After-insert_at) → Grown c.args.version c.args.pages.now.items c.insert_at.new.items.items
 grown-two c =
     let old = c.args.pages.now.items in
     let q = c.index_mut-page.result.now in
@@ -101,9 +101,9 @@ grown-two c =
 pub returns-then-is_over-clause-store : goal.returns-then-is_over-clause-store
 returns-then-is_over-clause-store c =
     let long = length-set-insert c.args.pages.now.items c.args.i c.split-upper.new.self c.split-upper.result c.requires.within in
-    let count : length c.insert_page.new.pages.items ≡ length c.args.pages.now.items + 1 = ap length c.insert_page.ensures.items ∙ long in
+    let count : length c.insert_at.new.items.items ≡ length c.args.pages.now.items + 1 = ap length c.insert_at.ensures.items ∙ long in
     let taken : length c.take_empty.new.pool.items + 1 ≡ length c.args.pool.now.items = c.take_empty.ensures.len in
-    let pages_capacity : vec_capacity c.insert_page.new.pages ≡ vec_capacity c.args.pages.now = c.insert_page.ensures.capacity in
+    let pages_capacity : deque_capacity c.args.pages.now ≤ deque_capacity c.insert_at.new.items = c.insert_at.ensures.capacity in
     let pool_capacity : vec_capacity c.take_empty.new.pool ≡ vec_capacity c.args.pool.now = c.take_empty.ensures.capacity in
     let pages_room = c.requires.store.room.pages_room in
     let pool_room = c.requires.store.room.pool_room in
@@ -136,7 +136,7 @@ returns-then-is_over-clause-spare c =
 
 pub returns-then-is_over-clause-dues : goal.returns-then-is_over-clause-dues
 returns-then-is_over-clause-dues c =
-    grew-two c.args.pages.now.items c.insert_page.new.pages.items c.args.i c.args.version.commit c.index_mut-page.result.now
+    grew-two c.args.pages.now.items c.insert_at.new.items.items c.args.i c.args.version.commit c.index_mut-page.result.now
     c.split-upper.new.self c.split-upper.result c.requires.within c.index_mut-page.ensures.value
     (c.split-upper.ensures.lower_due ∙ c.put.ensures.due) (c.split-upper.ensures.upper_due ∙ c.put.ensures.due) (new-pages c)
 

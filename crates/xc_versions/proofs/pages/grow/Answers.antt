@@ -3,6 +3,7 @@ use Rattle.std.proofs.lemmas.Result.{on_ok_weaker}
 use Rattle.xc_versions.specs.declared.page.Page.{Page}
 use Rattle.xc_versions.specs.Pages.{spare_of}
 use Rattle.xc_versions.proofs.AddLaws.{spare-enough, vec-long}
+use Rattle.xc_versions.proofs.SplitLaws.{deque-long}
 use Rattle.xc_versions.proofs.pages.grow.Goals as goal
 
 pub returns-clause-room : goal.returns-clause-room
@@ -14,12 +15,12 @@ returns-clause-room c =
     (λ e.
     let had : length c.reserve-2.new.self.items ≡ length c.args.pool.now.items = ap length c.in_ok-reserve-2.ensures.items in
     let all : m ≡ length c.reserve-2.new.self.items + c.saturating_sub-more.result = e in
-    let count : c.len.result ≡ length ps = c.len.ensures ∙ vec-long c.args.pages.now in
+    let count : c.len.result ≡ length ps = c.len.ensures ∙ deque-long c.args.pages.now in
     let most : c.pages_for-most.result ≡ min n (length ps + (n / 32 + 1)) =
     c.pages_for-most.ensures ∙ ap (λ k. min n (k + (n / 32 + 1))) count in
     let held : c.len-2.result ≡ length c.args.pool.now.items = c.len-2.ensures ∙ vec-long c.args.pool.now in
     let less : c.saturating_sub-more.result ≡ c.pages_for-most.result - length c.args.pool.now.items =
     c.saturating_sub-more.ensures ∙ ap (λ k. c.pages_for-most.result - k) held in
-    subst (λ (qs : List Page). n ≤ spare_of qs m) (sym c.in_ok-reserve.ensures.items)
+    subst (λ (qs : List Page). n ≤ spare_of qs m) (sym c.reserve.ensures.items)
     (spare-enough ps n m c.requires.paged.pages (omega arith)))
     c.add_empty.ensures.all

@@ -3,5 +3,5 @@ use Rattle.xc_versions.specs.Pages.{items_of}
 use Rattle.xc_versions.proofs.RowsSeenLaws.{Left}
 use Rattle.xc_versions.proofs.pages.put_pages.Given as goal
 
-abbrev pub invariant-loop-page : goal.invariant-loop-page
-invariant-loop-page l = Left l.t l.initial.rows.items l.rows.items (items_of l.pages) (items_of (drop l.page-index l.pages))
+abbrev pub invariant-loop-i : goal.invariant-loop-i
+invariant-loop-i l = Left l.t l.initial.rows.items l.rows.items (items_of l.pages.items) (items_of (drop l.i l.pages.items))

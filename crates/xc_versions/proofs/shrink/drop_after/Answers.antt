@@ -2,7 +2,7 @@ use Rattle.std.proofs.Common.{◌≡◌, ℕ, ◌+◌, ◌-◌, ◌≤◌, ◌++
 use Rattle.std.proofs.lemmas.List.{length-map}
 use Rattle.xc_versions.specs.declared.page.Page.{Page}
 use Rattle.xc_versions.specs.Dues.{dues_of}
-use Rattle.xc_versions.proofs.AddLaws.{vec-long}
+use Rattle.xc_versions.proofs.SplitLaws.{deque-long}
 use Rattle.std.specs.Prelude.{nat_le}
 use Rattle.std.proofs.lemmas.List.Elements.{filter-append}
 use Rattle.xc_versions.specs.Stored.{up_to}
@@ -22,9 +22,9 @@ loop-i-preserved c =
     let before = subst (λ (k : ℕ). Walked (up_to t) old c.loop-i.pages.items k) same c.loop-i.invariant.walked in
     record {
       store = c.drop_at.ensures.store;
-      least = (let s = rw c.deref.ensures.value at c.settle.ensures in
+      least = (let s = c.settle.ensures in
           let mid = c.loop-i.pages.items in
-          let count : c.len-count.result ≡ length mid = c.len-count.ensures ∙ vec-long c.loop-i.pages in
+          let count : c.len-count.result ≡ length mid = c.len-count.ensures ∙ deque-long c.loop-i.pages in
           let long : length (dues_of mid) ≡ c.len-count.result = length-map mid (λ (p : Page). p.due) ∙ sym count in
           let short = c.loop-i.invariant.walked.short in
           s (dues_of mid) long (omega arith) c.drop_at.ensures.dues c.loop-i.invariant.least);

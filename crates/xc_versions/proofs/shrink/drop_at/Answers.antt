@@ -1,5 +1,5 @@
 use Rattle.std.proofs.Common.{◌≡◌, ◌+◌, ◌<◌, ◌≤◌, List, [], ◌∷◌, ◌++◌, length, take, drop, ap, sym, ◌∙◌, subst, arith, append-nil}
-use Rattle.std.proofs.Common.{vec_capacity}
+use Rattle.std.proofs.Common.{vec_capacity, deque_capacity}
 use Rattle.std.specs.Prelude.{nat_le}
 use Rattle.std.proofs.lemmas.Grind.{common_steps}
 use Rattle.std.proofs.lemmas.List.{length-set, nil_from_length, get_or_default}
@@ -39,7 +39,7 @@ returns-then-is_empty-clause-store c =
     let long = length-removed old i c.requires.within in
     let count : length c.free.new.pages.items ≡ length (take i old ++ drop (i + 1) old) = ap length (new-pages c) in
     let more : length c.free.new.pool.items ≡ length c.args.pool.now.items + 1 = c.free.ensures.len in
-    let pages_capacity : vec_capacity c.free.new.pages ≡ vec_capacity c.args.pages.now = c.free.ensures.pages_capacity in
+    let pages_capacity : deque_capacity c.free.new.pages ≡ deque_capacity c.args.pages.now = c.free.ensures.pages_capacity in
     let pool_capacity : vec_capacity c.free.new.pool ≡ vec_capacity c.args.pool.now = c.free.ensures.pool_capacity in
     let pages_room = c.requires.store.room.pages_room in
     let pool_room = c.requires.store.room.pool_room in
@@ -86,8 +86,8 @@ returns-else-is_empty-clause-store c =
     let few = page.few in
     let shorter : length r.items.items ≤ length q.items.items =
     rw c.drop_later.ensures.items (length-kept (λ x. nat_le x.commit c.args.t) q.items.items) in
-    let room : 65 ≤ vec_capacity r.items =
-    let cap : vec_capacity r.items ≡ vec_capacity q.items = c.drop_later.ensures.capacity in let was = page.room in omega arith in
+    let room : 65 ≤ deque_capacity r.items =
+    let cap : deque_capacity r.items ≡ deque_capacity q.items = c.drop_later.ensures.capacity in let was = page.room in omega arith in
     let is_page : IsPage r = record { some = some; few = omega arith; room = room } in
     let paged : IsPaged (take i old ++ ((r ∷ []) ++ drop (i + 1) old)) [] =
     shrunk-at old i q (r ∷ []) c.requires.store.paged c.requires.within c.index_mut-page.ensures.value sub (is_page, tt)

@@ -1,5 +1,5 @@
 use Rattle.std.proofs.Common.{◌≡◌, ◌+◌, ◌<◌, ◌≤◌, List, [], ◌∷◌, ◌++◌, length, take, drop, ap, sym, ◌∙◌, subst, arith, append-nil}
-use Rattle.std.proofs.Common.{vec_capacity}
+use Rattle.std.proofs.Common.{vec_capacity, deque_capacity}
 use Rattle.std.proofs.lemmas.Grind.{common_steps}
 use Rattle.std.proofs.lemmas.Bool.{ltb-true}
 use Rattle.std.proofs.lemmas.List.{length-set, nil_from_length, get_or_default}
@@ -21,7 +21,7 @@ returns-then-is_idle-clause-tail c q e =
     let old = c.args.pages.now.items in
     let rest = items_of (drop (c.args.i + 1) old) in
     let paged = c.requires.store.paged in
-    let early = ltb-true c.args.cutoff q.due (sym (c.if-is_idle.ensures q (rw c.deref.ensures.value e))) in
+    let early = ltb-true c.args.cutoff q.due (sym (c.if-is_idle.ensures q e)) in
     items-from old c.args.i q c.requires.within e
     ∙ sym (pruned-idle c.args.cutoff q.items.items rest (order-at old c.args.i q paged c.requires.within e)
     (idle-at old c.args.i q paged c.requires.within e c.args.cutoff early))
@@ -38,7 +38,7 @@ returns-then-is_empty-clause-store c =
     let rest = items_of (drop (i + 1) old) in
     let empty : length r.items.items ≡ 0 = grind (arith, common_steps) in
     let none : r.items.items ≡ [] = nil_from_length r.items.items empty in
-    let all_left = c.prune.ensures.items rest (sym (rw c.deref-2.ensures.value at c.first_from-next.ensures)) in
+    let all_left = c.prune.ensures.items rest (sym (c.first_from-next.ensures)) in
     let gone : pruned_before c.args.cutoff q.items.items rest ≡ rest = sym all_left ∙ ap (λ w. w ++ rest) none in
     let sub : Sub rest (q.items.items ++ rest) =
     subst (λ (w : List StoredVersion). Sub w (q.items.items ++ rest)) gone (sub-pruned c.args.cutoff q.items.items rest) in
@@ -47,7 +47,7 @@ returns-then-is_empty-clause-store c =
     let long = length-removed old i c.requires.within in
     let count : length c.free.new.pages.items ≡ length (take i old ++ drop (i + 1) old) = ap length (new-pages c) in
     let more : length c.free.new.pool.items ≡ length c.args.pool.now.items + 1 = c.free.ensures.len in
-    let pages_capacity : vec_capacity c.free.new.pages ≡ vec_capacity c.args.pages.now = c.free.ensures.pages_capacity in
+    let pages_capacity : deque_capacity c.free.new.pages ≡ deque_capacity c.args.pages.now = c.free.ensures.pages_capacity in
     let pool_capacity : vec_capacity c.free.new.pool ≡ vec_capacity c.args.pool.now = c.free.ensures.pool_capacity in
     let pages_room = c.requires.store.room.pages_room in
     let pool_room = c.requires.store.room.pool_room in
@@ -68,7 +68,7 @@ returns-then-is_empty-clause-tail c p e =
     let empty : length r.items.items ≡ 0 = grind (arith, common_steps) in
     let none : r.items.items ≡ [] = nil_from_length r.items.items empty in
     let same : p ≡ q = e ∙ get_or_default old i p q c.requires.within ∙ sym c.index_mut-page.ensures.value in
-    let all_left = c.prune.ensures.items rest (sym (rw c.deref-2.ensures.value at c.first_from-next.ensures)) in
+    let all_left = c.prune.ensures.items rest (sym (c.first_from-next.ensures)) in
     ap (λ ps. items_of (drop i ps)) (new-pages c) ∙ ap items_of (behind-removed old i c.requires.within)
     ∙ sym (ap (λ w. w ++ rest) none) ∙ all_left ∙ ap (λ (x : Page). pruned_before c.args.cutoff x.items.items rest) (sym same)
 
@@ -87,7 +87,7 @@ returns-else-is_empty-clause-store c =
     let q = c.index_mut-page.result.now in
     let r = c.prune.new.self in
     let rest = items_of (drop (i + 1) old) in
-    let head = sym (rw c.deref-2.ensures.value at c.first_from-next.ensures) in
+    let head = sym (c.first_from-next.ensures) in
     let all_left = c.prune.ensures.items rest head in
     let flat : items_of (r ∷ []) ++ rest ≡ r.items.items ++ rest = ap (λ w. w ++ rest) (append-nil r.items.items) in
     let sub : Sub (items_of (r ∷ []) ++ rest) (q.items.items ++ rest) =
@@ -97,8 +97,8 @@ returns-else-is_empty-clause-store c =
     let some : 0 < length r.items.items = grind (arith, common_steps) in
     let few = page.few in
     let shorter : length r.items.items ≤ length q.items.items = c.prune.ensures.len in
-    let room : 65 ≤ vec_capacity r.items =
-    let cap : vec_capacity r.items ≡ vec_capacity q.items = c.prune.ensures.capacity in let was = page.room in omega arith in
+    let room : 65 ≤ deque_capacity r.items =
+    let cap : deque_capacity r.items ≡ deque_capacity q.items = c.prune.ensures.capacity in let was = page.room in omega arith in
     let is_page : IsPage r = record { some = some; few = omega arith; room = room } in
     let paged : IsPaged (take i old ++ ((r ∷ []) ++ drop (i + 1) old)) [] =
     shrunk-at old i q (r ∷ []) c.requires.store.paged c.requires.within c.index_mut-page.ensures.value sub (is_page, tt)

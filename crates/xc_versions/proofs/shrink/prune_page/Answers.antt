@@ -2,15 +2,15 @@ use Rattle.std.proofs.Common.{◌≡◌, ◌∙◌, sym, length, arith}
 use Rattle.std.proofs.lemmas.List.{length-map}
 use Rattle.xc_versions.specs.declared.page.Page.{Page}
 use Rattle.xc_versions.specs.Dues.{dues_of}
-use Rattle.xc_versions.proofs.AddLaws.{vec-long}
+use Rattle.xc_versions.proofs.SplitLaws.{deque-long}
 use Rattle.xc_versions.proofs.shrink.prune_page.Goals as goal
 
 pub returns-clause-least : goal.returns-clause-least
 returns-clause-least c =
     let old = c.args.pages.now.items in
-    let count : c.len-count.result ≡ length old = c.len-count.ensures ∙ vec-long c.args.pages.now in
+    let count : c.len-count.result ≡ length old = c.len-count.ensures ∙ deque-long c.args.pages.now in
     let long : length (dues_of old) ≡ c.len-count.result = length-map old (λ (p : Page). p.due) ∙ sym count in
     let within = c.requires.within in
-    let s = rw c.deref.ensures.value at c.settle.ensures in
-    let r = rw c.deref-2.ensures.value at c.raise_at.ensures in
+    let s = c.settle.ensures in
+    let r = c.raise_at.ensures in
     r (s (dues_of old) long (omega arith) c.prune_at.ensures.dues c.requires.least)

@@ -6,12 +6,12 @@ use Rattle.xc_versions.proofs.stored.place_of.Goals as goal
 
 pub loop-low-preserved-then-is_after : goal.loop-low-preserved-then-is_after
 loop-low-preserved-then-is_after c =
-    narrows-front _ _ _ _ c.loop-low.invariant (above-falls c.args.version.now c.args.items.now c.requires) _ c.index-items-middle.result
+    narrows-front _ _ _ _ c.loop-low.invariant (above-falls c.args.version.now c.args.items.now.items c.requires) _ c.index.result.now
     (omega arith)
-    (sym (c.if-is_after.ensures ∙ ap (λ y. is_gt (stored_cmp c.args.version.now y)) c.index-items-middle.is))
+    (sym (c.if-is_after.ensures ∙ ap (λ y. is_gt (stored_cmp c.args.version.now y)) c.index.ensures))
 
 pub loop-low-preserved : goal.loop-low-preserved
 loop-low-preserved c =
-    narrows-back _ _ _ _ c.loop-low.invariant (above-falls c.args.version.now c.args.items.now c.requires) _ c.index-items-middle.result
+    narrows-back _ _ _ _ c.loop-low.invariant (above-falls c.args.version.now c.args.items.now.items c.requires) _ c.index.result.now
     (omega arith) (omega arith)
-    (sym (c.if-is_after.ensures ∙ ap (λ y. is_gt (stored_cmp c.args.version.now y)) c.index-items-middle.is))
+    (sym (c.if-is_after.ensures ∙ ap (λ y. is_gt (stored_cmp c.args.version.now y)) c.index.ensures))

@@ -5,7 +5,7 @@ use Rattle.xc_versions.proofs.SplitLaws.{Narrows}
 use Rattle.xc_versions.proofs.stored.place_of.Given as goal
 
 abbrev pub invariant-loop-low : goal.invariant-loop-low
-invariant-loop-low l = Narrows (λ x. is_gt (stored_cmp l.version x)) l.low l.high l.items
+invariant-loop-low l = Narrows (λ x. is_gt (stored_cmp l.version x)) l.low l.high l.items.items
 
 abbrev pub decreases-loop-low : goal.decreases-loop-low
 decreases-loop-low l = l.high - l.low

@@ -4,7 +4,7 @@ use Rattle.xc_versions.proofs.SplitLaws.{Narrows}
 use Rattle.xc_versions.proofs.stored.reached.Given as goal
 
 abbrev pub invariant-loop-low : goal.invariant-loop-low
-invariant-loop-low l = Narrows (reaches l.key l.t) l.low l.high l.items
+invariant-loop-low l = Narrows (reaches l.key l.t) l.low l.high l.items.items
 
 abbrev pub decreases-loop-low : goal.decreases-loop-low
 decreases-loop-low l = l.high - l.low

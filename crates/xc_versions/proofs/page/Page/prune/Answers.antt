@@ -13,10 +13,10 @@ loop-i-preserved-then-commit-cutoff c =
     let before = subst (λ (k : ℕ). Going c.args.cutoff c.args.next old items c.loop-i.behind c.loop-i.due k) same c.loop-i.invariant.going
     in
     record {
-      going = rw c.remove.ensures.items
+      going = rw c.remove_at.ensures.items
           (going-removed c.args.cutoff c.args.next old items c.loop-i.behind c.loop-i.due (c.loop-i.i - 1) x before c.index.ensures
           (ap (is_due c.args.cutoff) (sym c.in-Some.ensures) ∙ le-leb c.in-Some.commit c.args.cutoff c.if-commit-cutoff.true));
-      capacity = c.remove.ensures.capacity ∙ c.loop-i.invariant.capacity;
+      capacity = c.remove_at.ensures.capacity ∙ c.loop-i.invariant.capacity;
     }
 
 pub loop-i-preserved-in-Some-2 : goal.loop-i-preserved-in-Some-2

@@ -1,6 +1,21 @@
-use Rattle.std.proofs.Common.{ap, ◌∙◌, drop}
-use Rattle.std.proofs.lemmas.List.{take_rest}
+use Rattle.std.proofs.Common.{◌≡◌, length, ap, ◌∙◌, arith}
+use Rattle.std.proofs.lemmas.List.{length-take-le, length-drop}
 use Rattle.xc_versions.proofs.page.Page.split.Goals as goal
 
-pub returns-clause-upper : goal.returns-clause-upper
-returns-clause-upper c = c.copy.ensures.items ∙ take_rest c.deref.result.now 32 ∙ ap (drop 32) c.deref.ensures.value
+pub returns-clause-lower_page : goal.returns-clause-lower_page
+returns-clause-lower_page c =
+    let full = c.requires.full in
+    let long : length c.move_behind.new.items.items ≡ 32 =
+    ap length c.move_behind.ensures.lower ∙ length-take-le 32 c.args.self.now.items.items (omega arith) in
+    let room = c.requires.room in
+    let same = c.move_behind.ensures.lower_capacity in
+    record { some = omega arith; few = omega arith; room = omega arith }
+
+pub returns-clause-upper_page : goal.returns-clause-upper_page
+returns-clause-upper_page c =
+    let full = c.requires.full in
+    let long : length c.move_behind.new.upper.items ≡ 33 =
+    ap length c.move_behind.ensures.upper ∙ length-drop 32 c.args.self.now.items.items ∙ omega arith in
+    let room = c.requires.empty.room in
+    let same = c.move_behind.ensures.upper_capacity in
+    record { some = omega arith; few = omega arith; room = omega arith }

@@ -10,7 +10,7 @@ returns-then-eq-clause-value c =
     let k = c.args.key.now in
     let x = c.in-Some.version.now in
     let xs = items_of c.self.inside.pages.items in
-    let last = rw c.deref.ensures.value at c.in-Some.ensures in
+    let last = c.in-Some.ensures in
     c.as_ref.ensures.value ∙ ap (λ b. cond b x.value None) c.if-eq.ensures ∙ ap (value_at k) last
     ∙ sym (ap (λ s. shown c.args.t (stored_at k s.items)) (sym c.self.view_is)
     ∙ shown-reaching k c.args.t xs c.self.invariant.store.paged.ordered)
@@ -20,7 +20,7 @@ returns-else-eq-clause-value c =
     let k = c.args.key.now in
     let x = c.in-Some.version.now in
     let xs = items_of c.self.inside.pages.items in
-    let last = rw c.deref.ensures.value at c.in-Some.ensures in
+    let last = c.in-Some.ensures in
     ap (λ b. cond b x.value None) c.if-eq.ensures ∙ ap (value_at k) last
     ∙ sym (ap (λ s. shown c.args.t (stored_at k s.items)) (sym c.self.view_is)
     ∙ shown-reaching k c.args.t xs c.self.invariant.store.paged.ordered)
@@ -29,7 +29,7 @@ pub returns-in-None-clause-value : goal.returns-in-None-clause-value
 returns-in-None-clause-value c =
     let k = c.args.key.now in
     let xs = items_of c.self.inside.pages.items in
-    let last = rw c.deref.ensures.value at c.in-None.ensures in
+    let last = c.in-None.ensures in
     ap (value_at k) last
     ∙ sym (ap (λ s. shown c.args.t (stored_at k s.items)) (sym c.self.view_is)
     ∙ shown-reaching k c.args.t xs c.self.invariant.store.paged.ordered)

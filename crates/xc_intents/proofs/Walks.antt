@@ -1,18 +1,20 @@
 -- What a walk finds, and what the slots hold.
 use Rattle.std.proofs.Common.{◌≡◌, ◌≢◌, ℕ, zero, suc, ◌<◌, ◌≤◌, ◌^◌, Bool, true, false, cond, List, [], ◌∷◌, ◌++◌, length, set, map, filter}
 use Rattle.std.proofs.Common.{Option, Some, None, refl, sym, ◌∙◌, ap, subst, arith, ◌==◌, ◌&&◌, ⊎_elim}
-use Rattle.std.specs.List.{find}
+use Rattle.std.specs.List.{find, slice_get}
+use Rattle.std.specs.Option.{option_map}
 use Rattle.std.specs.Prelude.{nat_le, if◌then◌else◌}
 use Rattle.std.proofs.lemmas.Bool.{cases_eq, and_parts}
 use Rattle.std.proofs.lemmas.List.{length-set, get_or-map, map-append, get_or_append_left, get_or_at, length_push}
 use Rattle.std.proofs.lemmas.List.Elements.{filter-append}
+use Rattle.std.proofs.lemmas.Option.{slice_get-get_or, slice_get_past}
 use Rattle.xc_record.specs.Hash.{hash_of}
 use Rattle.xc_record.specs.Kept.{KeyWaiting}
-use Rattle.xc_intents.specs.HeldOps.{in_range, is_part, without_first}
+use Rattle.xc_intents.specs.HeldOps.{Sought, in_range, is_part, is_sought, without_first}
 use Rattle.xc_intents.specs.declared.slots.Slot.{Slot}
 use Rattle.xc_intents.specs.declared.slots.Chain.{Chain}
 use Rattle.xc_intents.specs.Slots.{at, chain_at, blank, bare, is_live, slot_op, held_in, mine, in_walk, PassedTo, ChainFits, HasChain}
-use Rattle.xc_intents.specs.Slots.{NoChain, Linked, begun, walk_of, IsFirst, IsFound, IsChained, dead}
+use Rattle.xc_intents.specs.Slots.{NoChain, Linked, SameWalk, begun, walk_of, IsFirst, IsFound, IsChained, dead, no_chain, sought_by}
 use Rattle.xc_intents.proofs.Chains.{Linked-fewer, Linked-chain, length-bare, false-and, Linked-dies, at-field}
 use Rattle.xc_intents.proofs.Links.{not-mine}
 use Rattle.std.proofs.lemmas.Bool.Decides.{nat_tests}
@@ -126,6 +128,21 @@ found-none xs cs t lo hi l none = λ k b.
     let h : HasChain cs (at xs k).txn = l.has k b in
     false-and (mine t (at xs k)) (in_range lo hi (at xs k).hash) (not-mine t (at xs k) (λ same. none h.0 h.1 (h.2 ∙ sym same)))
 
+-- ---- what a chain's walk finds
+
+same-sought : (c d : Chain) (s : Slot) → SameWalk c d → in_walk d s ≡ in_walk (walk_of c.txn c.lo c.hi) s
+same-sought c d s w =
+    ap (λ t. mine t s && in_range d.lo d.hi s.hash) w.txn ∙ ap (λ lo. mine c.txn s && in_range lo d.hi s.hash) w.lo
+    ∙ ap (λ hi. mine c.txn s && in_range c.lo hi s.hash) w.hi
+
+pub found-as : (xs : List Slot) (c d : Chain) (o : Option ℕ) → SameWalk c d → IsFound xs d o → IsFound xs (walk_of c.txn c.lo c.hi) o
+found-as xs c d None w f = λ k b. sym (same-sought c d (at xs k) w) ∙ f k b
+found-as xs c d (Some i) w f = record {
+  below = f.below;
+  found = sym (same-sought c d (at xs i) w) ∙ f.found;
+  none = λ k b. sym (same-sought c d (at xs k) w) ∙ f.none k b;
+}
+
 -- ---- what is held
 
 held-cons : (x : Slot) (xs : List Slot) → held_in (x ∷ xs) ≡ cond x.live (slot_op x ∷ held_in xs) (held_in xs)
@@ -238,3 +255,22 @@ chained-dies ys cs i b c =
       small = omega (arith, c.small);
       few = c.few;
     }
+
+-- ---- what a walk looks for
+
+pub sought-at : (cs : List Chain) (e : ℕ) → e < length cs → option_map sought_by (slice_get cs e) ≡ Some (sought_by (chain_at cs e))
+sought-at cs e b = ap (option_map sought_by) (slice_get-get_or cs e (no_chain 0) b)
+
+pub sought-past : (cs : List Chain) (e : ℕ) → length cs ≤ e → option_map sought_by (slice_get cs e) ≡ None
+sought-past cs e b = ap (option_map sought_by) (slice_get_past cs e b)
+
+pub sought-same : (c d : Chain) → SameWalk c d → sought_by d ≡ sought_by c
+sought-same c d w =
+    ap (λ t. sought t d.lo d.hi) w.txn ∙ ap (λ lo. sought c.txn lo d.hi) w.lo ∙ ap (λ hi. sought c.txn c.lo hi) w.hi
+  where
+    sought : ℕ → ℕ → ℕ → Sought
+    sought t lo hi = record { txn = t; lo = lo; hi = hi }
+
+pub nothing-sought : (hs : List KeyWaiting) → find (is_sought None) hs ≡ None
+nothing-sought [] = refl
+nothing-sought (h ∷ hs) = nothing-sought hs

@@ -6,6 +6,7 @@
 --     Leads cs t m rest cur e      in the tree of the chains m steps lead from cur to e, for t of which `rest` is left
 --     IsTree cs n      the first n chains are in the tree, each where its transaction leads
 --     Linked xs cs n      so are all links and chains, and each of these slots has a chain
+--     sought_by c      what the walk of the chain c looks for
 --     IsChained xs cs      all slots are linked, and know their keys' hashes
 use Rattle.std.specs.Prelude.{◌≡◌, ◌≢◌, ℕ, zero, suc, ◌+◌, ◌-◌, ◌≤◌, ◌<◌, ◌^◌, ◌*◌, ◌%◌, min, Bool, true, false, ◌&&◌, ◌==◌, List, []}
 use Rattle.std.specs.Prelude.{Option, Some, None}
@@ -14,7 +15,7 @@ use Rattle.std.specs.Option.{option_map_or}
 use Rattle.xc_record.specs.Hash.{hash_of}
 use Rattle.xc_record.specs.Kept.{KeyWaiting}
 use Rattle.xc_record.specs.declared.record.Op.{Op}
-use Rattle.xc_intents.specs.HeldOps.{held_op, in_range}
+use Rattle.xc_intents.specs.HeldOps.{Sought, held_op, in_range}
 use Rattle.xc_intents.specs.declared.slots.Slot.{Slot}
 use Rattle.xc_intents.specs.declared.slots.Chain.{Chain}
 
@@ -227,3 +228,6 @@ IsFound xs c (Some i) = IsFirst xs c i
 -- a chain of which a walk looks for hashes of the transaction in this range
 abbrev pub walk_of : ℕ → ℕ → ℕ → Chain
 walk_of t lo hi = record (no_chain t) { lo = lo; hi = hi }
+
+abbrev pub sought_by : Chain → Sought
+sought_by c = record { txn = c.txn; lo = c.lo; hi = c.hi }

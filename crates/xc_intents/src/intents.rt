@@ -1,12 +1,12 @@
 // Operations that wait for their transactions. Memory is taken by `reserve` alone: slots that were gone through stay
 // until a quarter of them is dead, and are gathered then where there is no room.
-ghost use Rattle.std.specs.Prelude.{◌≡◌, ◌≤◌, ◌+◌, ◌++◌, ◌∷◌, [], length, filter, OnOk};
+ghost use Rattle.std.specs.Prelude.{◌≡◌, ◌≤◌, ◌+◌, ◌++◌, ◌∷◌, [], length, filter, OnOk, None, Some, true, false};
 ghost use Rattle.std.specs.List.{find};
 ghost use Rattle.std.specs.Option.{option_map};
-ghost use Rattle.xc_intents.specs.HeldOps.{held_op, is_part, is_rest, without_first, given};
+ghost use Rattle.xc_intents.specs.HeldOps.{held_op, is_part, is_rest, is_sought, without_first, given};
 
 use crate::held::Held;
-use crate::slots::{Chain, Slot, append, gather, take};
+use crate::slots::{Chain, Slot, append, gather, take_next, walk};
 use std::alloc::{AllocError, Global};
 use std::marker::Model;
 use xc_record::Op;
@@ -15,14 +15,14 @@ use xc_record::Op;
 const MOST_SLOTS: usize = 1 << 32;
 
 /// The operations that wait, in the order in which they were held. Contracts see them as that list, beside for how many
-/// more there is room.
+/// more there is room, and what a walk looks for.
 #[derive(Drop, Debug)]
 pub struct Intents {
     slots: Vec<Slot>,
     chains: Vec<Chain>,
     // how many slots are dead
     dead: usize,
-    // the chain that was asked for last, which is tried first
+    // the chain that was asked for last, which is tried first, and whose walk `take_next` goes on
     recent: usize,
 }
 
@@ -32,11 +32,14 @@ impl Model for Intents {
     ghost Value = { HeldOps };
 
     ghost use Rattle.std.specs.Vec.{vec_len, vec_capacity};
-    ghost use Rattle.xc_intents.specs.Slots.{held_in, room_in, AreSlots};
+    ghost use Rattle.std.specs.Prelude.{slice_get};
+    ghost use Rattle.std.specs.Option.{option_map};
+    ghost use Rattle.xc_intents.specs.Slots.{held_in, room_in, sought_by, AreSlots};
 
     ghost view = { λ i. record {
       held = held_in i.slots.items;
       spare = room_in (vec_capacity i.slots) (vec_len i.slots) (vec_capacity i.chains) (vec_len i.chains);
+      sought = option_map sought_by (slice_get i.chains.items i.recent);
     } };
 
     ghost invariant = { λ i. AreSlots i.slots.items i.chains.items i.dead };
@@ -107,23 +110,37 @@ impl Intents {
         );
     }
 
-    /// Takes out the first operation of the transaction whose key's hash is from `lo` to `hi`: None exactly where there
-    /// is none. It finds the transaction by the bits of its number, unless the last call was for it too, and goes
-    /// through its operations from where the last call for it and a range that holds this one stood. So calls until
-    /// None are one walk, which passes over each of them once, those out of the range too.
-    pub fn take_first(&mut self, txn: u32, lo: u16, hi: u16) -> Option<Held>
-        ensures taken { result ≡ option_map given (find (is_part txn lo hi) self.old.held) }
-        ensures left { self.new.held ≡ without_first (is_part txn lo hi) self.old.held }
+    /// Begins a walk through the operations of the transaction whose keys' hashes are from `lo` to `hi`, which
+    /// `take_next` takes out one after another. False where it has none, and then no walk is begun. The transaction is
+    /// found by the bits of its number, unless the last call was for it too.
+    pub fn begin(&mut self, txn: u32, lo: u16, hi: u16) -> bool
+        ensures sought { result ≡ true → self.new.sought ≡ Some (record { txn = txn; lo = lo; hi = hi }) }
+        ensures none { result ≡ false → find (is_part txn lo hi) self.old.held ≡ None }
+        ensures same { self.new.held ≡ self.old.held }
+        ensures room { self.new.spare ≡ self.old.spare }
+    {
+        match walk(&mut self.chains, self.recent, txn, lo, hi) {
+            None => false,
+            Some(e) => {
+                self.recent = e;
+                true
+            }
+        }
+    }
+
+    /// Takes out the next operation of the walk: None exactly where none is left that it looks for. A walk passes once
+    /// over each of the transaction's operations, those out of the range too, and one for a range that the last walk's
+    /// holds goes on where that stood. Other calls than this one may end a walk.
+    pub fn take_next(&mut self) -> Option<Held>
+        ensures taken { result ≡ option_map given (find (is_sought self.old.sought) self.old.held) }
+        ensures left { self.new.held ≡ without_first (is_sought self.old.sought) self.old.held }
+        ensures sought { self.new.sought ≡ self.old.sought }
         ensures room { self.old.spare ≤ self.new.spare }
     {
-        match take(
-            &mut self.slots,
-            &mut self.chains,
-            &mut self.recent,
-            txn,
-            lo,
-            hi,
-        ) {
+        if self.recent >= self.chains.len() {
+            return None;
+        }
+        match take_next(&mut self.slots, &mut self.chains, self.recent) {
             None => None,
             Some(held) => {
                 self.dead += 1;
@@ -132,12 +149,29 @@ impl Intents {
         }
     }
 
-    /// Takes out all operations of the transaction whose keys' hashes are from `lo` to `hi`.
+    /// Takes out the first operation of the transaction whose key's hash is from `lo` to `hi`: None exactly where there
+    /// is none. It is the first step of a walk.
+    pub fn take_first(&mut self, txn: u32, lo: u16, hi: u16) -> Option<Held>
+        ensures taken { result ≡ option_map given (find (is_part txn lo hi) self.old.held) }
+        ensures left { self.new.held ≡ without_first (is_part txn lo hi) self.old.held }
+        ensures room { self.old.spare ≤ self.new.spare }
+    {
+        if self.begin(txn, lo, hi) {
+            self.take_next()
+        } else {
+            None
+        }
+    }
+
+    /// Takes out all operations of the transaction whose keys' hashes are from `lo` to `hi`, in one walk.
     pub fn forget(&mut self, txn: u32, lo: u16, hi: u16)
         ensures left { self.new.held ≡ filter (is_rest txn lo hi) self.old.held }
         ensures room { self.old.spare ≤ self.new.spare }
     {
-        while self.take_first(txn, lo, hi).is_some() {}
+        if !self.begin(txn, lo, hi) {
+            return;
+        }
+        while self.take_next().is_some() {}
     }
 
     /// Takes out all operations.

@@ -9,7 +9,7 @@ ghost use Rattle.xc_record.specs.Hash.{hash_of};
 ghost use Rattle.std.specs.List.{find};
 ghost use Rattle.std.specs.Option.{option_map};
 ghost use Rattle.xc_intents.specs.HeldOps.{in_range, is_part, without_first, given};
-ghost use Rattle.xc_intents.specs.Slots.{Linked, IsTree, HasChain, chain_at, at, in_walk, mine};
+ghost use Rattle.xc_intents.specs.Slots.{Linked, IsTree, HasChain, NoChain, SameWalk, chain_at, at, in_walk, mine};
 ghost use Rattle.xc_intents.specs.Slots.{held_in, next_of, chain_to, slots_to, begun, Moves, IsFound, bare};
 ghost use Rattle.xc_intents.specs.Slots.{chain_and, slots_and, walk_of, IsChained, fresh, dead, slot_op, is_live, cut};
 
@@ -33,14 +33,15 @@ pub(crate) struct Slot {
 #[derive(Drop, Debug, Clone, Copy)]
 pub(crate) struct Chain {
     pub(crate) txn: u32,
-    pub(crate) first: Option<u32>,
-    pub(crate) last: Option<u32>,
-    pub(crate) lo: u16,
-    pub(crate) hi: u16,
-    pub(crate) passed: Option<u32>,
-    // the chains below it in the tree in which a chain is found by the bits of its transaction's number
+    // the chains below it in the tree in which a chain is found by the bits of its transaction's number: beside that
+    // number, since a search reads these three of each chain that it passes
     pub(crate) left: Option<u32>,
     pub(crate) right: Option<u32>,
+    pub(crate) first: Option<u32>,
+    pub(crate) last: Option<u32>,
+    pub(crate) passed: Option<u32>,
+    pub(crate) lo: u16,
+    pub(crate) hi: u16,
 }
 
 // Whether the walk of the chain looks for the slot.
@@ -75,7 +76,7 @@ fn relink(slots: &mut [Slot], chain: &mut Chain, next: Option<u32>)
 }
 
 // The walk looks for hashes from `lo` to `hi` from now on.
-pub(crate) fn begin(chain: &mut Chain, lo: u16, hi: u16)
+fn begin(chain: &mut Chain, lo: u16, hi: u16)
     ensures { chain.new ≡ begun lo hi chain.old }
 {
     if !(chain.lo <= lo && hi <= chain.hi) {
@@ -118,7 +119,7 @@ fn pass(slots: &mut [Slot], chains: &mut [Chain], e: usize, i: u32) -> Option<u3
 }
 
 // The next slot that the walk of the chain looks for, which stays where it is.
-pub(crate) fn seek(slots: &mut [Slot], chains: &mut [Chain], e: usize) -> Option<usize>
+fn seek(slots: &mut [Slot], chains: &mut [Chain], e: usize) -> Option<usize>
     requires linked { Linked slots.old chains.old (length slots.old) }
     requires chain { e < length chains.old }
     ensures moves { Moves slots.old chains.old slots.new chains.new e }
@@ -209,27 +210,19 @@ pub(crate) fn append(
     link(slots, chains, e, i as u32);
 }
 
-// The first slot that is live, of the transaction, and with a hash from `lo` to `hi`.
-fn first(
-    slots: &mut [Slot],
-    chains: &mut [Chain],
-    recent: &mut usize,
-    txn: u32,
-    lo: u16,
-    hi: u16,
-) -> Option<usize>
-    requires { Linked slots.old chains.old (length slots.old) }
-    ensures linked { Linked slots.new chains.new (length slots.new) }
-    ensures same { map bare slots.new ≡ map bare slots.old }
+/// The chain of the transaction, if it has one, whose walk looks for hashes from `lo` to `hi` from now on.
+pub(crate) fn walk(chains: &mut [Chain], recent: usize, txn: u32, lo: u16, hi: u16) -> Option<usize>
+    requires { IsTree chains.old (length chains.old) }
+    ensures linked { (xs : List Slot) (n : ℕ) → Linked xs chains.old n → Linked xs chains.new n }
     ensures chains { length chains.new ≡ length chains.old }
-    ensures found { IsFound slots.new (walk_of txn lo hi) result }
+    ensures found { MatchOption result (NoChain chains.old txn)
+        (λ e. (e < length chains.new) × SameWalk (walk_of txn lo hi) (chain_at chains.new e)) }
 {
-    match find(chains, *recent, txn) {
+    match find(chains, recent, txn) {
         None => None,
         Some(e) => {
-            *recent = e;
             begin(&mut chains[e], lo, hi);
-            seek(slots, chains, e)
+            Some(e)
         }
     }
 }
@@ -248,21 +241,19 @@ fn take_out(slots: &mut [Slot], i: usize) -> Held
     }
 }
 
-// Takes out the first operation of the transaction with a hash from `lo` to `hi`: its slot dies.
-pub(crate) fn take(
-    slots: &mut [Slot],
-    chains: &mut [Chain],
-    recent: &mut usize,
-    txn: u32,
-    lo: u16,
-    hi: u16,
-) -> Option<Held>
-    requires { IsChained slots.old chains.old }
+/// Takes out the next operation that the walk of the chain looks for: its slot dies.
+pub(crate) fn take_next(slots: &mut [Slot], chains: &mut [Chain], e: usize) -> Option<Held>
+    requires chained { IsChained slots.old chains.old }
+    requires chain { e < length chains.old }
     ensures chained { IsChained slots.new chains.new }
-    ensures taken { result ≡ option_map given (find (is_part txn lo hi) (held_in slots.old)) }
-    ensures left { held_in slots.new ≡ without_first (is_part txn lo hi) (held_in slots.old) }
+    ensures chains { length chains.new ≡ length chains.old }
+    ensures walk { SameWalk (chain_at chains.old e) (chain_at chains.new e) }
+    ensures taken { let c = chain_at chains.old e in
+        result ≡ option_map given (find (is_part c.txn c.lo c.hi) (held_in slots.old)) }
+    ensures left { let c = chain_at chains.old e in
+        held_in slots.new ≡ without_first (is_part c.txn c.lo c.hi) (held_in slots.old) }
 {
-    match first(slots, chains, recent, txn, lo, hi) {
+    match seek(slots, chains, e) {
         None => None,
         Some(i) => {
             let _value: Option<Value> = slots[i].op.value;

@@ -165,16 +165,38 @@ fn same_taken(got: &Option<Held>, want: &Option<Plain>) -> bool {
     }
 }
 
+// Takes all of a part out of both, one after another: whether they gave the same.
+fn walk_both(intents: &mut Intents, plain: &mut Vec<Plain>, txn: u32, lo: u16, hi: u16) -> bool {
+    if !intents.begin(txn, lo, hi) {
+        return take_plain(plain, txn, lo, hi).is_none();
+    }
+    for _ in 0..=plain.len() {
+        let got = intents.take_next();
+        if !same_taken(&got, &take_plain(plain, txn, lo, hi)) {
+            return false;
+        }
+        if got.is_none() {
+            return true;
+        }
+    }
+    false
+}
+
 // One random call of both: whether they answered the same.
 fn call_both(intents: &mut Intents, plain: &mut Vec<Plain>, state: &mut u64) -> Option<bool> {
     let txn = some_transaction(state);
     let (lo, hi) = some_range(state);
     match random(state, 400) {
         0..=249 => hold_both(intents, plain, state)?,
-        250..=379 => {
+        250..=364 => {
             let got = intents.take_first(txn, lo, hi);
             let want = take_plain(plain, txn, lo, hi);
             if !same_taken(&got, &want) {
+                return Some(false);
+            }
+        }
+        365..=379 => {
+            if !walk_both(intents, plain, txn, lo, hi) {
                 return Some(false);
             }
         }

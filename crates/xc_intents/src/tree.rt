@@ -1,12 +1,12 @@
 // The tree in which the chain of a transaction is found: each chain is a node of it, and the bits of the transaction's
 // number say, from the highest on, on which side of a node it is. So no more than 33 nodes are gone through, whatever
 // the numbers are, and a chain that is added moves no other.
-ghost use Rattle.std.specs.Prelude.{◌≡◌, ◌≢◌, ◌<◌, ◌≤◌, ◌+◌, ◌^◌, ◌++◌, ◌∷◌, ℕ, List, [], length, map, filter, None};
-ghost use Rattle.std.specs.Prelude.{MatchOption};
+ghost use Rattle.std.specs.Prelude.{◌≡◌, ◌≢◌, ◌<◌, ◌≤◌, ◌+◌, ◌^◌, ◌++◌, ◌∷◌, ℕ, List, [], length, map, filter};
+ghost use Rattle.std.specs.Prelude.{MatchOption, None, true};
 ghost use Rattle.std.specs.Vec.{vec_len, vec_capacity};
 ghost use Rattle.xc_intents.specs.declared.slots.Slot.{Slot};
-ghost use Rattle.xc_intents.specs.Slots.{Linked, IsTree, Distinct, NoChain, chain_at, no_chain, is_right, behind_bit, below, hung};
-ghost use Rattle.xc_intents.specs.Slots.{loose, is_used};
+ghost use Rattle.xc_intents.specs.Slots.{Linked, IsTree, Distinct, NoChain, chain_at, no_chain, is_right};
+ghost use Rattle.xc_intents.specs.Slots.{behind_bit, below, hung, loose, is_used};
 
 use crate::slots::Chain;
 
@@ -66,15 +66,30 @@ fn search(chains: &[Chain], txn: u32) -> Option<usize>
     Some(cur)
 }
 
-/// The chain of the transaction, if it has one, which is most often the one that was asked for last.
+// Whether the chain of this index is that of the transaction.
+#[inline]
+fn is_of(chains: &[Chain], e: usize, txn: u32) -> bool
+    ensures { result ≡ true → (e < length chains.now) × ((chain_at chains.now e).txn ≡ txn) }
+{
+    e < chains.len() && chains[e].txn == txn
+}
+
+/// The chain of the transaction, if it has one. The one that was asked for last is tried first, and those beside it,
+/// since transactions are most often applied in the order in which they came.
 #[inline]
 pub(crate) fn find(chains: &[Chain], recent: usize, txn: u32) -> Option<usize>
     requires { IsTree chains.now (length chains.now) }
     ensures { MatchOption result (NoChain chains.now txn)
         (λ e. (e < length chains.now) × ((chain_at chains.now e).txn ≡ txn)) }
 {
-    if recent < chains.len() && chains[recent].txn == txn {
+    let next = recent.wrapping_add(1);
+    let before = recent.wrapping_sub(1);
+    if is_of(chains, recent, txn) {
         Some(recent)
+    } else if is_of(chains, next, txn) {
+        Some(next)
+    } else if is_of(chains, before, txn) {
+        Some(before)
     } else {
         search(chains, txn)
     }
@@ -176,13 +191,13 @@ fn put_chain(chains: &mut Vec<Chain>, txn: u32)
 {
     chains.push_reserved(Chain {
         txn,
-        first: None,
-        last: None,
-        lo: 0,
-        hi: 0,
-        passed: None,
         left: None,
         right: None,
+        first: None,
+        last: None,
+        passed: None,
+        lo: 0,
+        hi: 0,
     });
 }
 

@@ -1,4 +1,5 @@
 pub mod ContentsLaws
+pub mod Aparts
 pub mod ApplyLaws
 pub mod RoomLaws
 pub mod StateLaws

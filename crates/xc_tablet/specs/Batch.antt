@@ -3,7 +3,7 @@
 --     records_keep headers id rs      the records keep the header of the source tablet id
 --     CanTake id from rs x      the records rs of the source tablet id, from the number `from` on, can be taken in
 --     FitsFeed headers counts x      x is of a feed with these headers and numbers of records, and is not ahead of it
-use Rattle.std.specs.Prelude.{◌≡◌, ℕ, ◌+◌, ◌-◌, ◌^◌, ◌<◌, ◌≤◌, ◌↔◌, Bool, true, false, ◌&&◌, ◌==◌, List, [], ◌∷◌, length, slice_get}
+use Rattle.std.specs.Prelude.{◌≡◌, ℕ, ◌+◌, ◌-◌, ◌<◌, ◌≤◌, ◌↔◌, Bool, true, false, ◌&&◌, ◌==◌, List, [], ◌∷◌, length, slice_get}
 use Rattle.std.specs.Prelude.{slice_index, if◌then◌else◌, IsSome, IsTrue}
 use Rattle.std.specs.List.{list_all}
 use Rattle.std.specs.Option.{option_map_or}
@@ -14,6 +14,7 @@ use Rattle.xc_record.specs.Order.{is_split}
 use Rattle.xc_record.specs.Valid.{keeps_header}
 use Rattle.xc_model.specs.Floors.{has_closed, has_started}
 use Rattle.xc_model.specs.Stands.{TargetTablet}
+use Rattle.xc_base.specs.declared.limits.TheConstants.{MOST_RECORDS}
 
 abbrev pub splits_end : List Record → Bool
 splits_end [] = true
@@ -27,7 +28,7 @@ pub record CanTake (id from : ℕ) (rs : List Record) (x : TargetTablet) : Type 
   pub first : 1 ≤ from
   -- no record is left out
   pub next : from ≤ slice_index x.places id + 1
-  pub short : from - 1 + length rs ≤ 2 ^ 20
+  pub short : from - 1 + length rs ≤ MOST_RECORDS
   -- nothing comes after the end of a tablet
   pub closed : has_closed x.floors id ≡ true → from - 1 + length rs ≤ slice_index x.places id
   -- it is a root, or its parent is closed here

@@ -7,9 +7,10 @@
 --     put_events time ops, hold_events txn sub time ops      what operations do at a key, of a write and of an intent
 --     LeavesAlike txn commit without lo hi c d      an apply of what waits still at the hashes from lo to hi gives the same after c and
 --         after d
+--     IsApart header lo hi      the tablet with this header has no key with a hash from lo to hi
 --     all_held header ops      the operations' keys are of the tablet with this header
 --     keys_keep header kind, all_keep header rs      a record's keys are, and those of all records
-use Rattle.std.specs.Prelude.{◌≡◌, ℕ, ◌<◌, Bool, true, ◌&&◌, nat_le, List, map, filter}
+use Rattle.std.specs.Prelude.{◌≡◌, ℕ, ◌<◌, Bool, true, false, ◌&&◌, nat_le, List, map, filter}
 use Rattle.std.specs.List.{AllByRecursion, list_all}
 use Rattle.xc_record.specs.declared.record.Header.{Header}
 use Rattle.xc_record.specs.declared.record.Kind.{Kind}
@@ -70,6 +71,9 @@ pub record LeavesAlike (txn commit : ℕ) (without : List ℕ) (lo hi : ℕ) (c 
   pub range : (d.lo ≡ c.lo) × (d.hi ≡ c.hi)
   pub keys : (k : List ℕ) → has_key c k ≡ true → applied txn commit without lo hi d k ≡ applied txn commit without lo hi c k
   pub is : IsContents d
+
+abbrev pub IsApart : Header → ℕ → ℕ → Type 0
+IsApart header lo hi = (k : List ℕ) → holds header (hash_of k) ≡ true → in_hashes lo hi k ≡ false
 
 abbrev pub all_held : Header → List Op → Bool
 all_held header ops = list_all (λ op. holds header (hash_of op.key)) ops

@@ -3,7 +3,7 @@
 --     IsState s      what holds of it between calls
 --     Ready id h rs s      the records rs of the source tablet id, whose header is h, can be taken in one after another, without memory
 --     names_children pair kind      a split names the children `pair`
-use Rattle.std.specs.Prelude.{◌≡◌, ℕ, ◌+◌, ◌*◌, ◌^◌, ◌≤◌, Bool, true, List, length, sum, Option, Some, slice_get, slice_index}
+use Rattle.std.specs.Prelude.{◌≡◌, ℕ, ◌+◌, ◌*◌, ◌≤◌, Bool, true, List, length, sum, Option, Some, slice_get, slice_index}
 use Rattle.std.specs.List.{AllByRecursion, list_all}
 use Rattle.xc_record.specs.declared.record.Header.{Header}
 use Rattle.xc_record.specs.declared.record.Kind.{Kind}
@@ -18,6 +18,7 @@ use Rattle.xc_tablet.specs.declared.state.State.{State}
 use Rattle.xc_tablet.specs.Contents.{IsContents}
 use Rattle.xc_tablet.specs.Room.{HasRoom}
 use Rattle.xc_tablet.specs.Batch.{splits_end}
+use Rattle.xc_base.specs.declared.limits.TheConstants.{MOST_RECORDS, RECORD_OPERATIONS}
 
 abbrev pub seen : State → TargetTablet
 seen s = record {
@@ -34,9 +35,9 @@ pub record IsState (s : State) : Type 0 where
   pub headers : are_headers s.floor.headers ≡ true
   pub count : length s.places.items ≡ length s.floor.headers
   pub closed : length s.floor.closed ≡ length s.floor.headers
-  pub small : AllByRecursion (λ place. place ≤ 2 ^ 20) s.places.items
-  -- each record gave at most 64 versions
-  pub few : s.contents.next + length s.contents.held.held ≤ 64 * sum s.places.items
+  pub small : AllByRecursion (λ place. place ≤ MOST_RECORDS) s.places.items
+  -- each record gave at most RECORD_OPERATIONS versions
+  pub few : s.contents.next + length s.contents.held.held ≤ RECORD_OPERATIONS * sum s.places.items
 
 -- ---- records that can be taken in
 
@@ -55,5 +56,5 @@ pub record Ready (id : ℕ) (h : Header) (rs : List Record) (s : State) : Type 0
   pub open_still : has_closed s.floor id ≡ true → length rs ≡ 0
   pub keep : list_all (λ r. keeps_header h (children s.floor.headers id) r.kind) rs ≡ true
   pub ends : splits_end rs ≡ true
-  pub short : slice_index s.places.items id + length rs ≤ 2 ^ 20
+  pub short : slice_index s.places.items id + length rs ≤ MOST_RECORDS
   pub room : HasRoom rs s.contents

@@ -1,18 +1,19 @@
 // What a target tablet keeps of the keys of its range: their versions, and the operations that wait.
 ghost use Rattle.std.specs.Prelude.{◌≡◌, ◌≤◌, ◌<◌, ◌+◌, ◌^◌, ℕ, true, false, List, [], ◌∷◌, length, if◌then◌else◌};
-ghost use Rattle.std.specs.Prelude.{None, nat_le, OnOk};
+ghost use Rattle.std.specs.Prelude.{None, Some, nat_le, OnOk};
 ghost use Rattle.std.specs.List.{find, list_all};
 ghost use Rattle.xc_record.specs.declared.record.Record.{Record};
 ghost use Rattle.xc_record.specs.Hash.{hash_of, holds};
 ghost use Rattle.xc_record.specs.Path.{Apply, Abort, record_events};
 ghost use Rattle.xc_record.specs.Kept.{step, steps};
 ghost use Rattle.xc_record.specs.Valid.{ops_in};
-ghost use Rattle.xc_intents.specs.HeldOps.{is_part};
+ghost use Rattle.xc_intents.specs.HeldOps.{is_sought};
 ghost use Rattle.xc_tablet.specs.Contents.{in_hashes, has_key, kept_in, IsContents, Alike, Changes, put_events};
 ghost use Rattle.xc_tablet.specs.Contents.{hold_events, LeavesAlike, all_held, keys_keep, all_keep};
 ghost use Rattle.xc_tablet.specs.Room.{count_in, Adds, Settles, HasRoom};
+ghost use Rattle.xc_base.specs.declared.limits.TheConstants.{MOST_RECORDS, RECORD_OPERATIONS};
 
-use crate::room::{Room, is_in};
+use crate::room::{Room, is_apart, is_in};
 use std::alloc::Global;
 use xc_base::NoMemory;
 use xc_intents::Intents;
@@ -21,22 +22,22 @@ use xc_versions::Versions;
 
 /// The versions and the operations that wait of the keys whose hashes are from `lo` to `hi`.
 #[derive(Drop, Debug)]
-pub struct Contents {
+pub(crate) struct Contents {
     /// The place of the next version: above those of all versions that were added.
-    pub next: u64,
+    pub(crate) next: u64,
     /// The versions.
-    pub versions: Versions,
+    pub(crate) versions: Versions,
     /// The operations that wait.
-    pub held: Intents,
+    pub(crate) held: Intents,
     /// The first hash.
-    pub lo: u16,
+    pub(crate) lo: u16,
     /// The last hash.
-    pub hi: u16,
+    pub(crate) hi: u16,
 }
 
 impl Contents {
     /// Nothing. It keeps the allocator for its growth.
-    pub fn new(alloc: Global, lo: u16, hi: u16) -> Contents
+    pub(crate) fn new(alloc: Global, lo: u16, hi: u16) -> Contents
         ensures is { IsContents result }
         ensures range { (result.lo ≡ lo) × (result.hi ≡ hi) }
         ensures empty { (result.versions.items ≡ []) × (result.held.held ≡ []) }
@@ -84,6 +85,9 @@ impl Contents {
         ensures changes { Changes (put_events time ops.now) self.old self.new }
         ensures adds { Adds (count_in self.old.lo self.old.hi ops.now) 0 self.old self.new }
     {
+        if is_apart(header, self.lo, self.hi) {
+            return;
+        }
         for op in ops.iter() {
             self.put(header, time, &op);
         }
@@ -110,23 +114,28 @@ impl Contents {
         ensures changes { (time : ℕ) → Changes (hold_events txn sub time ops.now) self.old self.new }
         ensures adds { Adds 0 (count_in self.old.lo self.old.hi ops.now) self.old self.new }
     {
+        if is_apart(header, self.lo, self.hi) {
+            return;
+        }
         for op in ops.iter() {
             self.hold(header, txn, sub, &op);
         }
     }
 
-    // Takes out the first operation of the transaction that waits at a hash from `lo` to `hi`, and adds it, unless its
-    // subtransaction was rolled back. Answers whether there was one.
-    fn apply_first(&mut self, txn: u32, commit: u64, without: &Subs, lo: u16, hi: u16) -> bool
+    // Takes out the next operation of the transaction that a walk looks for, and adds it, unless its subtransaction was
+    // rolled back. Answers whether there was one.
+    fn apply_next(&mut self, txn: u32, commit: u64, without: &Subs) -> bool
         requires is { IsContents self.old }
         requires room { length self.old.held.held ≤ self.old.versions.spare }
         requires next { self.old.next + length self.old.held.held < 2 ^ 64 }
-        ensures left { LeavesAlike txn commit without.now lo hi self.old self.new }
+        ensures left { (lo hi : ℕ) → self.old.held.sought ≡ Some (record { txn = txn; lo = lo; hi = hi })
+            → LeavesAlike txn commit without.now lo hi self.old self.new }
+        ensures sought { self.new.held.sought ≡ self.old.held.sought }
         ensures settles { Settles self.old self.new }
         ensures one { result ≡ true → length self.new.held.held < length self.old.held.held }
-        ensures done { result ≡ false → find (is_part txn lo hi) self.new.held.held ≡ None }
+        ensures done { result ≡ false → find (is_sought self.new.held.sought) self.new.held.held ≡ None }
     {
-        let Some(held) = self.held.take_first(txn, lo, hi) else {
+        let Some(held) = self.held.take_next() else {
             return false;
         };
         if without.contains(held.sub) {
@@ -147,7 +156,10 @@ impl Contents {
             self.old self.new }
         ensures settles { Settles self.old self.new }
     {
-        while self.apply_first(txn, commit, without, lo, hi) {}
+        if !self.held.begin(txn, lo, hi) {
+            return;
+        }
+        while self.apply_next(txn, commit, without) {}
     }
 
     // Drops what waits of the transaction at hashes from `lo` to `hi`.
@@ -161,7 +173,7 @@ impl Contents {
     }
 
     /// Takes in a record of the source tablet with this header.
-    pub fn take(&mut self, header: &Header, item: &Record)
+    pub(crate) fn take(&mut self, header: &Header, item: &Record)
         requires is { IsContents self.old }
         requires keep { keys_keep header.now item.now.kind ≡ true }
         requires room { HasRoom (item.now ∷ []) self.old }
@@ -188,10 +200,10 @@ impl Contents {
 
     /// Makes room for the records of a source tablet with this header, of at most 64 operations each. `NoMemory` where
     /// memory is out; what is kept is as before then.
-    pub fn make_room(&mut self, header: &Header, records: &[Record]) -> Result<(), NoMemory>
+    pub(crate) fn make_room(&mut self, header: &Header, records: &[Record]) -> Result<(), NoMemory>
         requires keep { all_keep header.now records.now ≡ true }
-        requires few { length records.now ≤ 2 ^ 20 }
-        requires small { list_all (λ r. nat_le (ops_in r.kind) 64) records.now ≡ true }
+        requires few { length records.now ≤ MOST_RECORDS }
+        requires small { list_all (λ r. nat_le (ops_in r.kind) RECORD_OPERATIONS) records.now ≡ true }
         requires waits { length self.old.held.held ≤ 2 ^ 32 }
         ensures alike { Alike self.old self.new }
         ensures room { OnOk result (HasRoom records.now self.new) }

@@ -1,46 +1,60 @@
 // How much room records need.
-ghost use Rattle.std.specs.Prelude.{◌≡◌, ◌≤◌, ◌<◌, ◌+◌, ◌*◌, ◌^◌, ◌||◌, true, length, nat_le, if◌then◌else◌};
+ghost use Rattle.std.specs.Prelude.{◌≡◌, ◌≤◌, ◌<◌, ◌+◌, ◌*◌, ◌^◌, ◌||◌, true, false, length, nat_le, if◌then◌else◌};
 ghost use Rattle.std.specs.List.{list_all};
 ghost use Rattle.xc_record.specs.Hash.{hash_of, holds};
 ghost use Rattle.xc_record.specs.Valid.{ops_in};
-ghost use Rattle.xc_tablet.specs.Contents.{in_hashes, all_held, keys_keep, all_keep};
+ghost use Rattle.xc_tablet.specs.Contents.{in_hashes, IsApart, all_held, keys_keep, all_keep};
 ghost use Rattle.xc_tablet.specs.Room.{count_in, puts_of, holds_of, is_apply, puts_in, holds_in, has_apply};
+ghost use Rattle.xc_base.specs.declared.limits.TheConstants.{MOST_RECORDS, RECORD_OPERATIONS};
 
 use xc_record::{Header, Kind, OpAt, Ops, Record, hash_bytes};
 
 /// What records need, of operations whose keys are in a range.
 #[derive(Drop, Debug)]
-pub struct Room {
+pub(crate) struct Room {
     /// How many operations of writes there are.
-    pub puts: usize,
+    pub(crate) puts: usize,
     /// How many operations of intents there are.
-    pub holds: usize,
+    pub(crate) holds: usize,
     /// Whether a record is an apply.
-    pub applies: bool,
+    pub(crate) applies: bool,
+}
+
+/// Whether no key of a source tablet with this header has a hash from `lo` to `hi`.
+#[inline]
+pub(crate) fn is_apart(header: &Header, lo: u16, hi: u16) -> bool
+    ensures apart { result ≡ true → IsApart header.now lo hi }
+    ensures meets { result ≡ false → (lo ≤ header.now.hi) × (header.now.lo ≤ hi) }
+{
+    header.hi < lo || hi < header.lo
 }
 
 /// Whether the operation of a source tablet with this header is of a key whose hash is from `lo` to `hi`. The hash is
 /// asked only where the tablet's range tells neither.
 #[inline]
-pub fn is_in(header: &Header, lo: u16, hi: u16, op: &OpAt<'_>) -> bool
+pub(crate) fn is_in(header: &Header, lo: u16, hi: u16, op: &OpAt<'_>) -> bool
     requires { holds header.now (hash_of op.now.key) ≡ true }
     ensures { result ≡ in_hashes lo hi op.now.key }
 {
     if lo <= header.lo && header.hi <= hi {
         return true;
     }
-    if header.hi < lo || hi < header.lo {
+    if is_apart(header, lo, hi) {
         return false;
     }
     let hash = hash_bytes(op.key_bytes());
     lo <= hash && hash <= hi
 }
 
-/// How many of the operations are of keys whose hashes are from `lo` to `hi`.
+/// How many of the operations are of keys whose hashes are from `lo` to `hi`. Those of a tablet that has no such keys
+/// aren't gone over.
 fn count_in(header: &Header, ops: &Ops, lo: u16, hi: u16) -> usize
     requires { all_held header.now ops.now ≡ true }
     ensures { result ≡ count_in lo hi ops.now }
 {
+    if is_apart(header, lo, hi) {
+        return 0;
+    }
     let mut count: usize = 0;
     for op in ops.iter() {
         if is_in(header, lo, hi, &op) {
@@ -69,15 +83,15 @@ impl Room {
     }
 
     /// What the records of a source tablet with this header need, of at most 64 operations each.
-    pub fn of(header: &Header, records: &[Record], lo: u16, hi: u16) -> Room
+    pub(crate) fn of(header: &Header, records: &[Record], lo: u16, hi: u16) -> Room
         requires keep { all_keep header.now records.now ≡ true }
-        requires few { length records.now ≤ 2 ^ 20 }
-        requires small { list_all (λ r. nat_le (ops_in r.kind) 64) records.now ≡ true }
+        requires few { length records.now ≤ MOST_RECORDS }
+        requires small { list_all (λ r. nat_le (ops_in r.kind) RECORD_OPERATIONS) records.now ≡ true }
         ensures puts { result.puts ≡ puts_in lo hi records.now }
         ensures holds { result.holds ≡ holds_in lo hi records.now }
         ensures applies { result.applies ≡ has_apply records.now }
-        ensures few_puts { result.puts ≤ 64 * length records.now }
-        ensures few_holds { result.holds ≤ 64 * length records.now }
+        ensures few_puts { result.puts ≤ RECORD_OPERATIONS * length records.now }
+        ensures few_holds { result.holds ≤ RECORD_OPERATIONS * length records.now }
     {
         let mut room = Room {
             puts: 0,
@@ -91,7 +105,7 @@ impl Room {
     }
 
     /// How many versions may be added, where so many operations wait already: an apply may take them all.
-    pub fn versions(&self, waiting: usize) -> usize
+    pub(crate) fn versions(&self, waiting: usize) -> usize
         requires { self.now.puts + self.now.holds + waiting < 2 ^ 64 }
         ensures { result ≡ (if self.now.applies then self.now.puts + self.now.holds + waiting else self.now.puts) }
     {

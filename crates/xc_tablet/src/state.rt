@@ -21,13 +21,13 @@ use xc_record::{Header, Kind, Record};
 
 /// The parts of a target tablet.
 #[derive(Drop, Debug)]
-pub struct State {
+pub(crate) struct State {
     /// What it keeps of the keys of its range.
-    pub contents: Contents,
+    pub(crate) contents: Contents,
     /// How many records of each source tablet were taken in.
-    pub places: Vec<u64>,
+    pub(crate) places: Vec<u64>,
     /// What these leave of each source tablet.
-    pub floor: Floor,
+    pub(crate) floor: Floor,
 }
 
 // What a record leaves of its source tablet.
@@ -92,7 +92,12 @@ impl State {
     }
 
     /// A tablet of the hashes from `lo` to `hi` that took nothing in, or an error where memory is out.
-    pub fn new(alloc: Global, lo: u16, hi: u16, headers: &[Header]) -> Result<State, AllocError>
+    pub(crate) fn new(
+        alloc: Global,
+        lo: u16,
+        hi: u16,
+        headers: &[Header],
+    ) -> Result<State, AllocError>
         requires { are_headers headers.now ≡ true }
         ensures seen { IfOk result (λ s. seen s ≡ new_tablet lo hi headers.now) }
         ensures is { IfOk result IsState }
@@ -108,7 +113,7 @@ impl State {
 
     /// Takes in those of the records of the source tablet, from the number `from` on, that are past its place.
     /// `NoMemory` where memory is out; nothing was taken in then.
-    pub fn deliver(&mut self, id: u32, from: u64, records: &[Record]) -> Result<(), NoMemory>
+    pub(crate) fn deliver(&mut self, id: u32, from: u64, records: &[Record]) -> Result<(), NoMemory>
         requires is { IsState self.old }
         requires can { CanTake id from records.now (seen self.old) }
         ensures taken { OnOk result (TakesBatch id from records.now (seen self.old) (seen self.new)) }

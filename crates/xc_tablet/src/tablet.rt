@@ -16,6 +16,7 @@ ghost use Rattle.xc_model.specs.Laws.{BatchTaken};
 ghost use Rattle.xc_model.specs.Stands.{in_range, kept_at, rows_shown, StandsFor, covers, new_tablet, KeepsFrom};
 ghost use Rattle.xc_model.specs.Stands.{restore, RestoredTo, TakesBatch};
 ghost use Rattle.xc_tablet.specs.Batch.{records_keep, splits_end};
+ghost use Rattle.xc_base.specs.declared.limits.TheConstants.{MOST_RECORDS};
 
 use crate::state::State;
 use std::alloc::Global;
@@ -71,7 +72,7 @@ impl TargetTablet {
         // The first record has a number, and none is left out.
         requires first { 1 ≤ from }
         requires next { from ≤ slice_index self.old.places id + 1 }
-        requires short { from - 1 + length records.now ≤ 2 ^ 20 }
+        requires short { from - 1 + length records.now ≤ MOST_RECORDS }
         // Nothing comes after the end of a tablet.
         requires not_closed { has_closed self.old.floors id ≡ true
             → from - 1 + length records.now ≤ slice_index self.old.places id }
@@ -96,7 +97,7 @@ impl TargetTablet {
     pub fn through(&self, id: u32) -> u64
         requires { id < length self.now.places }
         ensures place { result ≡ slice_index self.now.places id }
-        ensures small { result ≤ 2 ^ 20 }
+        ensures small { result ≤ MOST_RECORDS }
         ensures count { length self.now.places ≡ length self.now.floors.headers }
     {
         self.state.places[id as usize]

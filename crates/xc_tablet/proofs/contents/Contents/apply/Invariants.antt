@@ -1,4 +1,4 @@
-use Rattle.std.proofs.Common.{length}
+use Rattle.std.proofs.Common.{◌≡◌, Some, length}
 use Rattle.xc_tablet.specs.Contents.{LeavesAlike}
 use Rattle.xc_tablet.specs.Room.{Settles}
 use Rattle.xc_tablet.proofs.contents.Contents.apply.Given as goal
@@ -6,6 +6,7 @@ use Rattle.xc_tablet.proofs.contents.Contents.apply.Given as goal
 abbrev pub invariant-loop : goal.invariant-loop
 invariant-loop l = record {
   alike : LeavesAlike l.txn l.commit l.without l.lo l.hi l.initial.self l.self;
+  sought : l.self.held.sought ≡ Some (record { txn = l.txn; lo = l.lo; hi = l.hi });
   settles : Settles l.initial.self l.self;
 }
 

@@ -5,7 +5,9 @@ use Rattle.std.specs.Option.{option_map_or}
 use Rattle.std.proofs.lemmas.Grind.{common_steps}
 use Rattle.std.proofs.lemmas.Option.{slice_get-get_or, slice_get_past, none-some}
 use Rattle.xc_source.specs.declared.fail.SourceFail.{SourceFail}
-use Rattle.xc_source.specs.declared.fail.SourceFail.TheVariants.{Ended}
+use Rattle.xc_source.specs.declared.fail.SourceFail.TheVariants.{Ended, Conflict}
+use Rattle.std.specs.Option.{option_map}
+use Rattle.xc_source.specs.Waiting.{holder}
 use Rattle.xc_source.specs.Machine.{Machine, Transaction, transaction, is_live}
 use Rattle.xc_source.specs.Calls.{unknown, ended, conflict, full, clock_end, first_of, when, write_refusal, commit_refusal}
 use Rattle.xc_record.specs.declared.record.Op.{Op}
@@ -38,6 +40,16 @@ pub write-free : (n : ℕ) (op : Op) (m : Machine) → write_refusal n op m ≡ 
 write-free n op m h =
     let a = first-none (unknown m n) (ended m n ∷ conflict m n op ∷ full m 1 ∷ clock_end m 1 ∷ []) h in
     (a.0, (first-none (ended m n) (conflict m n op ∷ full m 1 ∷ clock_end m 1 ∷ []) (a.1)).0)
+
+pub write-unheld : (n : ℕ) (op : Op) (m : Machine) → write_refusal n op m ≡ None → holder m n op.key ≡ None
+write-unheld n op m h =
+    let a = first-none (unknown m n) (ended m n ∷ conflict m n op ∷ full m 1 ∷ clock_end m 1 ∷ []) h in
+    let b = first-none (ended m n) (conflict m n op ∷ full m 1 ∷ clock_end m 1 ∷ []) (a.1) in
+    none-held (holder m n op.key) (first-none (conflict m n op) (full m 1 ∷ clock_end m 1 ∷ []) (b.1)).0
+  where
+    none-held : (o : Option ℕ) → option_map (λ other. Conflict other) o ≡ None → o ≡ None
+    none-held None e = refl
+    none-held (Some k) e = absurd (none-some (Conflict k) (sym e))
 
 pub commit-free : (n : ℕ) (m : Machine) → commit_refusal n m ≡ None → (unknown m n ≡ None) × (ended m n ≡ None)
 commit-free n m h =

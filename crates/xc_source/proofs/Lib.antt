@@ -1,8 +1,13 @@
+pub mod BoundLaws
 pub mod PendingLaws
 pub mod CallLaws
 pub mod AnswerLaws
 pub mod WaitingLaws
 pub mod MapLaws
+pub mod HolderLaws
+pub mod UniverseLaws
 pub mod UndoneLaws
 pub mod TabletLaws
 pub mod WorkedScripts
+pub mod WorkloadLaws
+pub mod WorkedWorkload

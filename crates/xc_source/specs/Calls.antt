@@ -8,6 +8,7 @@ use Rattle.std.specs.Prelude.{Option, Some, None, Result, Ok, Err, if◌then◌e
 use Rattle.std.specs.Prelude.{slice_get}
 use Rattle.std.specs.List.{position_or_len, range_with_len}
 use Rattle.std.specs.Option.{option_map_or}
+use Rattle.xc_base.specs.declared.limits.TheConstants.{MOST_RECORDS, MOST_TABLETS, LAST_SUB}
 use Rattle.xc_time.specs.Times.{last_time}
 use Rattle.xc_record.specs.declared.record.Header.{Header}
 use Rattle.xc_record.specs.declared.record.Kind.{Kind}
@@ -57,9 +58,9 @@ conflict m n op = option_map (λ other. Conflict other) (holder m n op.key)
 abbrev pub not_open : Machine → ℕ → Option SourceFail
 not_open m id = when (is_none (open_tablet m id)) (NotOpen id)
 
--- there may be 2^20 records at most
+-- there may be MOST_RECORDS records at most
 abbrev pub full : Machine → ℕ → Option SourceFail
-full m more = when (nat_lt (2 ^ 20) (record_count m + more)) Full
+full m more = when (nat_lt MOST_RECORDS (record_count m + more)) Full
 
 -- as many times are needed
 abbrev pub clock_end : Machine → ℕ → Option SourceFail
@@ -236,6 +237,12 @@ applied_pairs ps m = fold (λ m' p. applied p.0 p.1 m') m ps
 abbrev pub all_applied : Machine → Machine
 all_applied m = applied_pairs (pending m) m
 
+abbrev pub apply_all_refusal : Machine → Option SourceFail
+apply_all_refusal m = no_room m (length (pending m))
+
+abbrev pub apply_all : Machine → Case (Unit {0})
+apply_all m = unless (apply_all_refusal m) m tt (all_applied m)
+
 abbrev pub all_safe : List ℕ → Machine → Machine
 all_safe ids m = fold (λ m' id. with_safe id m') m ids
 
@@ -258,9 +265,9 @@ bad_place m id at =
     option_map_or (λ b. when (nat_le at b.header.lo || nat_lt b.header.hi at) (BadPlace b.header.lo b.header.hi))
     (slice_get m.tablets id) None
 
--- there may be 64 tablets at most
+-- there may be MOST_TABLETS tablets at most
 abbrev pub tablets_full : Machine → Option SourceFail
-tablets_full m = when (nat_lt 64 (length m.tablets + 2)) Full
+tablets_full m = when (nat_lt MOST_TABLETS (length m.tablets + 2)) Full
 
 abbrev pub child : ℕ → ℕ → ℕ → ℕ → Tablet
 child id lo hi parent = empty_tablet (record { id = id; lo = lo; hi = hi; parent = Some parent })
@@ -284,9 +291,9 @@ tick to m = unless (when (nat_lt to m.time) (Back m.time)) m tt (record m { time
 
 -- ---- savepoints
 
--- a transaction has 64 subtransactions at most
+-- a transaction has LAST_SUB subtransactions at most
 abbrev pub subs_full : Machine → ℕ → Option SourceFail
-subs_full m n = when (option_map_or (λ t. nat_le 64 t.current) (transaction m n) false) Full
+subs_full m n = when (option_map_or (λ t. nat_le LAST_SUB t.current) (transaction m n) false) Full
 
 -- the number of the subtransaction that would begin
 abbrev pub next_sub : Machine → ℕ → ℕ

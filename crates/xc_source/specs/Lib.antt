@@ -2,4 +2,6 @@ pub mod Machine
 pub mod Waiting
 pub mod Calls
 pub mod Commands
+pub mod Holders
 pub mod Universe
+pub mod Workload

@@ -12,7 +12,8 @@ use Rattle.std.specs.List.{list_any, enumerate_from}
 use Rattle.xc_record.specs.declared.record.Header.{Header}
 use Rattle.xc_record.specs.Hash.{hash_of, holds}
 use Rattle.xc_source.specs.declared.transaction.Provisional.{Provisional}
-use Rattle.xc_source.specs.Machine.{Machine, Transaction, is_open, is_live, commit_of}
+use Rattle.xc_source.specs.Machine.{Machine, Transaction, transaction, is_open, is_live, commit_of}
+use Rattle.std.specs.Option.{option_map_or}
 
 -- a write that waits on the tablet with this header
 abbrev pub is_waiting : Header → Provisional → Bool
@@ -45,6 +46,10 @@ commits_on m header = filter_map (commit_on header) m.txns
 -- what the transaction of number n has waiting, if it is committed
 abbrev pub pending_of : Machine → ℕ → Transaction → List (ℕ × ℕ)
 pending_of m n t = if is_some (commit_of t.stage) then map (λ id. (n, id)) (tablets_of m t) else []
+
+-- the same by its number alone, nothing where it was never begun
+abbrev pub pending_at : Machine → ℕ → List (ℕ × ℕ)
+pending_at m n = option_map_or (λ t. pending_of m n t) (transaction m n) []
 
 -- the same of each of these transactions, one after another
 abbrev pub pending_by : Machine → List (ℕ × Transaction) → List (ℕ × ℕ)

@@ -3,7 +3,8 @@ ghost use Rattle.xc_source.specs.declared.fail.SourceFail.TheVariants.{NoMemory}
 
 use std::alloc::AllocError;
 
-/// Why a call of the source was refused. It left all as before.
+/// Why a call of the source was refused. It left all as before, but for a `finish` that ran out of memory: some of its
+/// records may stand then.
 #[derive(Clone, Copy, PartialEq, Eq, Debug)]
 pub enum SourceFail {
     /// The transaction of this number was never begun.

@@ -6,11 +6,16 @@ mod commit;
 mod fail;
 mod journal;
 mod tablets;
+#[cfg(test)]
+mod tests;
 mod transaction;
+mod transactions;
 mod universe;
+mod workload;
 
 pub use command::SourceCommand;
 pub use commit::Commit;
 pub use fail::SourceFail;
 pub use transaction::{Provisional, Stage};
 pub use universe::SourceUniverse;
+pub use workload::generate;

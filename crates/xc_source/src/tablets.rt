@@ -1,10 +1,11 @@
 // The tablets of a source, as its calls look at them and log on them.
-ghost use Rattle.std.specs.Prelude.{◌≡◌, ◌<◌, ◌&&◌, length, map, IfOk, OnOk, OnErr, vec_len, vec_capacity};
+ghost use Rattle.std.specs.Prelude.{◌≡◌, ◌<◌, ◌+◌, ◌&&◌, if◌then◌else◌, length, map, IfOk, OnOk, OnErr, vec_len};
+ghost use Rattle.std.specs.Prelude.{vec_capacity};
 ghost use Rattle.std.specs.List.{position_or_len};
 ghost use Rattle.xc_record.specs.Hash.{hash_of, holds};
 ghost use Rattle.xc_record.specs.Grown.{with_record};
-ghost use Rattle.xc_source.specs.Machine.{is_open, empty_tablet};
-ghost use Rattle.xc_source.specs.Universe.{split_tablets};
+ghost use Rattle.xc_source.specs.Machine.{is_open, empty_tablet, records_in};
+ghost use Rattle.xc_source.specs.Universe.{split_tablets, without_last};
 
 use std::alloc::{AllocError, Global};
 use std::mem;
@@ -83,6 +84,33 @@ pub(crate) fn push_record(
     let done = push_at(&mut items, id, item);
     *tablets = Tablets::from_vec(items);
     done
+}
+
+// Takes the last record of the tablet of this number away, and tells whether there was one.
+fn pop_at(alloc: Global, items: &mut Vec<Tablet>, id: usize) -> bool
+    requires { id < length items.old.items }
+    ensures rest { items.new.items ≡ without_last id items.old.items }
+    ensures count { records_in items.new.items + (if result then 1 else 0) ≡ records_in items.old.items }
+{
+    let tablet = &mut items[id];
+    let none = Records::from_vec(Vec::new(alloc));
+    let mut records = mem::replace(&mut tablet.records, none).into_vec();
+    let popped = records.pop().is_some();
+    tablet.records = Records::from_vec(records);
+    popped
+}
+
+// Takes the last record of the tablet of this number away, and tells whether there was one.
+pub(crate) fn pop_record(alloc: Global, tablets: &mut Tablets, id: usize) -> bool
+    requires { id < length tablets.old }
+    ensures rest { tablets.new ≡ without_last id tablets.old }
+    ensures count { records_in tablets.new + (if result then 1 else 0) ≡ records_in tablets.old }
+{
+    let none = Tablets::from_vec(Vec::new(alloc));
+    let mut items = mem::replace(tablets, none).into_vec();
+    let popped = pop_at(alloc, &mut items, id);
+    *tablets = Tablets::from_vec(items);
+    popped
 }
 
 // The tablet gets the record behind its others, and two tablets with these headers stand behind all.

@@ -1,14 +1,20 @@
 ghost use Rattle.std.specs.Prelude.{◌≡◌, ◌<◌, ◌≤◌, ◌-◌, ◌==◌, ◌&&◌, true, length, bytes_eq, take, option_map, IfSome};
 ghost use Rattle.std.specs.Prelude.{IfOk, OnOk, OnErr};
+ghost use Rattle.std.specs.Prelude.{if◌then◌else◌, ℕ, List, None};
+ghost use Rattle.std.specs.BTreeMap.{get};
+ghost use Rattle.std.specs.Cmp.Lexicographic.{slice_cmp};
+ghost use Rattle.std.specs.Ordering.{nat_cmp};
 ghost use Rattle.std.specs.List.{list_any};
+ghost use Rattle.xc_source.specs.Holders.{awaits, some_waits};
 ghost use Rattle.xc_record.specs.declared.record.Op.{Op as OpOf};
 ghost use Rattle.xc_source.specs.Machine.{Transaction as State, begun, kept_ops, is_live, commit_of};
 ghost use Rattle.xc_source.specs.Waiting.{has_write, waits_on, taken, taken_write, commit_on};
 ghost use Rattle.xc_source.specs.Calls.{next_begun, undone_from, is_savepoint, written, aborted, committed};
 
 use std::alloc::{AllocError, Global};
+use std::collections::BTreeMap;
 use std::marker::Model;
-use xc_base::Key;
+use xc_base::{Key, LAST_SUB};
 use xc_record::{Header, HybridTime, Op, Ops, Subs, hash};
 
 /// How far a transaction came.
@@ -84,14 +90,14 @@ impl Transaction {
     // The subtransaction of the next write, 0 to 64.
     pub(crate) fn current(&self) -> u8
         ensures value { result ≡ self.now.current }
-        ensures most { self.now.current ≤ 64 }
+        ensures most { self.now.current ≤ LAST_SUB }
     {
         self.current
     }
 
     // Begins the next subtransaction, and answers its number.
     pub(crate) fn begin_next(&mut self) -> u8
-        requires { self.old.current < 64 }
+        requires { self.old.current < LAST_SUB }
         ensures next { self.new ≡ next_begun self.old }
         ensures number { result ≡ self.new.current }
     {
@@ -149,6 +155,13 @@ impl Transaction {
             .any(|w| w.waits && header.holds(hash(&w.op.key)))
     }
 
+    // Whether something of it waits.
+    pub(crate) fn waits(&self) -> bool
+        ensures { result ≡ some_waits self.now }
+    {
+        self.writes.iter().any(|w| w.waits)
+    }
+
     // Whether it wrote nothing, rolled back or not.
     pub(crate) fn is_empty(&self) -> bool
         ensures { result ≡ (length self.now.writes == 0) }
@@ -180,6 +193,18 @@ impl Transaction {
         ensures { (op : OpOf) (t : State) → self.old ≡ written op t → self.new ≡ t }
     {
         let _ = self.writes.pop();
+    }
+
+    // Takes the keys of its waiting writes out of the holders.
+    pub(crate) fn free(&self, holders: &mut BTreeMap<Key, u32>)
+        ensures { (key : List ℕ) → get (slice_cmp nat_cmp) holders.new key
+            ≡ (if awaits key self.now then None else get (slice_cmp nat_cmp) holders.old key) }
+    {
+        for write in &self.writes {
+            if write.waits {
+                let _ = holders.remove(&write.op.key);
+            }
+        }
     }
 
     // It committed at this time.

@@ -2,41 +2,35 @@
 ghost use Rattle.std.specs.Prelude.{◌≡◌, ◌≤◌, ◌<◌, ◌+◌, ◌^◌, true, None, IfOk, OnOk, OnErr, length, ◌∷◌, ◌++◌, []};
 ghost use Rattle.xc_time.specs.Times.{last_time, IsTime};
 ghost use Rattle.std.specs.Option.{option_map};
+ghost use Rattle.std.specs.Prelude.{ℕ, List};
+ghost use Rattle.xc_source.specs.declared.commit.Commit.{Commit as Listed};
 ghost use Rattle.xc_source.specs.Machine.{are_roots, start as new_machine, logs_of, transaction, record_count};
-ghost use Rattle.xc_record.specs.declared.record.Kind.TheVariants.{Abort};
 ghost use Rattle.std.specs.List.{enumerate_from};
-ghost use Rattle.xc_source.specs.Waiting.{pending_by, holder, tablets_of, open_tablets, pending, pending_of};
+ghost use Rattle.xc_source.specs.Waiting.{pending_at, pending_by, holder, tablets_of, open_tablets, pending};
+ghost use Rattle.xc_source.specs.Waiting.{pending_of};
 ghost use Rattle.xc_source.specs.Calls.{Answers, begin, tick, not_live, no_room, not_open, savepoint, roll_back};
 ghost use Rattle.xc_source.specs.Calls.{savepoint_refusal, roll_back_refusal, put, put_refusal, write, write_refusal};
 ghost use Rattle.xc_source.specs.Calls.{put_after, write_after, to_transaction};
 ghost use Rattle.xc_source.specs.Calls.{commit, commit_refusal, commit_after, commits_and};
 ghost use Rattle.xc_source.specs.Calls.{apply, apply_refusal, applied, applied_pairs, is_committed, safe};
 ghost use Rattle.xc_source.specs.Calls.{safe_refusal, safe_on, safe_value, with_safe, all_safe, finish, abort};
-ghost use Rattle.xc_source.specs.Calls.{marked, tablets_with, logged, with_aborts, AnswersInPart, split};
-ghost use Rattle.xc_source.specs.Calls.{split_refusal, bad_place};
+ghost use Rattle.xc_source.specs.Calls.{abort_after, tablets_with, AnswersInPart, split};
+ghost use Rattle.xc_source.specs.Calls.{split_refusal, bad_place, apply_all};
 
 use crate::commit::Commit;
 use crate::fail::SourceFail;
 use crate::journal::Journal;
 use crate::tablets::is_open;
 use crate::transaction::{Stage, Transaction};
+use crate::transactions::Transactions;
 use std::alloc::{AllocError, Global};
 use std::marker::Model;
-use xc_base::{Key, NoMemory};
+use xc_base::{Key, LAST_SUB, MOST_RECORDS, MOST_TABLETS, NoMemory};
 use xc_record::{Header, HybridTime, Kind, Logs, Op, Ops};
 use xc_time::LAST_TIME;
 
 // Transactions are numbered from 1 to 2^32 - 1.
 const MOST_TXNS: usize = (1 << 32) - 1;
-
-// The most records of all tablets.
-const MOST_RECORDS: usize = 1 << 20;
-
-// The most tablets.
-const MOST_TABLETS: usize = 64;
-
-// The most subtransactions of one transaction.
-const MOST_SUBS: u8 = 64;
 
 /// A machine that makes the logs of a source. Contracts see it as the machine of the definition.
 #[derive(Drop, Debug)]
@@ -44,7 +38,7 @@ pub struct SourceUniverse {
     alloc: Global,
     journal: Journal,
     commits: Vec<Commit>,
-    txns: Vec<Transaction>,
+    txns: Transactions,
 }
 
 impl Model for SourceUniverse {
@@ -57,10 +51,10 @@ impl Model for SourceUniverse {
       time = u.journal.time;
       tablets = u.journal.tablets;
       commits = u.commits.items;
-      txns = u.txns.items;
+      txns = u.txns;
     } };
 
-    ghost invariant = { λ u. IsUniverse u.journal.time u.txns.items };
+    ghost invariant = { λ u. IsUniverse u.journal.time u.txns };
 }
 
 // Puts a commit behind the others. After an error they are as before.
@@ -91,6 +85,16 @@ fn list(
     }
     let ops = t.kept_ops(alloc)?;
     push_commit(commits, time, txn, ops)
+}
+
+// Takes back that the transaction's commit was listed last.
+fn unlist(commits: &mut Vec<Commit>, t: &Transaction)
+    ensures { (time txn : ℕ) (cs : List Listed) → commits.old.items ≡ commits_and time txn t.now cs → commits.new.items
+        ≡ cs }
+{
+    if !t.is_empty() {
+        let _ = commits.pop();
+    }
 }
 
 // A transaction and a tablet.
@@ -138,7 +142,7 @@ impl SourceUniverse {
             alloc,
             journal: Journal::new(alloc, roots, start)?,
             commits: Vec::new(alloc),
-            txns: Vec::new(alloc),
+            txns: Transactions::new(alloc),
         })
     }
 
@@ -147,6 +151,20 @@ impl SourceUniverse {
         ensures { result.now ≡ logs_of self.now }
     {
         self.journal.logs()
+    }
+
+    /// Gives the logs that were made, without taking memory.
+    pub fn into_logs(self) -> Logs
+        ensures { result ≡ logs_of self }
+    {
+        self.journal.into_logs()
+    }
+
+    /// How many records there are, on all tablets.
+    pub fn record_count(&self) -> u64
+        ensures { result ≡ record_count self.now }
+    {
+        self.journal.count() as u64
     }
 
     /// What committed so far, in the order of time: the puts, and the transactions that wrote at least once.
@@ -176,9 +194,7 @@ impl SourceUniverse {
         if self.txns.len() >= MOST_TXNS {
             return Err(SourceFail::Full);
         }
-        if self.txns.push(Transaction::new(self.alloc)).is_err() {
-            return Err(SourceFail::NoMemory);
-        }
+        self.txns.begin()?;
         Ok(self.txns.len() as u32)
     }
 
@@ -186,13 +202,7 @@ impl SourceUniverse {
     fn stage(&self, txn: u32) -> Option<Stage>
         ensures { result ≡ option_map (λ t. t.stage) (transaction self.now txn) }
     {
-        if txn == 0 {
-            return None;
-        }
-        match self.txns.get(txn as usize - 1) {
-            None => None,
-            Some(t) => Some(t.stage()),
-        }
+        self.txns.stage(txn)
     }
 
     // Why nothing may be done with the transaction of this number, if it isn't live.
@@ -242,7 +252,7 @@ impl SourceUniverse {
         if let Some(fail) = self.not_live(txn) {
             return Some(fail);
         }
-        if self.txns[txn as usize - 1].current() >= MOST_SUBS {
+        if self.txns.at(txn).current() >= LAST_SUB {
             return Some(SourceFail::Full);
         }
         None
@@ -256,7 +266,7 @@ impl SourceUniverse {
         if let Some(fail) = self.savepoint_refusal(txn) {
             return Err(fail);
         }
-        Ok(self.txns[txn as usize - 1].begin_next())
+        Ok(self.txns.begin_next(txn))
     }
 
     // Why the subtransaction can't be rolled back.
@@ -266,11 +276,11 @@ impl SourceUniverse {
         if let Some(fail) = self.not_live(txn) {
             return Some(fail);
         }
-        let t = &self.txns[txn as usize - 1];
+        let t = self.txns.at(txn);
         if !t.is_savepoint(sub) {
             return Some(SourceFail::NoSavepoint(sub));
         }
-        if t.current() >= MOST_SUBS {
+        if t.current() >= LAST_SUB {
             return Some(SourceFail::Full);
         }
         None
@@ -285,22 +295,17 @@ impl SourceUniverse {
         if let Some(fail) = self.roll_back_refusal(txn, sub) {
             return Err(fail);
         }
-        let t = &mut self.txns[txn as usize - 1];
-        t.undo_from(sub);
-        Ok(t.begin_next())
+        Ok(self.txns.roll_back(txn, sub))
     }
 
     // The live transaction, not this one, that has a waiting write of the key.
-    #[tactic(auto, unfolding(crate::specs::Waiting::holder))]
     fn holder(&self, txn: u32, key: &Key) -> Option<u32>
         ensures { result ≡ holder self.now txn key.now }
     {
-        for (i, t) in self.txns.iter().enumerate() {
-            if i as u32 + 1 != txn && t.has_write(key) {
-                return Some(i as u32 + 1);
-            }
+        match self.txns.holder(key) {
+            None => None,
+            Some(other) => { if other == txn { None } else { Some(other) } }
         }
-        None
     }
 
     // Why the operation can't be put.
@@ -379,16 +384,13 @@ impl SourceUniverse {
     {
         let id = self.journal.owner(&op.key);
         let ops = one_op(self.alloc, op)?;
-        let t = &mut self.txns[txn as usize - 1];
-        let sub = t.current();
-        t.push_write(op)?;
-        match self.journal.log(id, Kind::Intent { txn, sub, ops }) {
-            Ok(time) => return Ok(time),
-            Err(fail) => {
-                t.pop_write();
-                return Err(fail);
-            }
+        let sub = self.txns.at(txn).current();
+        let time = self.journal.log(id, Kind::Intent { txn, sub, ops })?;
+        if self.txns.write(txn, op).is_err() {
+            self.journal.unlog(id);
+            return Err(AllocError);
         }
+        Ok(time)
     }
 
     // Why the transaction can't be committed.
@@ -422,11 +424,14 @@ impl SourceUniverse {
             × (self.new ≡ to_transaction (commit_after txn self.old) self.old txn)) }
         ensures err { OnErr result (self.new ≡ self.old) }
     {
-        let t = &mut self.txns[txn as usize - 1];
         let time = self.journal.now() + 1;
-        list(self.alloc, &mut self.commits, time, txn, t)?;
-        let commit = self.journal.step();
-        t.set_committed(commit);
+        let commit = HybridTime::new(time).unwrap();
+        list(self.alloc, &mut self.commits, time, txn, self.txns.at(txn))?;
+        if self.txns.commit(txn, commit).is_err() {
+            unlist(&mut self.commits, self.txns.at(txn));
+            return Err(AllocError);
+        }
+        let _ = self.journal.step();
         Ok(time)
     }
 
@@ -444,7 +449,7 @@ impl SourceUniverse {
             return Some(SourceFail::NotCommitted(txn));
         };
         let header = &self.journal.tablets()[id as usize].header;
-        if !self.txns[txn as usize - 1].waits_on(header) {
+        if !self.txns.at(txn).waits_on(header) {
             return Some(SourceFail::NotThere(id));
         }
         self.no_room(1)
@@ -467,13 +472,13 @@ impl SourceUniverse {
     fn apply_now(&mut self, txn: u32, id: u32) -> Result<u64, AllocError>
         requires committed { is_committed self.old txn ≡ true }
         requires tablet { id < length self.old.tablets }
-        requires room { record_count self.old < 2 ^ 20 }
+        requires room { record_count self.old < MOST_RECORDS }
         requires time { self.old.time < last_time }
         ensures ok { IfOk result (λ time. (time ≡ self.old.time + 1) × (self.new ≡ applied txn id self.old)) }
         ensures err { OnErr result (self.new ≡ self.old) }
     {
         let header = self.journal.tablets()[id as usize].header;
-        let t = &mut self.txns[txn as usize - 1];
+        let t = self.txns.at(txn);
         let commit = t.commit_time().unwrap();
         let without = t.undone();
         let kind = Kind::Apply {
@@ -482,7 +487,7 @@ impl SourceUniverse {
             without,
         };
         let time = self.journal.log(id as usize, kind)?;
-        t.take(&header);
+        self.txns.take(txn, &header);
         Ok(time)
     }
 
@@ -503,13 +508,11 @@ impl SourceUniverse {
         ensures value { result ≡ safe_on self.now header.now }
         ensures time { IsTime result }
     {
-        let mut low = self.journal.now() + 1;
-        for t in &self.txns {
-            if let Some(bound) = t.bound(header) {
-                low = low.min(bound);
-            }
+        let next = self.journal.now() + 1;
+        match self.txns.first_bound(header) {
+            None => next,
+            Some(bound) => next.min(bound),
         }
-        low
     }
 
     /// Logs a safe record on the tablet, and answers its value: the lesser of its log time and, over the committed
@@ -527,7 +530,7 @@ impl SourceUniverse {
     // Logs a safe record where nothing is against it. After an error all is as before.
     fn safe_now(&mut self, id: u32) -> Result<u64, AllocError>
         requires tablet { id < length self.old.tablets }
-        requires room { record_count self.old < 2 ^ 20 }
+        requires room { record_count self.old < MOST_RECORDS }
         requires time { self.old.time < last_time }
         ensures ok { IfOk result (λ value. (value ≡ safe_value self.old id) × (self.new ≡ with_safe id self.old)) }
         ensures err { OnErr result (self.new ≡ self.old) }
@@ -599,7 +602,7 @@ impl SourceUniverse {
     }
 
     // The numbers of the open tablets, rising.
-    fn open_tablets(&self) -> Result<Vec<u32>, AllocError>
+    pub(crate) fn open_tablets(&self) -> Result<Vec<u32>, AllocError>
         ensures { IfOk result (λ ids. ids.items ≡ open_tablets self.now) }
     {
         let mut ids = Vec::new(self.alloc);
@@ -629,20 +632,34 @@ impl SourceUniverse {
         Ok(())
     }
 
-    // What committed transactions have waiting, found transaction by transaction.
+    // What the transaction of this number has waiting, if it is committed, behind the pairs.
+    fn add_pending_at(&self, txn: u32, pairs: &mut Vec<Pair>) -> Result<(), AllocError>
+        ensures { OnOk result (pairs.new.items ≡ pairs.old.items ++ pending_at self.now txn) }
+    {
+        if txn == 0 {
+            return Ok(());
+        }
+        if txn as usize > self.txns.len() {
+            return Ok(());
+        }
+        self.add_pending(txn, self.txns.at(txn), pairs)
+    }
+
+    // What committed transactions have waiting, found transaction by transaction of those of which something waits.
     fn pending_by(&self) -> Result<Vec<Pair>, AllocError>
         ensures { IfOk result (λ pairs. pairs.items ≡ pending_by self.now (enumerate_from 1 self.now.txns)) }
     {
+        let numbers = self.txns.waiting()?;
         let mut pairs = Vec::new(self.alloc);
-        for (i, t) in self.txns.iter().enumerate() {
-            self.add_pending(i as u32 + 1, t, &mut pairs)?;
+        for txn in numbers.iter() {
+            self.add_pending_at(*txn, &mut pairs)?;
         }
         Ok(pairs)
     }
 
     // What committed transactions have waiting: the transaction and the tablet, in this order.
     #[tactic(auto, using(crate::proofs::PendingLaws::pending_whole))]
-    fn pending(&self) -> Result<Vec<Pair>, AllocError>
+    pub(crate) fn pending(&self) -> Result<Vec<Pair>, AllocError>
         ensures { IfOk result (λ pairs. pairs.items ≡ pending self.now) }
     {
         self.pending_by()
@@ -658,7 +675,7 @@ impl SourceUniverse {
     // Applies the transaction on the tablet. Nothing is asked of it for another transaction than a committed one.
     #[tactic(auto, using(crate::proofs::PendingLaws::applied_count, crate::proofs::PendingLaws::applied_time))]
     fn apply_step(&mut self, txn: u32, id: u32) -> Result<u64, AllocError>
-        requires room { record_count self.old < 2 ^ 20 }
+        requires room { record_count self.old < MOST_RECORDS }
         requires time { self.old.time < last_time }
         ensures ok { OnOk result (self.new ≡ applied txn id self.old) }
         ensures count { OnOk result (record_count self.new ≤ record_count self.old + 1) }
@@ -674,8 +691,8 @@ impl SourceUniverse {
     }
 
     // Applies transactions on tablets, one pair after another.
-    fn apply_all(&mut self, pairs: &[Pair]) -> Result<(), AllocError>
-        requires room { record_count self.old + length pairs.now ≤ 2 ^ 20 }
+    fn apply_pairs(&mut self, pairs: &[Pair]) -> Result<(), AllocError>
+        requires room { record_count self.old + length pairs.now ≤ MOST_RECORDS }
         requires time { self.old.time + length pairs.now ≤ last_time }
         ensures ok { OnOk result (self.new ≡ applied_pairs pairs.now self.old) }
         ensures count { OnOk result (record_count self.new ≤ record_count self.old + length pairs.now) }
@@ -687,9 +704,23 @@ impl SourceUniverse {
         Ok(())
     }
 
+    // Applies all that committed transactions have waiting, by transaction and tablet. `Full` exactly where there would
+    // be more than 2^20 records, else `ClockEnd` exactly where too few times are left. After `NoMemory` some of the
+    // records may stand.
+    pub(crate) fn apply_all(&mut self) -> Result<(), SourceFail>
+        ensures { AnswersInPart result self.new (apply_all self.old) }
+    {
+        let pairs = self.pending()?;
+        if let Some(fail) = self.no_room(pairs.len()) {
+            return Err(fail);
+        }
+        self.apply_pairs(&pairs)?;
+        Ok(())
+    }
+
     // Logs a safe record on the tablet. Nothing is asked of it for a tablet that isn't there.
     fn safe_step(&mut self, id: u32) -> Result<u64, AllocError>
-        requires room { record_count self.old < 2 ^ 20 }
+        requires room { record_count self.old < MOST_RECORDS }
         requires time { self.old.time < last_time }
         ensures ok { OnOk result (self.new ≡ with_safe id self.old) }
         ensures count { OnOk result (record_count self.new ≤ record_count self.old + 1) }
@@ -706,7 +737,7 @@ impl SourceUniverse {
 
     // Logs a safe record on each of the tablets.
     fn safe_all(&mut self, ids: &[u32]) -> Result<(), AllocError>
-        requires room { record_count self.old + length ids.now ≤ 2 ^ 20 }
+        requires room { record_count self.old + length ids.now ≤ MOST_RECORDS }
         requires time { self.old.time + length ids.now ≤ last_time }
         ensures { OnOk result (self.new ≡ all_safe ids.now self.old) }
     {
@@ -727,32 +758,8 @@ impl SourceUniverse {
         if let Some(fail) = self.no_room(pairs.len() + ids.len()) {
             return Err(fail);
         }
-        self.apply_all(&pairs)?;
+        self.apply_pairs(&pairs)?;
         self.safe_all(&ids)?;
-        Ok(())
-    }
-
-    // Logs an abort of the transaction on the tablet.
-    fn abort_step(&mut self, txn: u32, id: u32) -> Result<u64, AllocError>
-        requires room { record_count self.old < 2 ^ 20 }
-        requires time { self.old.time < last_time }
-        ensures ok { OnOk result (self.new ≡ logged id (Abort txn) self.old) }
-        ensures count { OnOk result (record_count self.new ≤ record_count self.old + 1) }
-        ensures times { OnOk result (self.new.time ≤ self.old.time + 1) }
-    {
-        let time = self.journal.log(id as usize, Kind::Abort { txn })?;
-        Ok(time)
-    }
-
-    // Logs an abort of the transaction on each of the tablets.
-    fn abort_all(&mut self, txn: u32, ids: &[u32]) -> Result<(), AllocError>
-        requires room { record_count self.old + length ids.now ≤ 2 ^ 20 }
-        requires time { self.old.time + length ids.now ≤ last_time }
-        ensures { OnOk result (self.new ≡ with_aborts txn ids.now self.old) }
-    {
-        for id in ids {
-            self.abort_step(txn, *id)?;
-        }
         Ok(())
     }
 
@@ -761,22 +768,29 @@ impl SourceUniverse {
         requires { not_live self.now txn ≡ None }
         ensures { IfOk result (λ ids. ids.items ≡ tablets_with self.now txn) }
     {
-        self.tablets_of(&self.txns[txn as usize - 1])
+        self.tablets_of(self.txns.at(txn))
     }
 
-    // The transaction is rolled back, and nothing of it waits.
-    fn mark_aborted(&mut self, txn: u32)
-        requires { not_live self.old txn ≡ None }
-        ensures { self.new ≡ to_transaction (marked txn self.old) self.old txn }
+    // Aborts the transaction, and logs that on each of the tablets, where nothing is against it. After an error all is
+    // as before.
+    fn abort_now(&mut self, txn: u32, ids: &[u32]) -> Result<(), AllocError>
+        requires live { not_live self.old txn ≡ None }
+        requires places { ids.now ≡ tablets_with self.old txn }
+        requires room { record_count self.old + length ids.now ≤ MOST_RECORDS }
+        requires time { self.old.time + length ids.now ≤ last_time }
+        ensures ok { OnOk result (self.new ≡ to_transaction (abort_after txn self.old) self.old txn) }
+        ensures err { OnErr result (self.new ≡ self.old) }
     {
-        self.txns[txn as usize - 1].set_aborted();
+        self.journal.log_aborts(txn, ids)?;
+        self.txns.abort(txn);
+        Ok(())
     }
 
     /// Aborts the transaction, and logs that on each tablet where it waits, by number. `Unknown` and `Ended` as for a
     /// savepoint, else `Full` exactly where there would be more than 2^20 records, else `ClockEnd` exactly where too
-    /// few times are left. After `NoMemory` some of the records may stand.
+    /// few times are left.
     pub fn abort(&mut self, txn: u32) -> Result<(), SourceFail>
-        ensures { AnswersInPart result self.new (abort txn self.old) }
+        ensures { Answers result self.old self.new (abort txn self.old) }
     {
         if let Some(fail) = self.not_live(txn) {
             return Err(fail);
@@ -785,8 +799,6 @@ impl SourceUniverse {
         if let Some(fail) = self.no_room(ids.len()) {
             return Err(fail);
         }
-        self.mark_aborted(txn);
-        self.abort_all(txn, &ids)?;
-        Ok(())
+        Ok(self.abort_now(txn, &ids)?)
     }
 }

@@ -99,7 +99,7 @@ opens-taken b r =
     ap (λ o. option_map_or (λ (q : Record). not (is_split q.kind)) o true)
     (get-seam b.records r [] (length (b.records ++ r ∷ []) - 1) (let e = length_push b.records r in omega arith))
 
-heads-replaced : (xs : List AcceptedTablet) (b c : AcceptedTablet) (ys : List AcceptedTablet) → b.header ≡ c.header
+pub heads-replaced : (xs : List AcceptedTablet) (b c : AcceptedTablet) (ys : List AcceptedTablet) → b.header ≡ c.header
     → heads (xs ++ b ∷ ys) ≡ heads (xs ++ c ∷ ys)
 heads-replaced xs b c ys e = map-replaced (λ (w : AcceptedTablet). w.header) xs b c ys e
 

@@ -130,7 +130,7 @@ parts-apart m bs k a s =
 abbrev IsPlain : Commit → LogCommit → Type 0
 IsPlain c x = plain x ≡ c
 
-exists-flat : {A B : Type 0} (P : B → Type 0) (Q : A → Type 0) (g : A → List B) → ((x : A) → Q x → Exists P (g x)) → (xs : List A)
+pub exists-flat : {A B : Type 0} (P : B → Type 0) (Q : A → Type 0) (g : A → List B) → ((x : A) → Q x → Exists P (g x)) → (xs : List A)
     → Exists Q xs
     → Exists P (flat_map g xs)
 exists-flat P Q g f [] i = absurd i

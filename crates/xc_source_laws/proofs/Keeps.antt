@@ -133,15 +133,15 @@ move-abort-log P cl m n t id b k o e a = record {
   holds_of = cl.abort_log m k.books n t id b o k.base e a k.holds_of;
 }
 
-taken-waits : (h g : Header) (w : Provisional) → is_waiting g (taken_write h w) ≡ true → is_waiting g w ≡ true
+pub taken-waits : (h g : Header) (w : Provisional) → is_waiting g (taken_write h w) ≡ true → is_waiting g w ≡ true
 taken-waits h g w e = go (holds h (hash_of w.op.key)) e
   where
     go : (b : Bool) → is_waiting g (if b then record w { waits = false } else w) ≡ true → is_waiting g w ≡ true
     go true e = cc
     go false e = e
 
-any-map : {A : Type 0} (p q : A → Bool) (f : A → A) → ((x : A) → p (f x) ≡ true → q x ≡ true) → (xs : List A) → list_any p (map f xs) ≡ true
-    → list_any q xs ≡ true
+pub any-map : {A : Type 0} (p q : A → Bool) (f : A → A) → ((x : A) → p (f x) ≡ true → q x ≡ true) → (xs : List A)
+    → list_any p (map f xs) ≡ true → list_any q xs ≡ true
 any-map p q f g [] e = e
 any-map p q f g (x ∷ xs) e = grind (arith, g x, any-map p q f g xs)
 
@@ -211,7 +211,7 @@ least-tail f t ts v l = go (f t) l
     go None q = q
     go (Some x) q = omega arith
 
-least-from : (f : Transaction → Option ℕ) (ts : List Transaction) (v : ℕ) → v ≤ 2 ^ 62
+pub least-from : (f : Transaction → Option ℕ) (ts : List Transaction) (v : ℕ) → v ≤ 2 ^ 62
     → Each (λ t. (c : ℕ) → f t ≡ Some c → v ≤ c - 1) ts → v ≤ least_of f ts
 least-from f [] v l h = l
 least-from f (t ∷ ts) v l h = go (f t) refl (least-from f ts v l h.1)
@@ -223,7 +223,7 @@ least-from f (t ∷ ts) v l h = go (f t) refl (least-from f ts v l h.1)
 abbrev pub commit_there : Header → Transaction → Option ℕ
 commit_there h t = if waits_on h t then commit_of t.stage else None
 
-there-parts : (h : Header) (t : Transaction) (c : ℕ) → commit_there h t ≡ Some c → (waits_on h t ≡ true) × (commit_of t.stage ≡ Some c)
+pub there-parts : (h : Header) (t : Transaction) (c : ℕ) → commit_there h t ≡ Some c → (waits_on h t ≡ true) × (commit_of t.stage ≡ Some c)
 there-parts h t c e = go (waits_on h t) refl e
   where
     go : (b : Bool) → waits_on h t ≡ b → (if b then commit_of t.stage else None) ≡ Some c → (waits_on h t ≡ true)

@@ -26,3 +26,15 @@ pub mod Shown
 pub mod CommitLaws
 pub mod TakenMoves
 pub mod RowLaws
+pub mod WorkloadFits
+pub mod Counts
+pub mod Answered
+pub mod Loads
+pub mod Places
+pub mod LastTxn
+pub mod Distinct
+pub mod AllApplied
+pub mod NoRefusals
+pub mod AllTaken
+pub mod Finished
+pub mod GeneratedWhole

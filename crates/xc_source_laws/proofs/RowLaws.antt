@@ -44,11 +44,11 @@ use Rattle.xc_source_laws.proofs.TakenMoves.{TakenSo, AppliedIn, HasApply, some_
 -- ---- the safe time at the ends
 
 -- the tablet stands at its place, with the number of its records as its place
-record AtEnd (places : List ℕ) (b : AcceptedTablet) : Type 0 where
-  at : slice_index places b.header.id ≡ length b.records
-  end : b.end ≡ fold after b.start b.records
+pub record AtEnd (places : List ℕ) (b : AcceptedTablet) : Type 0 where
+  pub at : slice_index places b.header.id ≡ length b.records
+  pub end : b.end ≡ fold after b.start b.records
 
-ends-at : (n : ℕ) (front : List ℕ) (bs : List AcceptedTablet) → length front ≡ n → Numbered n (heads bs)
+pub ends-at : (n : ℕ) (front : List ℕ) (bs : List AcceptedTablet) → length front ≡ n → Numbered n (heads bs)
     → Each (λ b. b.end ≡ fold after b.start b.records) bs
     → Each (AtEnd (front ++ map (λ b. length b.records) bs)) bs
 ends-at n front [] l m e = tt
@@ -67,7 +67,7 @@ take-all : {A : Type 0} (xs : List A) → take (length xs) xs ≡ xs
 take-all [] = refl
 take-all (x ∷ xs) = ap (λ w. x ∷ w) (take-all xs)
 
-floor-at : (places : List ℕ) (b : AcceptedTablet) → AtEnd places b → last_safe_in places b ≡ b.end.floor
+pub floor-at : (places : List ℕ) (b : AcceptedTablet) → AtEnd places b → last_safe_in places b ≡ b.end.floor
 floor-at places b a =
     ap (λ n. (fold after b.start (take n b.records)).floor) a.at ∙ ap (λ rs. (fold after b.start rs).floor) (take-all b.records)
     ∙ ap (λ (p : Progress). p.floor) (sym a.end)
@@ -88,7 +88,7 @@ least-in places (b ∷ bs) v i = go (is_closed_in places b) refl i (λ r. least-
     go true q i more = ⊎_elim (λ p. absurd (true≢false (sym q ∙ p.0))) (λ r. more r) i
     go false q i more = ⊎_elim (λ p. let l = p.1 in omega arith) (λ r. let l = more r in omega arith) i
 
-each-end : (before bs : List AcceptedTablet) → Stays before bs → Each (λ b. b.end ≡ fold after b.start b.records) bs
+pub each-end : (before bs : List AcceptedTablet) → Stays before bs → Each (λ b. b.end ≡ fold after b.start b.records) bs
 each-end before [] s = tt
 each-end before (b ∷ bs) s = (s.0.end, each-end (before ++ b ∷ []) bs s.1)
 
@@ -159,7 +159,7 @@ has-all n (b ∷ bs) i =
     or-true true = refl
     or-true false = refl
 
-applied-has : (m : Machine) (bs : List AcceptedTablet) (n : ℕ) → IsMachine m bs → AppliedIn n bs → has n (applied (logs_of m)) ≡ true
+pub applied-has : (m : Machine) (bs : List AcceptedTablet) (n : ℕ) → IsMachine m bs → AppliedIn n bs → has n (applied (logs_of m)) ≡ true
 unfolding applied
 applied-has m bs n k i =
     has-distinct n (flat_map (λ (b : AcceptedTablet). filter_map (λ (r : Record). applied_txn r.kind) b.records)
@@ -245,6 +245,14 @@ rows-in m bs t k s x l =
     (Each-weaker (Backed m.txns bs) (λ c. is_shown (logs_of m) c ≡ false → nat_le c.time t ≡ false)
     (λ c b h. late-commit m bs t c k x l b h) m.commits s.1.backed)))
 
+-- no transaction was begun before the first command
+pub none-begun : (n : ℕ) (t : Transaction) → txn_at [] n ≡ Some t → ⊥
+none-begun n t e = go (n == 0) None refl e
+  where
+    go : (b : Bool) (o : Option Transaction) → o ≡ None → (if b then None else o) ≡ Some t → ⊥
+    go true o z q = cc
+    go false o z q = cc
+
 pub rows-are-listed : RowsAreListed
 rows-are-listed roots time cs r l f t below =
     let base = base-start roots time r in
@@ -252,13 +260,6 @@ rows-are-listed roots time cs r l f t below =
     let k = run-keeps Both both-closed cs (start roots time) f
     (record { books = root_books roots; base = base; holds_of = (start-agrees roots time, start-lists roots time) }) in
     let x = run-keeps TakenSo taken-closed cs (start roots time) f
-    (record { books = root_books roots; base = base; holds_of = record { explains = λ n t e. absurd (none-there n t e) } }) in
+    (record { books = root_books roots; base = base; holds_of = record { explains = λ n t e. absurd (none-begun n t e) } }) in
     rows-in m k.books t k.base k.holds_of
     (subst (TakenSo m) (sym (books-accepted m x.books x.base) ∙ books-accepted m k.books k.base) x.holds_of) below
-  where
-    none-there : (n : ℕ) (t : Transaction) → txn_at [] n ≡ Some t → ⊥
-    none-there n t e = go (n == 0) None refl e
-      where
-        go : (b : Bool) (o : Option Transaction) → o ≡ None → (if b then None else o) ≡ Some t → ⊥
-        go true o z q = cc
-        go false o z q = cc

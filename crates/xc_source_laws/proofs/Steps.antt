@@ -124,7 +124,7 @@ tick-keeps P cl to m k = kept-unless P _ m _ _ k (λ e. move-clock P cl m to (lt
 
 -- ---- safe records and splits
 
-room-for : (m : Machine) (more : ℕ) → clock_end m more ≡ None → m.time + more ≤ last_time
+pub room-for : (m : Machine) (more : ℕ) → clock_end m more ≡ None → m.time + more ≤ last_time
 room-for m more e = ltb-false last_time (m.time + more) (not-when _ _ e)
 
 safe-at : (P : Machine → List AcceptedTablet → Type 0) → Closed P → (m : Machine) (id : ℕ) (k : Kept P m) → OpenBook m k.books id
@@ -159,10 +159,10 @@ split-keeps P cl id at m k =
 
 -- ---- an abort
 
-abbrev OpenId : Machine → List AcceptedTablet → ℕ → Type 0
+abbrev pub OpenId : Machine → List AcceptedTablet → ℕ → Type 0
 OpenId m bs id = OpenBook m bs id
 
-all-open-still : (m u : Machine) (bs : List AcceptedTablet) (id : ℕ) (b : AcceptedTablet) (o : OpenAt bs id b) (r : Record)
+pub all-open-still : (m u : Machine) (bs : List AcceptedTablet) (id : ℕ) (b : AcceptedTablet) (o : OpenAt bs id b) (r : Record)
     → is_split r.kind ≡ false → (ids : List ℕ) → Each (OpenId m bs) ids → Each (OpenId u (grown_books o.seam r)) ids
 all-open-still m u bs id b o r n ids h =
     Each-weaker (OpenId m bs) (OpenId u (grown_books o.seam r)) (λ i p. (still-open m u bs id b o.seam r i n p).0) ids h
@@ -211,15 +211,15 @@ abort-keeps P cl n m k =
 -- ---- applies
 
 -- a transaction that may be applied on an open tablet
-record Ready (m : Machine) (bs : List AcceptedTablet) (n id : ℕ) : Type 0 where
-  t : Transaction
-  c : ℕ
-  book : AcceptedTablet
-  at : slice_get bs id ≡ Some book
-  opened : opens book ≡ true
-  may : MayApply m n t c book
+pub record Ready (m : Machine) (bs : List AcceptedTablet) (n id : ℕ) : Type 0 where
+  pub t : Transaction
+  pub c : ℕ
+  pub book : AcceptedTablet
+  pub at : slice_get bs id ≡ Some book
+  pub opened : opens book ≡ true
+  pub may : MayApply m n t c book
 
-abbrev IsReady : Machine → List AcceptedTablet → ℕ × ℕ → Type 0
+abbrev pub IsReady : Machine → List AcceptedTablet → ℕ × ℕ → Type 0
 IsReady m bs p = Ready m bs p.0 p.1
 
 applied-is : (m : Machine) (n id c : ℕ) (t : Transaction) (b : Tablet) → transaction m n ≡ Some t → commit_of t.stage ≡ Some c
@@ -235,13 +235,13 @@ applied-is m n id c t b e f g =
         option_map_or (λ t. logged id (apply_kind n t) (option_map_or (λ (b : Tablet). with_transaction n (taken_on b.header t) m)
         (slice_get m.tablets id) m)) o m
 
-abbrev apply-at : (P : Machine → List AcceptedTablet → Type 0) → Closed P
+abbrev pub apply-at : (P : Machine → List AcceptedTablet → Type 0) → Closed P
     → (m : Machine) (n id : ℕ) (k : Kept P m) (r : Ready m k.books n id)
     → Kept P (logged id (kind.Apply n r.c r.t.undone) (with_transaction n (taken_on r.book.header r.t) m))
 apply-at P cl m n id k r =
     move-apply P cl m n r.c r.t id r.book k (open-at m k.books id (record { book = r.book; at = r.at; opened = r.opened })) r.may
 
-ready-is : (m : Machine) (bs : List AcceptedTablet) (n id : ℕ) → IsMachine m bs → (r : Ready m bs n id)
+pub ready-is : (m : Machine) (bs : List AcceptedTablet) (n id : ℕ) → IsMachine m bs → (r : Ready m bs n id)
     → logged id (kind.Apply n r.c r.t.undone) (with_transaction n (taken_on r.book.header r.t) m) ≡ call.applied n id m
 ready-is m bs n id k r = applied-is m n id r.c r.t (tablet_of r.book) r.may.there r.may.commit (tablet-at m bs id r.book k r.at)
 
@@ -313,8 +313,8 @@ unit-closed = record {
 }
 
 -- it may be applied still, after another was
-ready-still : (m : Machine) (bs : List AcceptedTablet) (n id : ℕ) (k : IsMachine m bs) (r : Ready m bs n id) (p : ℕ × ℕ) → IsReady m bs p
-    → IsReady (logged id (kind.Apply n r.c r.t.undone) (with_transaction n (taken_on r.book.header r.t) m))
+pub ready-still : (m : Machine) (bs : List AcceptedTablet) (n id : ℕ) (k : IsMachine m bs) (r : Ready m bs n id) (p : ℕ × ℕ)
+    → IsReady m bs p → IsReady (logged id (kind.Apply n r.c r.t.undone) (with_transaction n (taken_on r.book.header r.t) m))
     (grown_books (open-at m bs id (record { book = r.book; at = r.at; opened = r.opened })).seam
     (next_record m (kind.Apply n r.c r.t.undone))) p
 ready-still m bs n id k r p q =
@@ -391,7 +391,7 @@ safes-keep P cl (id ∷ ids) m k o l =
     (all-open-still m (logged id (kind.Safe v) m) k.books id o.0.book at (next_record m (kind.Safe v)) refl ids o.1)
     (let z : length (id ∷ ids) ≡ suc (length ids) = refl in omega arith))
 
-applied-time : (ps : List (ℕ × ℕ)) (m : Machine) (bs : List AcceptedTablet) → IsMachine m bs → Each (IsReady m bs) ps
+pub applied-time : (ps : List (ℕ × ℕ)) (m : Machine) (bs : List AcceptedTablet) → IsMachine m bs → Each (IsReady m bs) ps
     → (fold (λ m' p. call.applied p.0 p.1 m') m ps).time ≡ m.time + length ps
 applied-time [] m bs k h = omega arith
 applied-time (p ∷ ps) m bs k h =
@@ -405,7 +405,7 @@ applied-time (p ∷ ps) m bs k h =
     subst (λ w. (fold (λ m' q. call.applied q.0 q.1 m') w ps).time ≡ m.time + length (p ∷ ps)) (ready-is m bs p.0 p.1 k r)
     (let z : length (p ∷ ps) ≡ suc (length ps) = refl in let y : u.time ≡ m.time + 1 = refl in omega arith)
 
-pending-ready : (m : Machine) (bs : List AcceptedTablet) → IsMachine m bs → Each (IsReady m bs) (pending m)
+pub pending-ready : (m : Machine) (bs : List AcceptedTablet) → IsMachine m bs → Each (IsReady m bs) (pending m)
 unfolding pending tablets_of
 pending-ready m bs k =
     let Known : ℕ × Transaction → Type 0 = λ p. transaction m p.0 ≡ Some p.1 in
@@ -443,10 +443,10 @@ pending-ready m bs k =
         go None q z = cc
         go (Some c) q z = ready-if m bs p.0 i p.1 c k w.0 e q w.1
 
-open-numbers : (m : Machine) (bs : List AcceptedTablet) → IsMachine m bs → Each (OpenId m bs) (open_tablets m)
+pub open-numbers : (m : Machine) (bs : List AcceptedTablet) → IsMachine m bs → Each (OpenId m bs) (open_tablets m)
 open-numbers m bs k = tablet-numbers m bs (λ p. is_open p.1) k (λ p e. e)
 
-finish-keeps : (P : Machine → List AcceptedTablet → Type 0) → Closed P → (m : Machine) → Kept P m → Kept P (call.finish m).1
+pub finish-keeps : (P : Machine → List AcceptedTablet → Type 0) → Closed P → (m : Machine) → Kept P m → Kept P (call.finish m).1
 finish-keeps P cl m k =
     kept-unless P _ m _ _ k (λ e.
     let one = none-or _ _ e in

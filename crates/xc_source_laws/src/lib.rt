@@ -5,7 +5,12 @@
 //! logs that a replication can take in whole.
 #![tactic(auto)]
 
+ghost use Rattle.xc_source_laws.specs.Finished.{FinishedLogsAreWhole};
 ghost use Rattle.xc_source_laws.specs.Laws.{LogsAreValid, NothingBreaks, LogsAgree, CommitsAreListed, RowsAreListed};
+
+mod workloads;
+
+pub use workloads::{generated_logs_are_whole, no_call_is_refused, workloads_fit};
 
 /// The logs are well-formed: their headers form trees, each record fits its tablet, and the limits hold.
 pub fn logs_are_valid()
@@ -33,4 +38,10 @@ pub fn commits_are_listed()
 /// then, each transaction in full, whether or not the source was finished.
 pub fn rows_are_listed()
     ensures { RowsAreListed }
+{}
+
+/// After a finish that is answered, the commits of the logs, without the tablet column, are all of the source's list,
+/// and the safe time at the ends of the logs is at or above each of them.
+pub fn finished_logs_are_whole()
+    ensures { FinishedLogsAreWhole }
 {}

@@ -8,15 +8,16 @@ use Rattle.xc_source.specs.declared.command.SourceCommand.{SourceCommand}
 use Rattle.xc_source_script.specs.declared.script.SourceScript.{SourceScript}
 use Rattle.xc_source_script.specs.Words.{command_numbers_fit, command_names_fit}
 use Rattle.xc_source_script.specs.SourceText.{is_root}
+use Rattle.xc_base.specs.declared.limits.TheConstants.{SCRIPT_LINES}
 
 abbrev pub is_allowed : SourceCommand → Bool
 is_allowed c = command_numbers_fit c && command_names_fit c
 
 pub record IsSourceScript (script : SourceScript) : Type 0 where
   pub start : script.start < 2 ^ 62
-  -- the roots are numbered in order, share out all hashes, and are at most 64
+  -- the roots are numbered in order, share out all hashes, and are at most MOST_TABLETS
   pub headers : are_headers script.roots ≡ true
   pub roots : list_all is_root script.roots ≡ true
   pub commands : list_all is_allowed script.commands ≡ true
   -- with the first line, the start and the last line
-  pub lines : length script.roots + length script.commands + 3 ≤ 65536
+  pub lines : length script.roots + length script.commands + 3 ≤ SCRIPT_LINES

@@ -24,6 +24,7 @@ use Rattle.xc_source_script.specs.declared.reading.Reading.{Reading}
 use Rattle.xc_source_script.specs.declared.script.SourceScript.{SourceScript}
 use Rattle.xc_source_script.specs.Kinds.{first_kind}
 use Rattle.xc_source_script.specs.Words.{SourceLine, First, Start, Root, Ask, End, line_of, numbers_fit, names_fit}
+use Rattle.xc_base.specs.declared.limits.TheConstants.{SCRIPT_LINES}
 
 pub record BadLine : Type 0 where
   pub line : ℕ
@@ -70,7 +71,7 @@ breaks_roots s l = false
 
 -- the rules beyond those that a line meets by itself
 abbrev pub later_kinds : Reading → SourceLine → List (Bool × SourceKind)
-later_kinds s l = (breaks_roots s l, kind.Header) ∷ (nat_le 65536 s.lines, kind.Limit) ∷ []
+later_kinds s l = (breaks_roots s l, kind.Header) ∷ (nat_le SCRIPT_LINES s.lines, kind.Limit) ∷ []
 
 abbrev pub kinds : Reading → SourceLine → List (Bool × SourceKind)
 kinds s l =
@@ -183,7 +184,7 @@ is_inner other = false
 
 -- with one line more that breaks no rule by itself and gives this reading, where there may be one
 abbrev pub forward : Reading → Reading → Result Reading SourceKind
-forward s after = if nat_le 65536 s.lines then Err kind.Limit else Ok after
+forward s after = if nat_le SCRIPT_LINES s.lines then Err kind.Limit else Ok after
 
 -- with a version, a start, a root and a command that stand by themselves and in their places
 abbrev pub with_version : Reading → Version → Result Reading SourceKind

@@ -24,6 +24,7 @@ use Rattle.xc_text.specs.declared.line.Version.{Version}
 use Rattle.xc_text.specs.declared.line.Version.TheVariants.{One, Two}
 use Rattle.xc_source_script.specs.Kinds.{judge}
 use Rattle.xc_source_script.specs.declared.kind.SourceKind.{SourceKind}
+use Rattle.xc_base.specs.declared.limits.TheConstants.{MOST_TABLETS, LAST_SUB}
 
 pub data SourceLine : Type 0 where
   -- the first line of a source script
@@ -130,7 +131,7 @@ line_of version words = if list_all is_word words then line_in version words els
 -- ---- numbers
 
 abbrev pub is_tablet : ℕ → Bool
-is_tablet id = nat_lt id 64
+is_tablet id = nat_lt id MOST_TABLETS
 
 abbrev pub is_hash : ℕ → Bool
 is_hash hash = nat_lt hash 65536
@@ -140,7 +141,7 @@ abbrev pub is_moment : ℕ → Bool
 is_moment time = nat_lt time (2 ^ 62)
 
 abbrev pub is_sub : ℕ → Bool
-is_sub sub = nat_le 1 sub && nat_le sub 64
+is_sub sub = nat_le 1 sub && nat_le sub LAST_SUB
 
 abbrev pub command_numbers_fit : SourceCommand → Bool
 command_numbers_fit (Write txn op) = is_txn txn

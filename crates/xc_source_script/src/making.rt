@@ -5,6 +5,7 @@ ghost use Rattle.std.specs.List.{list_all};
 ghost use Rattle.xc_source.specs.Commands.{made_from, step};
 ghost use Rattle.xc_source_script.specs.Allowed.{is_allowed, IsSourceScript};
 ghost use Rattle.xc_source_script.specs.Made.{made_of, Did, Makes, Runs};
+ghost use Rattle.xc_base.specs.declared.limits.TheConstants.{SCRIPT_LINES};
 
 use crate::script::SourceScript;
 use std::alloc::Global;
@@ -47,7 +48,7 @@ fn do_commands(
     first: u64,
 ) -> Result<(), MakeFail>
     requires allowed { list_all is_allowed commands.now ≡ true }
-    requires lines { first + length commands.now ≤ 65536 }
+    requires lines { first + length commands.now ≤ SCRIPT_LINES }
     ensures { Runs result universe.new (made_from first commands.now universe.old) }
 {
     let mut line = first;

@@ -7,7 +7,7 @@ ghost use Rattle.xc_source_script.specs.declared.kind.SourceKind.TheVariants.{Fo
 ghost use Rattle.xc_source_script.specs.declared.kind.Fail.TheVariants.{Bad};
 
 use crate::kind::{Fail, SourceKind};
-use xc_base::{NumberFail, read_number};
+use xc_base::{LAST_SUB, MOST_TABLETS, NumberFail, read_number};
 
 // The number that a word spells, where it is at most `most`.
 fn number_up_to(word: &[u8], most: u64) -> Result<Option<u64>, Fail>
@@ -25,7 +25,7 @@ fn number_up_to(word: &[u8], most: u64) -> Result<Option<u64>, Fail>
 pub(crate) fn tablet(word: &[u8]) -> Result<Option<u32>, Fail>
     ensures { MatchResult result (IsNumber is_tablet word.now) (λ e. (e ≡ Bad Form) × (number_of word.now ≡ None)) }
 {
-    match number_up_to(word, 63)? {
+    match number_up_to(word, MOST_TABLETS as u64 - 1)? {
         Some(id) => Ok(Some(id as u32)),
         None => Ok(None),
     }
@@ -62,7 +62,7 @@ pub(crate) fn transaction(word: &[u8]) -> Result<Option<u32>, Fail>
 pub(crate) fn subtransaction(word: &[u8]) -> Result<Option<u8>, Fail>
     ensures { MatchResult result (IsNumber is_sub word.now) (λ e. (e ≡ Bad Form) × (number_of word.now ≡ None)) }
 {
-    match number_up_to(word, 64)? {
+    match number_up_to(word, u64::from(LAST_SUB))? {
         Some(sub) if sub >= 1 => Ok(Some(sub as u8)),
         _ => Ok(None),
     }

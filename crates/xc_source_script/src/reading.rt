@@ -12,14 +12,11 @@ use crate::kind::{Fail, SourceKind};
 use crate::line::{read_root, read_start, read_version};
 use crate::script::{Roots, SourceCommands, SourceScript};
 use std::alloc::Global;
-use xc_base::Value;
+use xc_base::{SCRIPT_LINES, Value};
 use xc_record::{Header, Op};
 use xc_script::{are_words, pieces};
 use xc_source::SourceCommand;
 use xc_text::Version;
-
-// The most lines of a source script.
-const LINES_LIMIT: u64 = 65_536;
 
 // Which line may stand next.
 #[derive(Clone, Copy, PartialEq, Eq, Debug)]
@@ -254,10 +251,10 @@ impl Reading {
 
     // Whether there may be one line more.
     fn need_room(&self) -> Result<(), Fail>
-        ensures { MatchResult result (λ _. nat_le 65536 self.now.lines ≡ false) (λ e. (e ≡ Bad Limit)
-            × (nat_le 65536 self.now.lines ≡ true)) }
+        ensures { MatchResult result (λ _. nat_le SCRIPT_LINES self.now.lines ≡ false) (λ e. (e ≡ Bad Limit)
+            × (nat_le SCRIPT_LINES self.now.lines ≡ true)) }
     {
-        if self.lines >= LINES_LIMIT {
+        if self.lines >= SCRIPT_LINES {
             return Err(Fail::Bad(SourceKind::Limit));
         }
         Ok(())

@@ -21,7 +21,7 @@ returns-in-Commit c = rw c.in-Commit.is (did _ _ _ _ _ c.done-in-Commit.ensures 
 
 pub returns-in-Abort : goal.returns-in-Abort
 unfolding step
-returns-in-Abort c = rw c.in-Abort.is (did_in_part _ _ _ _ refl c.abort.ensures)
+returns-in-Abort c = rw c.in-Abort.is (did _ _ _ _ _ refl c.abort.ensures)
 
 pub returns-in-Apply : goal.returns-in-Apply
 unfolding step

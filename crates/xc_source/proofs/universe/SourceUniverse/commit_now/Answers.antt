@@ -1,29 +1,32 @@
-use Rattle.std.proofs.Common.{◌≡◌, ◌-◌, ◌<◌, length, arith, subst, sym, get_or}
+use Rattle.std.proofs.Common.{◌≡◌, ◌≤◌, ◌+◌, ap, arith, rules, length, inr}
 use Rattle.std.proofs.lemmas.Grind.{common_steps}
-use Rattle.xc_source.specs.Machine.{Machine}
-use Rattle.xc_source.proofs.AnswerLaws.{found-at, found-within, commit-free}
-use Rattle.xc_source.proofs.CallLaws.{commit-next}
-use Rattle.xc_source.proofs.WaitingLaws.{writes-within}
+use Rattle.std.proofs.lemmas.Option.{same_Some}
+use Rattle.xc_source.specs.Universe.{Logged}
+use Rattle.xc_source.specs.Holders.{changed}
+use Rattle.xc_source.specs.Calls.{committed}
+use Rattle.xc_source.proofs.UniverseLaws.{universe-set, same-writes, commits-late}
+use Rattle.xc_source.proofs.HolderLaws.{some-within}
 use Rattle.xc_source.proofs.universe.SourceUniverse.commit_now.Goals as goal
 
-pub returns-clause-ok : goal.returns-clause-ok
-returns-clause-ok c =
-    let free = commit-free c.args.txn c.args.self.now c.requires in (
-      grind (arith, common_steps),
-      commit-next c.args.txn c.args.self.now c.self.inside.journal c.step-commit.new.self c.self.inside.commits.items
-          c.list.new.commits.items c.self.inside.txns.items c.index_mut-t.result.now c.set_committed.new.self _ c.step-commit.result
-          c.self.view_is
-          (found-at c.args.self.now c.args.txn c.index_mut-t.result.now (free.0)
-          (subst (λ (x : Machine). c.index_mut-t.result.now ≡ get_or x.txns (c.args.txn - 1) c.index_mut-t.result.now) c.self.view_is
-          (grind (arith, common_steps))))
-          c.step-commit.ensures.step (grind (arith, common_steps)) c.step-commit.ensures.time c.set_committed.ensures
-          c.in_ok-list.ensures.ok,
-    )
+pub commit-requires-clause-late : goal.commit-requires-clause-late
+commit-requires-clause-late c =
+    commits-late c.self.inside.journal.time c.unwrap-commit.result c.args.txn c.self.inside.txns c.self.invariant
+    (let stamp : c.unwrap-commit.result ≡ c.self.inside.journal.time + 1 = grind (arith, common_steps) in omega (arith, stamp))
 
-pub set_committed-requires : goal.set_committed-requires
-set_committed-requires c = λ some.
-    let free = commit-free c.args.txn c.args.self.now c.requires in
-    let within : c.args.txn - 1 < length c.self.inside.txns.items =
-    subst (λ (x : Machine). c.args.txn - 1 < length x.txns) (sym c.self.view_is) (found-within c.args.self.now c.args.txn (free.0)) in
-    let w = writes-within c.self.inside.txns.items (c.args.txn - 1) c.index_mut-t.result.now within (grind (arith, common_steps)) in
-    omega (arith, w, some, c.self.invariant.timed, c.step-commit.ensures.time)
+pub at-requires-then-is_err-clause-begun : goal.at-requires-then-is_err-clause-begun
+at-requires-then-is_err-clause-begun c =
+    let same : c.commit.new.self ≡ c.self.inside.txns = search rules in
+    let l = ap length same in
+    let w = some-within c.self.inside.txns c.args.txn c.at.result.now c.at.ensures in
+    omega (arith, w.0, w.1, l)
+
+pub invariant_of-self-2 : goal.invariant_of-self-2
+invariant_of-self-2 c =
+    let stamp : c.unwrap-commit.result ≡ c.self.inside.journal.time + 1 = grind (arith, common_steps) in
+    let more : c.commit.new.self ≡ changed (committed c.unwrap-commit.result) c.args.txn c.self.inside.txns = search rules in
+    let later : c.self.inside.journal.time + 1 ≤ c.step.new.self.time =
+    (let s = ap (λ (j : Logged). j.time) c.step.ensures.step in omega (arith, s)) in
+    universe-set c.self.inside.journal.time c.step.new.self.time c.args.txn 0 (committed c.unwrap-commit.result) c.self.inside.txns _ more
+    same-writes (omega arith) (λ t k e. inr
+    (let z : c.unwrap-commit.result ≡ k = same_Some c.unwrap-commit.result k e in omega (arith, z, stamp, later)))
+    c.self.invariant

@@ -1,8 +1,8 @@
-use Rattle.std.proofs.Common.{◌≡◌, ◌+◌, ◌++◌, drop}
-use Rattle.std.specs.List.{enumerate_from}
-use Rattle.xc_source.specs.Waiting.{pending_by}
+use Rattle.std.proofs.Common.{◌≡◌, ◌++◌}
+use Rattle.std.specs.List.{flat_map}
+use Rattle.xc_source.specs.Waiting.{pending_at}
 use Rattle.xc_source.proofs.universe.SourceUniverse.pending_by.Given as goal
 
-abbrev pub invariant-loop-i : goal.invariant-loop-i
-invariant-loop-i l =
-    l.pairs.items ++ pending_by l.self (enumerate_from (l.i + 1) (drop l.i l.self.txns)) ≡ pending_by l.self (enumerate_from 1 l.self.txns)
+abbrev pub invariant-loop-txn : goal.invariant-loop-txn
+invariant-loop-txn l =
+    l.pairs.items ++ flat_map (pending_at l.self) l.txn-iterator ≡ flat_map (pending_at l.self) l.initial.txn-iterator

@@ -7,6 +7,6 @@ pub returns-in-Ok-clause-ok : goal.returns-in-Ok-clause-ok
 returns-in-Ok-clause-ok c = (
   grind (arith, common_steps),
   put-next c.args.op c.args.self.now c.self.inside.journal c.log.new.self c.self.inside.commits.items c.push_commit.new.commits.items
-      c.self.inside.txns.items c.in_ok-ops.ops c.in_ok-listed.listed c.owner-id.result _ c.self.view_is c.owner-id.ensures
+      c.self.inside.txns c.in_ok-ops.ops c.in_ok-listed.listed c.owner-id.result _ c.self.view_is c.owner-id.ensures
       c.in_ok-ops.ensures (c.in-Ok.ensures.ok).1 c.in_ok-listed.ensures (grind (arith, common_steps)) c.in_ok-push_commit.ensures.ok,
 )

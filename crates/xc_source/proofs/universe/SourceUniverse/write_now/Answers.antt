@@ -1,28 +1,34 @@
-use Rattle.std.proofs.Common.{◌≡◌, ◌-◌, arith, subst, get_or}
-use Rattle.std.proofs.lemmas.Grind.{common_steps}
+use Rattle.std.proofs.Common.{refl}
+use Rattle.std.proofs.Common.{◌≡◌, ◌∙◌, ap, subst, arith, true}
+use Rattle.std.proofs.Common.{rules}
+use Rattle.xc_record.specs.declared.record.Kind.TheVariants as kind
+use Rattle.xc_source.specs.Universe.{Logged, unlogged}
+use Rattle.xc_source.specs.Holders.{is_holder, changed}
+use Rattle.xc_source.proofs.AnswerLaws.{write-unheld}
+use Rattle.xc_source.proofs.CallLaws.{machine_of}
+use Rattle.xc_source.proofs.HolderLaws.{no-other}
 use Rattle.xc_source.specs.Machine.{Machine}
-use Rattle.xc_source.proofs.AnswerLaws.{found-at, write-free, live-at}
-use Rattle.xc_source.proofs.CallLaws.{write-next}
+use Rattle.xc_source.specs.Calls.{written}
+use Rattle.xc_source.proofs.UniverseLaws.{universe-set, same-stage, wrote-one, unlogged-logged}
 use Rattle.xc_source.proofs.universe.SourceUniverse.write_now.Goals as goal
 
-pub push_write-requires : goal.push_write-requires
-push_write-requires c =
-    let free = write-free c.args.txn c.args.op c.args.self.now c.requires in
-    live-at c.args.self.now c.args.txn c.index_mut-t.result.now
-    (found-at c.args.self.now c.args.txn c.index_mut-t.result.now (free.0)
-    (subst (λ (x : Machine). c.index_mut-t.result.now ≡ get_or x.txns (c.args.txn - 1) c.index_mut-t.result.now) c.self.view_is
-    (grind (arith, common_steps))))
-    (free.1)
+pub write-requires-clause-free : goal.write-requires-clause-free
+write-requires-clause-free c = λ n h.
+    no-other c.args.self.now c.args.txn c.args.op.key n (write-unheld c.args.txn c.args.op c.args.self.now c.requires)
+    (subst (λ (m : Machine). is_holder m.txns c.args.op.key n ≡ true) c.self.view_is h)
 
-pub returns-in-Ok-clause-ok : goal.returns-in-Ok-clause-ok
-returns-in-Ok-clause-ok c =
-    let free = write-free c.args.txn c.args.op c.args.self.now c.requires in (
-      grind (arith, common_steps),
-      write-next c.args.txn c.args.op c.args.self.now c.self.inside.journal c.log.new.self c.self.inside.commits.items
-          c.self.inside.txns.items c.index_mut-t.result.now c.push_write.new.self c.in_ok-ops.ops c.owner-id.result c.current-sub.result
-          c.self.view_is
-          (found-at c.args.self.now c.args.txn c.index_mut-t.result.now (free.0)
-          (subst (λ (x : Machine). c.index_mut-t.result.now ≡ get_or x.txns (c.args.txn - 1) c.index_mut-t.result.now) c.self.view_is
-          (grind (arith, common_steps))))
-          c.owner-id.ensures c.in_ok-push_write.ensures.ok c.in_ok-ops.ensures c.current-sub.ensures.value (c.in-Ok.ensures.ok).1,
-    )
+pub returns-then-is_err-clause-err : goal.returns-then-is_err-clause-err
+returns-then-is_err-clause-err c =
+    let same : c.write.new.self ≡ c.self.inside.txns = search rules in
+    ap (λ j. machine_of j c.self.inside.commits.items c.write.new.self)
+    (c.unlog.ensures ∙ ap (unlogged c.owner-id.result) c.in_ok-time.ensures.ok.1
+    ∙ unlogged-logged c.owner-id.result (kind.Intent c.args.txn c.current-sub.result c.in_ok-ops.ops) c.self.inside.journal)
+    ∙ ap (machine_of c.self.inside.journal c.self.inside.commits.items) same ∙ c.self.view_is
+
+pub invariant_of-self-else-is_err : goal.invariant_of-self-else-is_err
+invariant_of-self-else-is_err c =
+    let more : c.write.new.self ≡ changed (written c.args.op) c.args.txn c.self.inside.txns = search rules in
+    universe-set c.self.inside.journal.time c.log.new.self.time c.args.txn 1 (written c.args.op) c.self.inside.txns _ more
+    (wrote-one c.args.op)
+    (let s = ap (λ (j : Logged). j.time) c.in_ok-time.ensures.ok.1 in omega (arith, s))
+    (same-stage (written c.args.op) _ (λ t. refl)) c.self.invariant

@@ -28,6 +28,20 @@ shows 'logs that are not there fail at their first read' 5 '' replay none script
 shows 'a script that is not there fails at its first read' 5 '' replay logs none
 shows 'a folder cannot be read' 5 '' replay . script
 shows 'no words form no command' 1 'usage: the words after xcr do not form a command'
+shows 'a word that is no UTF-8 is in no command' 1 'usage: the words after xcr do not form a command' \
+    audit "$(printf 'logs\377')"
+
+mkfifo slow || exit 1
+python3 -c '
+import os, sys, time
+out = os.open("slow", os.O_WRONLY)
+for byte in open("logs", "rb").read():
+    os.write(out, bytes([byte]))
+    time.sleep(0.001)
+' &
+shows 'a file that gives one byte at a time is read to its end' 0 'log 0 2 11 open
+agrees 1' audit slow
+wait
 
 mkfifo pipe || exit 1
 found=$(timeout 20 "$program" audits pipe)
@@ -36,6 +50,16 @@ if [ "$code" -eq 1 ]; then
     echo 'ok: no file is opened where the words form no command'
 else
     echo "FAILED: no file is opened where the words form no command: status $code for 1"
+    failed=1
+fi
+
+mkfifo 0 1 || exit 1
+found=$(timeout 20 "$program" gen 0 1)
+code=$?
+if [ "$code" -eq 0 ] && [ "$found" = 'gen 0 1 records 6 commits 0 safe 3 rows 0 digest 0' ]; then
+    echo 'ok: no file is opened for a generated workload'
+else
+    echo "FAILED: no file is opened for a generated workload: status $code for 0, output: $found"
     failed=1
 fi
 

@@ -1,5 +1,5 @@
 -- What was written of a session, command by command.
-use Rattle.std.proofs.Common.{◌≡◌, ℕ, suc, ◌<◌, Bool, true, false, List, [], ◌∷◌, ◌++◌, length, map, drop, get_or, refl, sym, ap, ◌∙◌}
+use Rattle.std.proofs.Common.{◌≡◌, ℕ, suc, ◌<◌, Bool, true, false, List, [], ◌∷◌, ◌++◌, length, drop, get_or, refl, sym, ap, ◌∙◌}
 use Rattle.std.proofs.Common.{subst, append_assoc, append-nil, add-one, drop-cons, ◌+◌, Option, None, Some}
 use Rattle.std.specs.Prelude.{◌||◌, IfSome, if◌then◌else◌}
 use Rattle.std.specs.List.{list_any}
@@ -8,7 +8,6 @@ use Rattle.std.proofs.KnownBytes.{Appends-trans}
 use Rattle.std.proofs.Math.Bool.{or_assoc, or-false}
 use Rattle.std.proofs.lemmas.List.{length-map}
 use Rattle.xc_base.specs.Told.{IsPrefix}
-use Rattle.xc_base.specs.declared.status.Status.{Status}
 use Rattle.xc_base.specs.declared.status.Status.TheVariants as status
 use Rattle.xc_model.proofs.SessionLaws.{steps-keep, sessions-start}
 use Rattle.xc_record.specs.declared.record.Header.{Header}

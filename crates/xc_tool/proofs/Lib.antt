@@ -2,6 +2,8 @@ pub mod StepLines
 pub mod CommandRuns
 pub mod Pasts
 pub mod ReportLine
+pub mod Generated
+pub mod Workloads
 pub mod Statuses
 pub mod Upgrades
 pub mod Makes

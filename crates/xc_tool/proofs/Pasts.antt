@@ -1,5 +1,5 @@
 -- What is written by a replay shows what the source committed.
-use Rattle.std.proofs.Common.{◌≡◌, ℕ, ◌≤◌, ◌^◌, Bool, true, false, List, [], ◌∷◌, ◌++◌, length, Option, Some, None, Result, Ok, Err, refl}
+use Rattle.std.proofs.Common.{◌≡◌, ℕ, ◌^◌, Bool, true, false, List, [], ◌∷◌, length, Option, Some, None, Result, Ok, Err, refl}
 use Rattle.std.proofs.Common.{sym, ap, ◌∙◌, subst, append-nil, max, if◌then◌else◌, arith}
 use Rattle.std.specs.Prelude.{nat_lt}
 use Rattle.std.specs.List.{AllByRecursion}
@@ -13,7 +13,7 @@ use Rattle.xc_record.specs.declared.session.PollAnswer.{PollAnswer}
 use Rattle.xc_record.specs.declared.session.PollAnswer.TheVariants as poll
 use Rattle.xc_record.specs.Agreement.{Disagreement, disagreement}
 use Rattle.xc_record.specs.Session.{Session, IsSession, safe_now, start}
-use Rattle.xc_record.specs.Step.{step, open_step, poll_answer, poll_step, stop_step, prune_step, read_at_line, refuses, is_change}
+use Rattle.xc_record.specs.Step.{step, open_step, poll_answer, poll_step, stop_step, is_change}
 use Rattle.xc_record.specs.Step.{lines_from}
 use Rattle.xc_record.specs.Valid.{is_valid}
 use Rattle.xc_model.proofs.SessionLaws.{steps-keep, steps-rise, stays-closed, sessions-start}
@@ -26,10 +26,8 @@ use Rattle.xc_script.specs.declared.script.Script.{Script}
 use Rattle.xc_text.proofs.ReadBack.{read_is_spelled}
 use Rattle.xc_text.specs.LogText.{BadLine, logs_of}
 use Rattle.xc_tool.specs.declared.refusal.Refusal.{Refusal}
-use Rattle.xc_tool.specs.declared.refusal.Refusal.TheVariants.{LogsTooLong, BadLogs, Disagree, ScriptTooLong, BadScript}
-use Rattle.xc_tool.specs.declared.words.Form.{Form}
-use Rattle.xc_tool.specs.declared.words.Form.TheVariants.{Replay}
-use Rattle.xc_tool.specs.Headline.{Follows, Leads, IsShown, Shows, IsReplay, ReplaysShowThePast}
+use Rattle.xc_tool.specs.declared.refusal.Refusal.TheVariants.{LogsTooLong, ScriptTooLong}
+use Rattle.xc_tool.specs.Headline.{Leads, IsShown, Shows, IsReplay, ReplaysShowThePast}
 use Rattle.xc_tool.specs.Outcome.{output_for, logs_input, logs_in, logs_spelled, agreed, unless_contradicted, script_input, script_in}
 use Rattle.xc_tool.specs.Outcome.{script_spelled, replay_input, replay_output, refusal_output}
 use Rattle.xc_tool.proofs.Statuses.{never_ended}

@@ -1,5 +1,5 @@
 -- The numbers of a report.
-use Rattle.std.proofs.Common.{◌≡◌, ℕ, zero, suc, ◌+◌, ◌<◌, List, [], ◌∷◌, ◌++◌, map, take, length, Bool, Option, Some, refl, sym, ap, ◌∙◌}
+use Rattle.std.proofs.Common.{◌≡◌, ℕ, zero, suc, ◌+◌, ◌<◌, List, [], ◌∷◌, ◌++◌, map, take, length, Bool, refl, sym, ap, ◌∙◌}
 use Rattle.std.proofs.Common.{subst, add-one, arith}
 use Rattle.std.specs.Prelude.{slice_get, is_some}
 use Rattle.std.specs.Option.{option_map_or}
@@ -8,8 +8,8 @@ use Rattle.std.proofs.lemmas.List.{map-append, length-map}
 use Rattle.xc_record.specs.declared.record.Logs.{Logs}
 use Rattle.xc_record.specs.declared.session.Command.TheVariants as command
 use Rattle.xc_record.specs.declared.session.Line.TheVariants as line
-use Rattle.xc_record.specs.Session.{Session, Position, IsSession, position, new_position, places_of, safe_now}
-use Rattle.xc_record.specs.Step.{open_step, report_line}
+use Rattle.xc_record.specs.Session.{Session, Position, position, new_position, safe_now}
+use Rattle.xc_record.specs.Step.{open_step}
 use Rattle.xc_poller.specs.Poller.{position_of}
 use Rattle.xc_target.specs.Stands.{StandsForSession}
 use Rattle.xc_target.specs.Target.{TargetState}

@@ -17,11 +17,11 @@ use Rattle.xc_tool.specs.declared.refusal.Refusal.{Refusal}
 use Rattle.xc_tool.specs.declared.refusal.Refusal.TheVariants.{LogsTooLong, BadLogs, Disagree, ScriptTooLong, BadScript}
 use Rattle.xc_tool.specs.declared.refusal.Refusal.TheVariants.{SourceTooLong, BadSource, RefusedCommand}
 use Rattle.xc_tool.specs.declared.words.Form.{Form}
-use Rattle.xc_tool.specs.declared.words.Form.TheVariants.{Audit as AuditForm, Make, Replay, Upgrade}
+use Rattle.xc_tool.specs.declared.words.Form.TheVariants.{Audit as AuditForm, Gen, Make, Replay, Upgrade}
 use Rattle.xc_tool.specs.Outcome.{refusal_output, refusal_status, output_for, replay_input, replay_output, audit_input, audit_in}
 use Rattle.xc_tool.specs.Outcome.{unless_disagree, audit_output, upgrade_input, upgrade_output, reads_of, logs_input, logs_in, logs_spelled}
 use Rattle.xc_tool.specs.Outcome.{agreed, unless_contradicted, script_input, script_spelled, script_in, usage_output, RefusesLogs, InOrder}
-use Rattle.xc_tool.specs.Outcome.{StopsInOrder, IsUsage, make_in, make_input, make_output, source_spelled, unless_refused}
+use Rattle.xc_tool.specs.Outcome.{StopsInOrder, IsUsage, make_in, make_input, make_output, source_spelled, unless_refused, gen_output}
 use Rattle.xc_source.specs.Machine.{Machine}
 use Rattle.xc_source.specs.declared.fail.SourceFail.{SourceFail}
 use Rattle.xc_source_script.specs.Made.{made_of}
@@ -79,6 +79,7 @@ usage_only (Some AuditForm) a b e =
     absurd (not_usage (audit_input a) audit_output (λ x e. not_end _ status.Usage ((λ h. cc), (λ h. cc)) e) e)
 usage_only (Some Upgrade) a b e = absurd (not_usage (upgrade_input a) upgrade_output (λ x h. cc) e)
 usage_only (Some Make) a b e = absurd (not_usage (make_input b) make_output (λ x h. cc) e)
+usage_only (Some (Gen number size)) a b e = cc
 
 pub usage_ran : (form : Option Form) (reads : Reads) (result : Status) (logs script out : Stream)
     → Ran (Is (output_for form)) reads result logs script out → result ≡ status.Usage → form ≡ None
@@ -293,6 +294,11 @@ pub make_in_order : (made : Machine) (reads : Reads) (result : Status) (logs scr
     → Wrote (make_output made) ⊥ result out → InOrder reads result logs script
 make_in_order made reads result logs script out wrote =
     written_in_order (make_output made) reads result logs script out (not_refused false) (λ e. cc) wrote
+
+pub gen_in_order : (number size : ℕ) (reads : Reads) (result : Status) (logs script out : Stream)
+    → Wrote (gen_output number size) ⊥ result out → InOrder reads result logs script
+gen_in_order number size reads result logs script out wrote =
+    written_in_order (gen_output number size) reads result logs script out (not_refused false) (λ e. cc) wrote
 
 -- the input stopped, and its line was written
 pub ended_in_order : (reads : Reads) (s : Stop Refusal) (result : Status) (logs script out : Stream) → StopsInOrder reads s logs script

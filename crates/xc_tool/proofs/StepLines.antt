@@ -1,7 +1,7 @@
 -- How single commands are answered.
-use Rattle.std.proofs.Common.{◌≡◌, ℕ, ◌<◌, ◌≤◌, Bool, true, false, List, [], ◌∷◌, ◌++◌, map, length, Option, Some, None, Result, Ok, Err}
+use Rattle.std.proofs.Common.{◌≡◌, ℕ, ◌<◌, ◌≤◌, Bool, true, false, List, [], ◌∷◌, map, length, Option, Some, None, Result, Ok, Err}
 use Rattle.std.proofs.Common.{refl, sym, ap, ◌∙◌, subst, append-nil, max, arith}
-use Rattle.std.specs.Prelude.{if◌then◌else◌, IfOk, nat_lt, not, ◌==◌}
+use Rattle.std.specs.Prelude.{IfOk, nat_lt, not, ◌==◌}
 use Rattle.std.specs.List.{list_any, filter_map, cons_option}
 use Rattle.std.specs.Option.{option_map}
 use Rattle.std.proofs.Math.Bool.{or-false}
@@ -12,12 +12,11 @@ use Rattle.xc_record.specs.declared.session.Command.TheVariants as command
 use Rattle.xc_record.specs.declared.session.Line.{Line}
 use Rattle.xc_record.specs.declared.session.Line.TheVariants as line
 use Rattle.xc_record.specs.declared.session.PollAnswer.{PollAnswer}
-use Rattle.xc_record.specs.declared.session.PollAnswer.TheVariants as poll
 use Rattle.xc_record.specs.Rows.{row, rows}
 use Rattle.xc_record.specs.Session.{Session, IsSession, position, safe_now}
 use Rattle.xc_record.specs.Valid.{is_valid}
 use Rattle.xc_record.specs.declared.record.Header.{Header}
-use Rattle.xc_record.specs.Step.{step, open_step, poll_answer, poll_step, stop_step, is_change, refuses, row_lines, halt_lines, drained}
+use Rattle.xc_record.specs.Step.{step, open_step, poll_answer, poll_step, stop_step, is_change, row_lines, drained}
 use Rattle.xc_record.specs.Step.{with_position, acknowledge, set_back, read_at_line}
 use Rattle.xc_model.proofs.SessionLaws.{is-open, steps-keep}
 use Rattle.xc_model.proofs.TimeLaws.{failover-closes}
@@ -34,7 +33,6 @@ use Rattle.xc_target.specs.Target.{TargetState, FitsFeed}
 use Rattle.xc_record.specs.Accepted.{AcceptedTablet, accepted_tablets, halt}
 use Rattle.xc_target.specs.declared.answers.Halt.{Halt}
 use Rattle.xc_tool.specs.Answers.{Kept, KeptAlone, IsLine, IsAnswer, IsTold, row_line, halt_line}
-use Rattle.xc_tool.specs.declared.answer.Unanswered.{Unanswered}
 
 -- a closed session names its closing time where it is to change
 pub closed-line : (logs : Logs) (m : Session) (c : Command) (t : ℕ) (new : TargetState) → is_change c ≡ true → Refused logs m t new

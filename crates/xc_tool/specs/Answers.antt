@@ -6,7 +6,7 @@
 -- The rest is what single functions answer; what answers a command doesn't rest on it.
 --     IsTold line text halted      the text is that of the line
 --     IsRestored logs m t text halted      the text is that of a failover at t, which shows the rows at the safe time of m
-use Rattle.std.specs.Prelude.{◌≡◌, ℕ, Bool, false, List, [], ◌∷◌, Option, Result, Ok, Err, length}
+use Rattle.std.specs.Prelude.{◌≡◌, ℕ, Bool, false, List, [], ◌∷◌, Option, Result, Ok, length}
 use Rattle.std.specs.List.{list_any}
 use Rattle.xc_record.specs.declared.record.Header.{Header}
 use Rattle.xc_record.specs.declared.record.Logs.{Logs}

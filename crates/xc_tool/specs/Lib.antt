@@ -3,7 +3,9 @@ pub mod AuditLines
 pub mod Steps
 pub mod Answers
 pub mod Sources
+pub mod Generated
 pub mod Outcome
 pub mod Headline
 pub mod Upgrades
 pub mod Makes
+pub mod Workloads

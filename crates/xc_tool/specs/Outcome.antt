@@ -4,9 +4,10 @@
 --     reads_of form      which sources the command reads
 --     line_of refusal, refusal_status refusal      the line that a refusal writes, and its status
 --     InOrder reads result logs script      a refusal came in the order of work
-use Rattle.std.specs.Prelude.{◌≡◌, ◌⊎◌, ℕ, ◌^◌, true, false, if◌then◌else◌, List, ◌++◌, length, codes, decimal, Option, Some, None, Result}
+use Rattle.std.specs.Prelude.{◌≡◌, ◌⊎◌, ℕ, true, false, if◌then◌else◌, List, ◌++◌, length, codes, decimal, Option, Some, None, Result}
 use Rattle.std.specs.Prelude.{Ok, Err}
 use Rattle.std.specs.List.{list_any}
+use Rattle.xc_base.specs.declared.limits.TheConstants.{LOGS_BYTES, SCRIPT_BYTES}
 use Rattle.xc_base.specs.declared.status.Status.{Status}
 use Rattle.xc_base.specs.declared.status.Status.TheVariants as status
 use Rattle.xc_run.specs.declared.stop.Stop.{Stop}
@@ -27,13 +28,15 @@ use Rattle.xc_tool.specs.declared.refusal.Refusal.{Refusal}
 use Rattle.xc_tool.specs.declared.refusal.Refusal.TheVariants.{LogsTooLong, BadLogs, Disagree, ScriptTooLong, BadScript}
 use Rattle.xc_tool.specs.declared.refusal.Refusal.TheVariants.{SourceTooLong, BadSource, RefusedCommand}
 use Rattle.xc_tool.specs.declared.words.Form.{Form}
-use Rattle.xc_tool.specs.declared.words.Form.TheVariants.{Audit as AuditForm, Make, Replay, Upgrade}
+use Rattle.xc_tool.specs.declared.words.Form.TheVariants.{Audit as AuditForm, Gen, Make, Replay, Upgrade}
 use Rattle.xc_tool.specs.AuditLines.{agree_name, audit_text, is_halted}
+use Rattle.xc_tool.specs.Generated.{summary_line, summary_of}
 use Rattle.xc_script.specs.declared.script.Script.{Script}
 use Rattle.xc_script.specs.Kinds.{kind_name as script_kind_name}
 use Rattle.xc_script.specs.Lines.{lines_text, is_halt}
 use Rattle.xc_script.specs.ScriptText.{BadLine as BadScriptLine, script_of}
 use Rattle.xc_source.specs.Machine.{Machine, logs_of as made_logs}
+use Rattle.xc_source.specs.Workload.{generated}
 use Rattle.xc_source.specs.declared.fail.SourceFail.{SourceFail}
 use Rattle.xc_source_script.specs.Kinds.{kind_name as source_kind_name}
 use Rattle.xc_source_script.specs.Made.{made_of}
@@ -67,7 +70,7 @@ logs_in text = do
 
 -- the logs of a source, where their tablets agree
 abbrev pub logs_input : List ℕ → Result Logs Refusal
-logs_input = within (2 ^ 26) LogsTooLong logs_in
+logs_input = within LOGS_BYTES LogsTooLong logs_in
 
 -- the audit, where the tablets agree
 abbrev pub unless_disagree : Result Audit Disagreement → Result Audit Refusal
@@ -81,11 +84,11 @@ audit_in text = do
 
 -- the audit of the logs of a source, whatever they hold, where their tablets agree
 abbrev pub audit_input : List ℕ → Result Audit Refusal
-audit_input = within (2 ^ 26) LogsTooLong audit_in
+audit_input = within LOGS_BYTES LogsTooLong audit_in
 
 -- the logs of a source, whatever they hold
 abbrev pub upgrade_input : List ℕ → Result Logs Refusal
-upgrade_input = within (2 ^ 26) LogsTooLong (λ text. logs_spelled (logs_of text))
+upgrade_input = within LOGS_BYTES LogsTooLong (λ text. logs_spelled (logs_of text))
 
 abbrev pub script_spelled : Result Script BadScriptLine → Result Script Refusal
 script_spelled (Ok script) = Ok script
@@ -96,7 +99,7 @@ script_in sources text = script_spelled (script_of sources text)
 
 -- the script of a source, for logs of so many tablets
 abbrev pub script_input : ℕ → List ℕ → Result Script Refusal
-script_input sources = within (2 ^ 20) ScriptTooLong (script_in sources)
+script_input sources = within SCRIPT_BYTES ScriptTooLong (script_in sources)
 
 abbrev pub source_spelled : Result SourceScript BadSourceLine → Result SourceScript Refusal
 source_spelled (Ok script) = Ok script
@@ -114,7 +117,7 @@ make_in text = do
 
 -- what a source script makes
 abbrev pub make_input : List ℕ → Result Machine Refusal
-make_input = within (2 ^ 20) SourceTooLong make_in
+make_input = within SCRIPT_BYTES SourceTooLong make_in
 
 -- ---- the commands of the command line, each in its order of work
 
@@ -163,6 +166,10 @@ make_run logs script = do
   m ← make_input script
   Ok (make_output m)
 
+-- of a generated workload, from nothing that is read
+abbrev pub gen_output : ℕ → ℕ → Output
+gen_output number size = record { text = summary_line number size (summary_of (generated number size)); status = status.Ok }
+
 abbrev pub usage_output : Output
 usage_output = record { text = codes "usage: the words after xcr do not form a command\n"; status = status.Usage }
 
@@ -172,6 +179,7 @@ run_of (Some Replay) logs script = replay_run logs script
 run_of (Some AuditForm) logs script = audit_run logs script
 run_of (Some Upgrade) logs script = upgrade_run logs script
 run_of (Some Make) logs script = make_run logs script
+run_of (Some (Gen number size)) logs script = Ok (gen_output number size)
 
 abbrev pub reads_of : Option Form → Reads
 reads_of None = record { logs = false; script = false }
@@ -179,6 +187,7 @@ reads_of (Some Replay) = record { logs = true; script = true }
 reads_of (Some AuditForm) = record { logs = true; script = false }
 reads_of (Some Upgrade) = record { logs = true; script = false }
 reads_of (Some Make) = record { logs = false; script = true }
+reads_of (Some (Gen number size)) = record { logs = false; script = false }
 
 -- ---- the line of a refusal, and the statuses
 

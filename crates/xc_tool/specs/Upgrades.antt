@@ -1,7 +1,8 @@
 -- What an upgrade keeps.
 --     UpgradeKeepsLogs      the text that is written for logs is read as these logs
 --     UpgradeKeepsAudit      an audit of that text says what an audit of the first text says
-use Rattle.std.specs.Prelude.{◌≡◌, ℕ, ◌≤◌, ◌^◌, List, length, Some, Ok}
+use Rattle.std.specs.Prelude.{◌≡◌, ℕ, ◌≤◌, List, length, Some, Ok}
+use Rattle.xc_base.specs.declared.limits.TheConstants.{LOGS_BYTES}
 use Rattle.xc_base.specs.declared.status.Status.TheVariants as status
 use Rattle.xc_record.specs.declared.record.Logs.{Logs}
 use Rattle.xc_run.specs.Ran.{Output}
@@ -20,5 +21,5 @@ audited = output_for (Some Audit)
 
 -- of logs that are read, where what is written is not too long to be read again
 abbrev pub UpgradeKeepsAudit : Type 0
-UpgradeKeepsAudit = (logs script : List ℕ) → (upgraded logs script).status ≡ status.Ok → length (upgraded logs script).text ≤ 2 ^ 26
+UpgradeKeepsAudit = (logs script : List ℕ) → (upgraded logs script).status ≡ status.Ok → length (upgraded logs script).text ≤ LOGS_BYTES
     → audited (upgraded logs script).text script ≡ audited logs script

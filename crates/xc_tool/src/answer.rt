@@ -11,15 +11,15 @@ use xc_target::Halt;
 
 /// The lines that answer a command, as they are written.
 #[derive(Drop, Debug)]
-pub struct Answer {
-    pub text: Bytes,
+pub(crate) struct Answer {
+    pub(crate) text: Bytes,
     /// One of them tells of a break of the order rules.
-    pub halted: bool,
+    pub(crate) halted: bool,
 }
 
 /// Why a command has no answer.
 #[derive(Clone, Copy, PartialEq, Eq, Debug)]
-pub enum Unanswered {
+pub(crate) enum Unanswered {
     /// The feed failed, and counted it.
     ReadFault,
     /// Memory was refused.
@@ -27,7 +27,10 @@ pub enum Unanswered {
 }
 
 /// The answer that is one line, where there is one.
-pub fn line_answer(alloc: Global, line: Result<Line, Unanswered>) -> Result<Answer, Unanswered>
+pub(crate) fn line_answer(
+    alloc: Global,
+    line: Result<Line, Unanswered>,
+) -> Result<Answer, Unanswered>
     ensures told { IfOk result (λ a. IsTold line a.text a.halted) }
     ensures read_fault { IsErrOf result Unanswered.ReadFault → line ≡ Err Unanswered.ReadFault }
 {
@@ -43,13 +46,17 @@ pub fn line_answer(alloc: Global, line: Result<Line, Unanswered>) -> Result<Answ
 }
 
 /// The answer of a first line and a line for each row.
-pub fn rows_answer(alloc: Global, first: Line, rows: &[(Key, Value)]) -> Result<Answer, Unanswered>
+pub(crate) fn rows_answer(
+    alloc: Global,
+    first: Line,
+    rows: &[(Key, Value)],
+) -> Result<Answer, Unanswered>
     requires { is_halt first ≡ false }
     ensures told { IfOk result (λ a. (a.text ≡ lines_text (first ∷ map row_line rows.now)) × (a.halted ≡ false)) }
     ensures memory { IsErrOf result Unanswered.ReadFault → ⊥ }
 {
     let mut text = Bytes::new(alloc);
-    match print_rows(alloc, &first, rows, &mut text) {
+    match print_headed(alloc, &first, rows, &mut text) {
         Ok(()) => Ok(Answer {
             text,
             halted: false,
@@ -58,7 +65,7 @@ pub fn rows_answer(alloc: Global, first: Line, rows: &[(Key, Value)]) -> Result<
     }
 }
 
-fn print_rows(
+fn print_headed(
     alloc: Global,
     first: &Line,
     rows: &[(Key, Value)],
@@ -67,6 +74,17 @@ fn print_rows(
     ensures { IfOk result (λ _. text.new ≡ text.old ++ lines_text (first.now ∷ map row_line rows.now)) }
 {
     print_line(alloc, first, text)?;
+    print_rows(alloc, rows, text)
+}
+
+/// Puts a line for each row last.
+pub(crate) fn print_rows(
+    alloc: Global,
+    rows: &[(Key, Value)],
+    text: &mut Bytes,
+) -> Result<(), NoMemory>
+    ensures { IfOk result (λ _. text.new ≡ text.old ++ lines_text (map row_line rows.now)) }
+{
     for row in rows {
         let line = Line::Row {
             key: row.0,
@@ -78,7 +96,7 @@ fn print_rows(
 }
 
 /// The answer of a drain that came to the safe time `t`: a line of its own, and one for each halt.
-pub fn halts_answer(alloc: Global, t: u64, halts: &[Halt]) -> Result<Answer, Unanswered>
+pub(crate) fn halts_answer(alloc: Global, t: u64, halts: &[Halt]) -> Result<Answer, Unanswered>
     ensures told { IfOk result (λ a. (a.text ≡ lines_text (Line.Drain t ∷ map halt_line halts.now))
         × (a.halted ≡ not (length halts.now == 0))) }
     ensures memory { IsErrOf result Unanswered.ReadFault → ⊥ }

@@ -11,12 +11,12 @@ use crate::steps::{end, take_audit};
 use crate::words::Form;
 use std::alloc::{AllocError, Global};
 use xc_agree::{Audit, End, EndState};
-use xc_base::{Sink, SinkFail, Source, Status, write_all};
+use xc_base::{Sink, Source, Status, write_all};
 use xc_record::Break;
 use xc_script::break_name;
 
 /// `audit LOGS`, which is given no script: any script is as it was.
-pub fn audit<L: Source, O: Sink>(alloc: Global, logs: &mut L, out: &mut O) -> Status
+pub(crate) fn audit<L: Source, O: Sink>(alloc: Global, logs: &mut L, out: &mut O) -> Status
     ensures ran { (script : Stream) → IsUntouched script
         → Ran (Is (output_for (Some Form.Audit))) (reads_of (Some Form.Audit)) result
         (stream L.left L.faults logs.old logs.new) script (stream O.written O.faults out.old out.new) }
@@ -39,8 +39,7 @@ fn print_audit<O: Sink>(alloc: Global, audit: &Audit, out: &mut O) -> Status
     match write_all(out, text.as_bytes()) {
         Ok(()) if any_is_halted(ends) => Status::Halted,
         Ok(()) => Status::Ok,
-        Err(SinkFail::Failed) => Status::WriteFault,
-        Err(SinkFail::NoMemory) => Status::NoMemory,
+        Err(fail) => Status::from(fail),
     }
 }
 

@@ -18,7 +18,7 @@ use xc_record::{Command, Line, PollAnswer};
 use xc_target::{NotReadable, PruneFail, Target, TargetFail};
 
 /// Does at the target what the command asks, and answers it. The target's source tablets are `sources`.
-pub fn answer<F: Feed>(
+pub(crate) fn answer<F: Feed>(
     alloc: Global,
     target: &mut Target,
     feed: &mut F,

@@ -2,6 +2,7 @@
 ghost use Rattle.xc_tool.specs.Headline.{ReplaysShowThePast};
 ghost use Rattle.xc_tool.specs.Makes.{MadeLogsShowCommits};
 ghost use Rattle.xc_tool.specs.Upgrades.{UpgradeKeepsLogs, UpgradeKeepsAudit};
+ghost use Rattle.xc_tool.specs.Workloads.{WorkloadsShowCommits};
 
 /// The text that an upgrade writes is read as the logs of the text that it was made from, so it has the same audit.
 pub fn an_upgrade_keeps_the_audit()
@@ -23,4 +24,11 @@ pub fn replays_show_the_past()
 /// accepted, each in full, none later: what a replay of them shows.
 pub fn made_logs_show_commits()
     ensures { MadeLogsShowCommits }
+{}
+
+/// Whatever number and size a workload has, the line that is printed of it says what its source committed: the tablets
+/// agree, no record breaks an order rule, and the rows that it counts and digests are the fold of the commits up to the
+/// safe time that it names, each in full, none later.
+pub fn workloads_show_commits()
+    ensures { WorkloadsShowCommits }
 {}

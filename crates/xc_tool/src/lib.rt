@@ -4,6 +4,7 @@
 mod answer;
 mod audit;
 mod commands;
+mod generate;
 mod laws;
 mod make;
 mod quiet;
@@ -15,7 +16,10 @@ mod top;
 mod upgrade;
 mod words;
 
-pub use laws::{an_upgrade_keeps_the_audit, made_logs_show_commits, replays_show_the_past};
+pub use laws::{
+    an_upgrade_keeps_the_audit, made_logs_show_commits, replays_show_the_past,
+    workloads_show_commits,
+};
 pub use quiet::run_quiet;
 pub use refusal::Refusal;
 pub use top::run;

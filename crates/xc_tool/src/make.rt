@@ -11,10 +11,10 @@ ghost use Rattle.xc_tool.specs.Outcome.{make_in, make_input, make_output, output
 ghost use Rattle.xc_tool.specs.Outcome.{source_spelled, unless_refused};
 
 use crate::refusal::Refusal;
-use crate::steps::{SCRIPT_LIMIT, end};
+use crate::steps::end;
 use crate::words::Form;
 use std::alloc::Global;
-use xc_base::{Sink, SinkFail, Source, Status, write_all};
+use xc_base::{SCRIPT_BYTES, Sink, Source, Status, write_all};
 use xc_run::{Stop, read_text};
 use xc_source::SourceUniverse;
 use xc_source_script::{
@@ -23,7 +23,7 @@ use xc_source_script::{
 use xc_text::print_logs;
 
 /// `make SOURCE`, which is given no logs: any logs are as they were.
-pub fn make<S: Source, O: Sink>(alloc: Global, script: &mut S, out: &mut O) -> Status
+pub(crate) fn make<S: Source, O: Sink>(alloc: Global, script: &mut S, out: &mut O) -> Status
     ensures ran { (logs : Stream) → IsUntouched logs
         → Ran (Is (output_for (Some Form.Make))) (reads_of (Some Form.Make)) result
         logs (stream S.left S.faults script.old script.new) (stream O.written O.faults out.old out.new) }
@@ -41,7 +41,7 @@ fn take_source<S: Source>(alloc: Global, script: &mut S) -> Result<SourceUnivers
     ensures took { Took make_input result (stream S.left S.faults script.old script.new) }
     ensures valid { IfOk result (λ m. is_valid (logs_of m) ≡ true) }
 {
-    let text = read_text(alloc, script, SCRIPT_LIMIT, Refusal::SourceTooLong)?;
+    let text = read_text(alloc, script, SCRIPT_BYTES, Refusal::SourceTooLong)?;
     make_in(alloc, text.as_slice())
 }
 
@@ -99,7 +99,6 @@ fn print_made<O: Sink>(alloc: Global, universe: &SourceUniverse, out: &mut O) ->
     };
     match write_all(out, text.as_slice()) {
         Ok(()) => Status::Ok,
-        Err(SinkFail::Failed) => Status::WriteFault,
-        Err(SinkFail::NoMemory) => Status::NoMemory,
+        Err(fail) => Status::from(fail),
     }
 }

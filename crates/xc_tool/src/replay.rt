@@ -27,7 +27,7 @@ use xc_script::Script;
 use xc_target::Target;
 
 /// `replay LOGS SCRIPT`
-pub fn replay<L: Source, S: Source, O: Sink>(
+pub(crate) fn replay<L: Source, S: Source, O: Sink>(
     alloc: Global,
     logs: &mut L,
     script: &mut S,

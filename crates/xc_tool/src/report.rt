@@ -11,7 +11,7 @@ use xc_record::{Command, Line, Numbers};
 use xc_target::Target;
 
 /// The numbers of the session. The target's source tablets are `sources`.
-pub fn report(alloc: Global, target: &Target, sources: u32) -> Result<Line, Unanswered>
+pub(crate) fn report(alloc: Global, target: &Target, sources: u32) -> Result<Line, Unanswered>
     requires { sources ≡ length target.now.pollers }
     ensures step { (logs : Logs) (m : Session) → IsSession logs m → StandsForSession logs m target.now
         → IfOk result (λ l. IsLine logs m Command.Report l target.now) }

@@ -15,26 +15,21 @@ ghost use Rattle.xc_tool.specs.Steps.{stop_of};
 use crate::refusal::Refusal;
 use std::alloc::Global;
 use xc_agree::{AgreeFail, Audit, agree};
-use xc_base::{Sink, SinkFail, Source, Status, write_all};
+use xc_base::{LOGS_BYTES, SCRIPT_BYTES, Sink, Source, Status, write_all};
 use xc_logs::LogSet;
 use xc_record::Logs;
 use xc_run::{Stop, read_text};
 use xc_script::{Script, ScriptFail, read_script};
 use xc_text::{LogsFail, read_logs};
 
-const LOGS_LIMIT: u64 = 1 << 26;
-
-/// The most bytes of a script, and of a source script.
-pub const SCRIPT_LIMIT: u64 = 1 << 20;
-
 const USAGE: &str = "usage: the words after xcr do not form a command\n";
 
 /// The logs of a source, whose tablets agree.
-pub fn take_logs<L: Source>(alloc: Global, logs: &mut L) -> Result<LogSet, Stop<Refusal>>
+pub(crate) fn take_logs<L: Source>(alloc: Global, logs: &mut L) -> Result<LogSet, Stop<Refusal>>
     ensures took { Took logs_input result (stream L.left L.faults logs.old logs.new) }
     ensures agree { IfOk result (λ logs. disagreement logs ≡ None) }
 {
-    let text = read_text(alloc, logs, LOGS_LIMIT, Refusal::LogsTooLong)?;
+    let text = read_text(alloc, logs, LOGS_BYTES, Refusal::LogsTooLong)?;
     logs_in(alloc, text.as_slice())
 }
 
@@ -75,11 +70,11 @@ fn disagreed(fail: AgreeFail) -> Stop<Refusal>
 }
 
 /// The logs of a source, whatever they hold.
-pub fn take_any_logs<L: Source>(alloc: Global, logs: &mut L) -> Result<Logs, Stop<Refusal>>
+pub(crate) fn take_any_logs<L: Source>(alloc: Global, logs: &mut L) -> Result<Logs, Stop<Refusal>>
     ensures took { Took upgrade_input result (stream L.left L.faults logs.old logs.new) }
     ensures valid { IfOk result (λ logs. is_valid logs ≡ true) }
 {
-    let text = read_text(alloc, logs, LOGS_LIMIT, Refusal::LogsTooLong)?;
+    let text = read_text(alloc, logs, LOGS_BYTES, Refusal::LogsTooLong)?;
     spelled_logs(alloc, text.as_slice())
 }
 
@@ -98,10 +93,10 @@ fn spelled_logs(alloc: Global, text: &[u8]) -> Result<Logs, Stop<Refusal>>
 }
 
 /// The audit of the logs of a source.
-pub fn take_audit<L: Source>(alloc: Global, logs: &mut L) -> Result<Audit, Stop<Refusal>>
+pub(crate) fn take_audit<L: Source>(alloc: Global, logs: &mut L) -> Result<Audit, Stop<Refusal>>
     ensures { Took audit_input result (stream L.left L.faults logs.old logs.new) }
 {
-    let text = read_text(alloc, logs, LOGS_LIMIT, Refusal::LogsTooLong)?;
+    let text = read_text(alloc, logs, LOGS_BYTES, Refusal::LogsTooLong)?;
     audit_in(alloc, text.as_slice())
 }
 
@@ -127,7 +122,7 @@ fn audit_of_logs(alloc: Global, logs: &LogSet) -> Result<Audit, Stop<Refusal>>
 }
 
 /// The script of a source, for logs of so many tablets.
-pub fn take_script<S: Source>(
+pub(crate) fn take_script<S: Source>(
     alloc: Global,
     script: &mut S,
     sources: u32,
@@ -135,7 +130,7 @@ pub fn take_script<S: Source>(
     ensures took { Took (script_input sources) result (stream S.left S.faults script.old script.new) }
     ensures allowed { IfOk result (IsScript sources) }
 {
-    let text = read_text(alloc, script, SCRIPT_LIMIT, Refusal::ScriptTooLong)?;
+    let text = read_text(alloc, script, SCRIPT_BYTES, Refusal::ScriptTooLong)?;
     script_in(alloc, text.as_slice(), sources)
 }
 
@@ -157,7 +152,7 @@ fn script_in(alloc: Global, text: &[u8], sources: u32) -> Result<Script, Stop<Re
 }
 
 /// Writes the line of a refusal.
-pub fn refuse<O: Sink>(alloc: Global, refusal: Refusal, out: &mut O) -> Status
+pub(crate) fn refuse<O: Sink>(alloc: Global, refusal: Refusal, out: &mut O) -> Status
     ensures { Wrote (refusal_output refusal) ⊥ result (stream O.written O.faults out.old out.new) }
 {
     let Ok(line) = refusal.line(alloc) else {
@@ -165,24 +160,22 @@ pub fn refuse<O: Sink>(alloc: Global, refusal: Refusal, out: &mut O) -> Status
     };
     match write_all(out, line.as_bytes()) {
         Ok(()) => refusal.status(),
-        Err(SinkFail::Failed) => Status::WriteFault,
-        Err(SinkFail::NoMemory) => Status::NoMemory,
+        Err(fail) => Status::from(fail),
     }
 }
 
 /// Writes the usage line.
-pub fn usage<O: Sink>(out: &mut O) -> Status
+pub(crate) fn usage<O: Sink>(out: &mut O) -> Status
     ensures { Wrote usage_output ⊥ result (stream O.written O.faults out.old out.new) }
 {
     match write_all(out, USAGE.as_bytes()) {
         Ok(()) => Status::Usage,
-        Err(SinkFail::Failed) => Status::WriteFault,
-        Err(SinkFail::NoMemory) => Status::NoMemory,
+        Err(fail) => Status::from(fail),
     }
 }
 
 /// Ends a run whose input stopped.
-pub fn end<O: Sink>(alloc: Global, stop: Stop<Refusal>, out: &mut O) -> Status
+pub(crate) fn end<O: Sink>(alloc: Global, stop: Stop<Refusal>, out: &mut O) -> Status
     ensures { Ended refusal_output stop result (stream O.written O.faults out.old out.new) }
 {
     match stop {

@@ -131,6 +131,15 @@ end
             "disagree 7 1 straggler\n",
         ),
         (AUDIT, "", "", Status::BadLogs, "bad logs 1 no-end\n"),
+        (
+            "gen 0 3",
+            LOGS,
+            SCRIPT,
+            Status::Ok,
+            "gen 0 3 records 9 commits 1 safe 6 rows 1 digest 1271599064\n",
+        ),
+        ("gen 0 0", "", "", Status::Usage, usage),
+        ("gen -1 3", "", "", Status::Usage, usage),
     ] {
         let mut logs = QuietSource::new(bytes(alloc, logs)?);
         let mut script = QuietSource::new(bytes(alloc, script)?);

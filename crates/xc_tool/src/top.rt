@@ -1,13 +1,14 @@
 // The top call, and the command that the words name.
-ghost use Rattle.std.specs.Prelude.{◌≡◌, List, ℕ, None, Some, map, string_bytes};
+ghost use Rattle.std.specs.Prelude.{◌≡◌, List, ℕ, None, Some, IfSome, map, string_bytes};
 ghost use Rattle.xc_base.specs.Causes.{Rose};
 ghost use Rattle.xc_base.specs.Told.{TellsAlike};
 ghost use Rattle.xc_run.specs.Ran.{Ran, Is, Shows, IsEnded, FaultIn, AreQuiet, AreTold};
 ghost use Rattle.xc_run.specs.Streams.{stream, Gave, Used, IsUntouched};
 ghost use Rattle.xc_tool.specs.Outcome.{outcome, output_for, reads_of, InOrder, IsUsage, RefusesLogs};
-ghost use Rattle.xc_tool.specs.Words.{form_of};
+ghost use Rattle.xc_tool.specs.Words.{form_of, FormFits};
 
 use crate::audit::audit;
+use crate::generate::generate;
 use crate::make::make;
 use crate::replay::replay;
 use crate::steps::usage;
@@ -74,6 +75,7 @@ fn dispatch<L: Source, S: Source, O: Sink>(
     script: &mut S,
     out: &mut O,
 ) -> Status
+    requires { IfSome form FormFits }
     ensures ran { Ran (Is (output_for form)) (reads_of form) result
         (stream L.left L.faults logs.old logs.new) (stream S.left S.faults script.old script.new)
         (stream O.written O.faults out.old out.new) }
@@ -93,6 +95,7 @@ fn command<L: Source, S: Source, O: Sink>(
     script: &mut S,
     out: &mut O,
 ) -> Status
+    requires { FormFits form }
     ensures ran { Ran (Is (output_for (Some form))) (reads_of (Some form)) result
         (stream L.left L.faults logs.old logs.new) (stream S.left S.faults script.old script.new)
         (stream O.written O.faults out.old out.new) }
@@ -104,5 +107,6 @@ fn command<L: Source, S: Source, O: Sink>(
         Form::Audit => audit(alloc, logs, out),
         Form::Upgrade => upgrade(alloc, logs, out),
         Form::Make => make(alloc, script, out),
+        Form::Gen { number, size } => generate(alloc, number, size, out),
     }
 }

@@ -8,12 +8,12 @@ ghost use Rattle.xc_tool.specs.Outcome.{upgrade_output, output_for, reads_of, In
 use crate::steps::{end, take_any_logs};
 use crate::words::Form;
 use std::alloc::Global;
-use xc_base::{Sink, SinkFail, Source, Status, write_all};
+use xc_base::{Sink, Source, Status, write_all};
 use xc_record::Logs;
 use xc_text::print_logs2;
 
 /// `upgrade LOGS`, which is given no script: any script is as it was.
-pub fn upgrade<L: Source, O: Sink>(alloc: Global, logs: &mut L, out: &mut O) -> Status
+pub(crate) fn upgrade<L: Source, O: Sink>(alloc: Global, logs: &mut L, out: &mut O) -> Status
     ensures ran { (script : Stream) → IsUntouched script
         → Ran (Is (output_for (Some Form.Upgrade))) (reads_of (Some Form.Upgrade)) result
         (stream L.left L.faults logs.old logs.new) script (stream O.written O.faults out.old out.new) }
@@ -35,7 +35,6 @@ fn print_upgraded<O: Sink>(alloc: Global, logs: &Logs, out: &mut O) -> Status
     };
     match write_all(out, text.as_slice()) {
         Ok(()) => Status::Ok,
-        Err(SinkFail::Failed) => Status::WriteFault,
-        Err(SinkFail::NoMemory) => Status::NoMemory,
+        Err(fail) => Status::from(fail),
     }
 }

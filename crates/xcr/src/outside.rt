@@ -9,7 +9,7 @@ use xc_base::{Failed, Sink, SinkFail, Source};
 /// A file that is opened at its first read. One that can't be opened, and no file at all, fail at each read. A read
 /// that a signal cut off is made again.
 #[derive(Drop)]
-pub struct FileSource<'a> {
+pub(crate) struct FileSource<'a> {
     rt: &'a HostRuntime,
     path: Option<&'a str>,
     file: Option<File>,
@@ -18,7 +18,7 @@ pub struct FileSource<'a> {
 
 impl<'a> FileSource<'a> {
     /// The source of the file of this path, or of none. It has not failed yet, and does not tell its bytes.
-    pub fn new(rt: &'a HostRuntime, path: Option<&'a str>) -> FileSource<'a>
+    pub(crate) fn new(rt: &'a HostRuntime, path: Option<&'a str>) -> FileSource<'a>
         ensures left { ⟦<FileSource<'a> as Source>⟧.left result ≡ None }
         ensures faults { ⟦<FileSource<'a> as Source>⟧.faults result ≡ 0 }
     {
@@ -64,14 +64,14 @@ impl<'a> Source for FileSource<'a> {
 
 /// The standard output. A write that a signal cut off is made again, and one that takes nothing is a fault.
 #[derive(Drop)]
-pub struct StdSink<W: Write> {
+pub(crate) struct StdSink<W: Write> {
     writer: W,
     faults: u64,
 }
 
 impl<W: Write> StdSink<W> {
     /// The sink of a writer. It has not failed yet, and does not tell what it took.
-    pub fn new(writer: W) -> StdSink<W>
+    pub(crate) fn new(writer: W) -> StdSink<W>
         ensures written { ⟦<StdSink<W> as Sink>⟧.written result ≡ None }
         ensures faults { ⟦<StdSink<W> as Sink>⟧.faults result ≡ 0 }
     {
@@ -96,5 +96,60 @@ impl<W: Write> Sink for StdSink<W> {
         }
         self.faults = self.faults.saturating_add(1);
         Err(SinkFail::Failed)
+    }
+}
+
+#[cfg(test)]
+mod tests {
+    use super::*;
+    use std::io;
+    use std::test::Fail;
+    use xc_base::write_all;
+
+    // Takes one byte a call, is interrupted at every other one, and fails once it took so many.
+    #[derive(Drop)]
+    struct Choppy {
+        taken: Vec<u8>,
+        most: usize,
+        interrupted: bool,
+    }
+
+    impl Write for Choppy {
+        fn write(&mut self, buf: &[u8]) -> io::Result<usize> {
+            self.interrupted = !self.interrupted;
+            if self.interrupted {
+                return Err(io::Error::from(ErrorKind::Interrupted));
+            }
+            if self.taken.len() >= self.most {
+                return Err(io::Error::from(ErrorKind::BrokenPipe));
+            }
+            let len = buf.len().min(1);
+            self.taken.extend_from_slice(&buf[..len])?;
+            Ok(len)
+        }
+
+        fn flush(&mut self) -> io::Result<()> {
+            Ok(())
+        }
+    }
+
+    #[test]
+    fn a_writer_of_one_byte_a_call_takes_all_or_counts_a_fault(
+        rt: HostRuntime,
+    ) -> Result<(), Fail> {
+        let text = b"polled 0 1\n".as_slice();
+        for most in 0..12usize {
+            let mut sink = StdSink::new(Choppy {
+                taken: Vec::new(rt.alloc()),
+                most,
+                interrupted: false,
+            });
+            let is_whole = most >= text.len();
+            assert!(rt; write_all(&mut sink, text).is_ok() == is_whole, "{most}");
+            let front = &text[..most.min(text.len())];
+            assert!(rt; sink.writer.taken.as_slice() == front, "{most}");
+            assert!(rt; sink.faults == u64::from(!is_whole), "{most}");
+        }
+        Ok(())
     }
 }

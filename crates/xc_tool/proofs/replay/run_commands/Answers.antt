@@ -1,4 +1,4 @@
-use Rattle.std.proofs.Common.{refl, ◌≡◌, ◌<◌, ◌+◌, ◌∙◌, [], drop, length, sym, arith}
+use Rattle.std.proofs.Common.{refl, ◌<◌, ◌+◌, ◌∙◌, [], drop, length, sym, arith}
 use Rattle.std.proofs.KnownBytes.{Appends-nil, Appends-trans}
 use Rattle.std.proofs.lemmas.Option.{IfSome_then}
 use Rattle.xc_tool.proofs.CommandRuns.{goes-first, on-next, next-item, if-some, kept-on, same-sources, stopped-memory, stopped-writing}

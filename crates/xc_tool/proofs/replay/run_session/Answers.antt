@@ -1,11 +1,9 @@
-use Rattle.std.proofs.Common.{◌≡◌, ◌∙◌, ℕ, List, Some, ap, sym, subst, length}
-use Rattle.std.specs.List.{AllByRecursion}
+use Rattle.std.proofs.Common.{◌≡◌, ◌∙◌, List, Some, ap, sym, subst, length}
 use Rattle.std.proofs.lemmas.Option.{same_Some}
 use Rattle.xc_record.specs.declared.record.Header.{Header}
 use Rattle.xc_record.specs.declared.record.Logs.{Logs}
 use Rattle.xc_record.specs.Valid.{headers_of}
 use Rattle.xc_logs.specs.Feed.{IsFeed, counts_of}
-use Rattle.xc_script.specs.Allowed.{IsAllowed}
 use Rattle.xc_target.specs.Target.{TargetState, FitsFeed}
 use Rattle.xc_tool.proofs.CommandRuns.{targets-long}
 use Rattle.xc_tool.proofs.replay.run_session.Goals as goal

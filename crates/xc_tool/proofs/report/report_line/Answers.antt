@@ -1,7 +1,6 @@
 use Rattle.std.proofs.Common.{◌≡◌, ◌∙◌, ap, arith}
 use Rattle.std.specs.Prelude.{is_some}
-use Rattle.xc_record.specs.Session.{Position}
-use Rattle.xc_tool.proofs.ReportLine.{ArePushed, told-more, told-all, report-is}
+use Rattle.xc_tool.proofs.ReportLine.{told-more, told-all, report-is}
 use Rattle.xc_tool.proofs.report.report_line.Goals as goal
 
 pub loop-id-preserved : goal.loop-id-preserved

@@ -1,7 +1,7 @@
 -- the numbers of the source tablets up to this one
-use Rattle.std.proofs.Common.{◌≡◌, map, take}
+use Rattle.std.proofs.Common.{take}
 use Rattle.xc_record.specs.declared.record.Logs.{Logs}
-use Rattle.xc_record.specs.Session.{Session, Position, IsSession}
+use Rattle.xc_record.specs.Session.{Session, IsSession}
 use Rattle.xc_target.specs.Stands.{StandsForSession}
 use Rattle.xc_tool.proofs.ReportLine.{AreTold}
 use Rattle.xc_tool.proofs.report.report_line.Given as goal

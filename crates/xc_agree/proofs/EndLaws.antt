@@ -38,7 +38,7 @@ differs-see n c u s time (Split at left right) = sym (or-false s.differs)
 differs-see n c u s time (Abort txn) =
     elim (txn == n) as (λ b. (if b then record (settles c s) { aborted = true } else passes s).differs ≡ (s.differs || false))
     [ true ↦ sym (or-false s.differs) | false ↦ sym (or-false s.differs) ]
-differs-see n c u s time (Intent txn sub ops) =
+differs-see n c u s time (Intent sub txn ops) =
     elim (txn == n) as
     (λ b. (if b then record s { place = s.place + 1; since = or_else s.since (Some (s.place + 1)); late = s.late || nat_le c time } else
     passes s).differs ≡ (s.differs || false))
@@ -64,7 +64,7 @@ undoes-see n c u s time (Split at left right) = sym (or-false s.undoes)
 undoes-see n c u s time (Abort txn) =
     elim (txn == n) as (λ b. (if b then record (settles c s) { aborted = true } else passes s).undoes ≡ (s.undoes || false))
     [ true ↦ sym (or-false s.undoes) | false ↦ sym (or-false s.undoes) ]
-undoes-see n c u s time (Intent txn sub ops) =
+undoes-see n c u s time (Intent sub txn ops) =
     elim (txn == n) as
     (λ b. (if b then record s { place = s.place + 1; since = or_else s.since (Some (s.place + 1)); late = s.late || nat_le c time } else
     passes s).undoes ≡ (s.undoes || false))
@@ -90,7 +90,7 @@ late-see n c u s time (Split at left right) = sym (or-false s.late)
 late-see n c u s time (Abort txn) =
     elim (txn == n) as (λ b. (if b then record (settles c s) { aborted = true } else passes s).late ≡ (s.late || false))
     [ true ↦ sym (or-false s.late) | false ↦ sym (or-false s.late) ]
-late-see n c u s time (Intent txn sub ops) =
+late-see n c u s time (Intent sub txn ops) =
     elim (txn == n) as
     (λ b. (if b then record s { place = s.place + 1; since = or_else s.since (Some (s.place + 1)); late = s.late || nat_le c time } else
     passes s).late ≡ (s.late || (is_some (if b then Some ops else None) && nat_le c time)))
@@ -113,7 +113,7 @@ aborted-see n c u s time (Split at left right) = sym (or-false s.aborted)
 aborted-see n c u s time (Abort txn) =
     elim (txn == n) as (λ b. (if b then record (settles c s) { aborted = true } else passes s).aborted ≡ (s.aborted || b))
     [ true ↦ sym (or-true s.aborted) | false ↦ sym (or-false s.aborted) ]
-aborted-see n c u s time (Intent txn sub ops) =
+aborted-see n c u s time (Intent sub txn ops) =
     elim (txn == n) as
     (λ b. (if b then record s { place = s.place + 1; since = or_else s.since (Some (s.place + 1)); late = s.late || nat_le c time } else
     passes s).aborted ≡ (s.aborted || false))
@@ -161,7 +161,7 @@ safe-see n c u s time (Abort txn) h =
     elim (txn == n) as
     (λ b. (if b then record (settles c s) { aborted = true } else passes s).safe ≤
     (if b then record (settles c s) { aborted = true } else passes s).place) [ true ↦ omega arith | false ↦ omega arith ]
-safe-see n c u s time (Intent txn sub ops) h =
+safe-see n c u s time (Intent sub txn ops) h =
     elim (txn == n) as
     (λ b. (if b then record s { place = s.place + 1; since = or_else s.since (Some (s.place + 1)); late = s.late || nat_le c time } else
     passes s).safe
@@ -180,7 +180,7 @@ floor-see n c u s floor time (Safe value) h = omega arith
 floor-see n c u s floor time (Split at left right) h = h
 floor-see n c u s floor time (Abort txn) h =
     elim (txn == n) as (λ b. (if b then record (settles c s) { aborted = true } else passes s).floor ≤ floor) [ true ↦ h | false ↦ h ]
-floor-see n c u s floor time (Intent txn sub ops) h =
+floor-see n c u s floor time (Intent sub txn ops) h =
     elim (txn == n) as
     (λ b. (if b then record s { place = s.place + 1; since = or_else s.since (Some (s.place + 1)); late = s.late || nat_le c time } else
     passes s).floor ≤ floor) [ true ↦ h | false ↦ h ]
@@ -209,7 +209,7 @@ stands-kind n c u floor s time (Safe value) b k f g = go s.since b
 stands-kind n c u floor s time (Abort txn) b k f g =
     elim (txn == n) as (λ b. stands c (if b then record (settles c s) { aborted = true } else passes s) ≡ (stands c s || false))
     [ true ↦ refl | false ↦ sym (or-false (stands c s)) ]
-stands-kind n c u floor s time (Intent txn sub ops) b k f g =
+stands-kind n c u floor s time (Intent sub txn ops) b k f g =
     elim (txn == n) as
     (λ b. stands c
     (if b then record s { place = s.place + 1; since = or_else s.since (Some (s.place + 1)); late = s.late || nat_le c time } else
@@ -238,7 +238,7 @@ since-step n c u s time (Abort txn) =
     elim (txn == n) as
     (λ b. is_some (if b then record (settles c s) { aborted = true } else passes s).since ≡ (if b then false else is_some s.since))
     [ true ↦ refl | false ↦ refl ]
-since-step n c u s time (Intent txn sub ops) =
+since-step n c u s time (Intent sub txn ops) =
     elim (txn == n) as
     (λ b. is_some
     (if b then record s { place = s.place + 1; since = or_else s.since (Some (s.place + 1)); late = s.late || nat_le c time } else

@@ -103,7 +103,7 @@ waits-events n k w (r ∷ rs) = go r.time r.kind (λ w. waits-events n k w rs)
         ih w ∙ sym (ap (λ f. (w && is_waits f) || waits_in n (waiting (map (λ v. Put time v) (puts k ops) ++ events k rs)))
         (fate-puts n 0 time (puts k ops) (events k rs))
         ∙ ap (λ x. (w && waits_on n (events k rs)) || waits_in n x) (waiting-puts n time (puts k ops) (events k rs)))
-    go time (kind.Intent m sub ops) ih =
+    go time (kind.Intent sub m ops) ih =
         let a = fate-holds n 0 m sub time (puts k ops) (events k rs) in
         let b = waiting-holds n m sub time (puts k ops) (events k rs) in
         let d = some_put-key k ops in

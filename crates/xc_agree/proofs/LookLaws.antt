@@ -116,7 +116,7 @@ pub take-intent : (old new : Look) (commits : List Commit) (txn time commit sub 
     → (AreInSlots commits old.began.items → AreInSlots commits new.began.items)
     → (length old.waiting.items ≡ length commits → (n : ℕ)
     → since_in commits new n ≡ if n == txn then or_else (since_in commits old n) (Some (old.place + 1)) else since_in commits old n)
-    → IsLeastWith old.found (nat_le commit time) txn LateIntent new.found → Takes old new commits time (Intent txn sub ops)
+    → IsLeastWith old.found (nat_le commit time) txn LateIntent new.found → Takes old new commits time (Intent sub txn ops)
 take-intent old new commits txn time commit sub ops is next starts waiters since found = λ seen h. record {
   place = λ n c. grind (arith, h.place n c, next.place);
   safe = λ n c. grind (arith, h.safe n c, next.safe);
@@ -130,12 +130,12 @@ take-intent old new commits txn time commit sub ops is next starts waiters since
   where
     sinces : (seen : ℕ → ℕ → Seen) → IsLook old commits seen → (n : ℕ) (o : Option ℕ) → time_of commits n ≡ o
         → (if n == txn then or_else (since_in commits old n) (Some (old.place + 1)) else since_in commits old n) ≡ option_and_then
-        (λ c. (see_kind n c (undone_of commits n) (seen n c) time (Intent txn sub ops)).since) o
+        (λ c. (see_kind n c (undone_of commits n) (seen n c) time (Intent sub txn ops)).since) o
     sinces seen h n None e = grind (arith, nat_tests, h.since n)
     sinces seen h n (Some c) e = grind (arith, nat_tests, h.since n, h.place n c)
 
     kinds : (seen : ℕ → ℕ → Seen) (n : ℕ) (o : Option ℕ) → time_of commits n ≡ o
-        → option_and_then (λ c. kind_seen (see_kind n c (undone_of commits n) (seen n c) time (Intent txn sub ops))) o ≡
+        → option_and_then (λ c. kind_seen (see_kind n c (undone_of commits n) (seen n c) time (Intent sub txn ops))) o ≡
         (if nat_le commit time then with_kind txn LateIntent (kinds_in commits seen) n else kinds_in commits seen n)
     kinds seen n None e = grind (arith, nat_tests)
     kinds seen n (Some c) e =

@@ -127,19 +127,19 @@ one-holds header (op ∷ ops) e f =
     let a = and_parts (holds header (hash_of op.key)) (list_all (λ op. holds header (hash_of op.key)) ops) f in rw (a.0) refl
 
 intent-fits : (header : Header) (pair : Option (Header × Header)) (kind : Kind) (n sub : ℕ) (ops : List Op)
-    → kind_fits header pair kind ≡ true → kind ≡ Intent n sub ops → ops_fit header ops ≡ true
+    → kind_fits header pair kind ≡ true → kind ≡ Intent sub n ops → ops_fit header ops ≡ true
 intent-fits header pair kind n sub ops f e =
     (and_parts (nat_le sub 64) (ops_fit header ops)
     (and_parts (is_txn n) (nat_le sub 64 && ops_fit header ops) (subst (λ k. kind_fits header pair k ≡ true) e f)).1).1
 
 own-kind : (header : Header) (pair : Option (Header × Header)) (kind : Kind) (n sub : ℕ) (ops : List Op)
-    → kind_fits header pair kind ≡ true → kind ≡ Intent n sub ops → list_any (λ op. holds header (hash_of op.key)) ops ≡ true
+    → kind_fits header pair kind ≡ true → kind ≡ Intent sub n ops → list_any (λ op. holds header (hash_of op.key)) ops ≡ true
 own-kind header pair kind n sub ops f e =
     let a = fits-parts header ops (intent-fits header pair kind n sub ops f e) in
     one-holds header ops a.0 (ops-hold header ops a.1)
 
 own-every : (header : Header) (pair : Option (Header × Header)) (kind : Kind) (n sub : ℕ) (ops : List Op)
-    → kind_fits header pair kind ≡ true → kind ≡ Intent n sub ops → list_all (λ op. holds header (hash_of op.key)) ops ≡ true
+    → kind_fits header pair kind ≡ true → kind ≡ Intent sub n ops → list_all (λ op. holds header (hash_of op.key)) ops ≡ true
 own-every header pair kind n sub ops f e = ops-hold header ops (fits-parts header ops (intent-fits header pair kind n sub ops f e)).1
 
 own-all : (header : Header) (pair : Option (Header × Header)) (rs : List Record) → list_all (record_fits header pair) rs ≡ true

@@ -53,7 +53,7 @@ wait-wider n p q w v (Safe value) h k e = k e
 wait-wider n p q w v (Split at left right) h k e = k e
 wait-wider n p q w v (Apply txn commit without) h k e = stops-wider (txn == n) w v k e
 wait-wider n p q w v (Abort txn) h k e = stops-wider (txn == n) w v k e
-wait-wider n p q w v (Intent txn sub ops) h k e = go (txn == n) (p ops) refl e
+wait-wider n p q w v (Intent sub txn ops) h k e = go (txn == n) (p ops) refl e
   where
     go : (b a : Bool) → p ops ≡ a → (if b && a then true else w) ≡ true → (if b && q ops then true else v) ≡ true
     go true true f e = rw (h ops f) refl
@@ -132,7 +132,7 @@ record WaitsAt (logs : Logs) (n : ℕ) (test : List ℕ → Bool) (line : List �
 
 -- an intent of n whose operations pass p has one at an own key that the test passes
 record Intends (logs : Logs) (n : ℕ) (p : List Op → Bool) (test : List ℕ → Bool) (r : Record) : Type 0 where
-  found : (sub : ℕ) (ops : List Op) → r.kind ≡ Intent n sub ops → p ops ≡ true
+  found : (sub : ℕ) (ops : List Op) → r.kind ≡ Intent sub n ops → p ops ≡ true
       → Found test ops × ((k : List ℕ) → at_key k ops ≡ true → IsOwn logs n k)
 
 keep-waiting : (logs : Logs) (n : ℕ) (test : List ℕ → Bool) (line : List ℕ → List Record) (r : Record)
@@ -159,7 +159,7 @@ wait-step logs n p test line r w (Split at left right) is k h e = keep-waiting l
 wait-step logs n p test line r w (Apply txn commit without) is k h e =
     stop-waiting logs n test line r w (txn == n) (λ f q. rw (is, f) refl) k e
 wait-step logs n p test line r w (Abort txn) is k h e = stop-waiting logs n test line r w (txn == n) (λ f q. rw (is, f) refl) k e
-wait-step logs n p test line r w (Intent txn sub ops) is k h e = go (txn == n) (p ops) refl refl e
+wait-step logs n p test line r w (Intent sub txn ops) is k h e = go (txn == n) (p ops) refl refl e
   where
     begins : (q : List ℕ) (v : Bool) → txn == n ≡ true → at_key q ops ≡ true → wait_kind n (at_key q) v r.kind ≡ true
     begins q v f g = rw (is, f, g) refl
@@ -167,7 +167,7 @@ wait-step logs n p test line r w (Intent txn sub ops) is k h e = go (txn == n) (
     go : (b a : Bool) → txn == n ≡ b → p ops ≡ a → (if b && a then true else w) ≡ true → WaitsAt logs n test (λ k. line k ++ r ∷ [])
     go true true f g e =
         let same : txn ≡ n = eqb-true txn n f in
-        let found = h.found sub ops (is ∙ ap (λ m. Intent m sub ops) same) g in
+        let found = h.found sub ops (is ∙ ap (λ m. Intent sub m ops) same) g in
         record {
           key = found.0.key;
           passes = found.0.passes;
@@ -237,10 +237,10 @@ straggles-somewhere logs n c p test line before (r ∷ rs) w k h e =
 
 -- all operations of an intent are of the range, and there is one
 pub record OwnIn (header : Header) (r : Record) : Type 0 where
-  pub holds_one : (n sub : ℕ) (ops : List Op) → r.kind ≡ Intent n sub ops → list_any (λ op. holds header (hash_of op.key)) ops ≡ true
-  pub holds_all : (n sub : ℕ) (ops : List Op) → r.kind ≡ Intent n sub ops → list_all (λ op. holds header (hash_of op.key)) ops ≡ true
+  pub holds_one : (n sub : ℕ) (ops : List Op) → r.kind ≡ Intent sub n ops → list_any (λ op. holds header (hash_of op.key)) ops ≡ true
+  pub holds_all : (n sub : ℕ) (ops : List Op) → r.kind ≡ Intent sub n ops → list_all (λ op. holds header (hash_of op.key)) ops ≡ true
 
-own-key : (logs : Logs) (n : ℕ) (r : Record) (sub : ℕ) (ops : List Op) → OpsIn logs n r → r.kind ≡ Intent n sub ops → (k : List ℕ)
+own-key : (logs : Logs) (n : ℕ) (r : Record) (sub : ℕ) (ops : List Op) → OpsIn logs n r → r.kind ≡ Intent sub n ops → (k : List ℕ)
     → at_key k ops ≡ true → IsOwn logs n k
 own-key logs n r sub ops h is k at q e = h.all (λ op. q op.key) (rw is (rw (eq-eqb n n refl) (key-passes k q ops at e)))
 
@@ -395,7 +395,7 @@ nothing-kind n h header r (Split at left right) is e o = refl
 nothing-kind n h header r (Apply txn commit without) is e o =
     elim (txn == n) as (λ b. (if b then false else false) ≡ false) [ true ↦ refl | false ↦ refl ]
 nothing-kind n h header r (Abort txn) is e o = elim (txn == n) as (λ b. (if b then false else false) ≡ false) [ true ↦ refl | false ↦ refl ]
-nothing-kind n h header r (Intent txn sub ops) is e o =
+nothing-kind n h header r (Intent sub txn ops) is e o =
     rw (nothing-at header h ops e (o.holds_all txn sub ops is))
     (elim (txn == n) as (λ b. (if b && false then true else false) ≡ false) [ true ↦ refl | false ↦ refl ])
 

@@ -30,7 +30,7 @@ first-append f (x ∷ xs) ys = grind (arith, first-append f xs ys)
 applies-txn : (n : ℕ) (kind : Kind) (ms : List ℕ) → has n (cons_option (applied_txn kind) ms) ≡ (is_some (applies n kind) || has n ms)
 applies-txn n (Apply txn commit without) ms = grind (arith, nat_tests)
 applies-txn n (Write ops) ms = refl
-applies-txn n (Intent txn sub ops) ms = refl
+applies-txn n (Intent sub txn ops) ms = refl
 applies-txn n (Abort txn) ms = refl
 applies-txn n (Safe value) ms = refl
 applies-txn n (Split at left right) ms = refl
@@ -51,7 +51,7 @@ has-applied n (r ∷ rs) =
 -- each record writes or applies or neither
 kind-within : (kind : Kind) → length (cons_option (write_ops kind) []) + length (cons_option (commit_by kind) []) ≤ 1
 kind-within (Write ops) = omega arith
-kind-within (Intent txn sub ops) = omega arith
+kind-within (Intent sub txn ops) = omega arith
 kind-within (Apply txn commit without) = omega arith
 kind-within (Abort txn) = omega arith
 kind-within (Safe value) = omega arith
@@ -68,7 +68,7 @@ applies-append rs ss = filter_map-append (λ (r : Record). commit_by r.kind) rs 
 -- a transaction's first apply among the applies is its first record that applies it
 time-by : (kind : Kind) (n : ℕ) (cs : List Commit) → time_of (cons_option (commit_by kind) cs) n ≡ or_else (applies n kind) (time_of cs n)
 time-by (Write ops) n cs = refl
-time-by (Intent txn sub ops) n cs = refl
+time-by (Intent sub txn ops) n cs = refl
 time-by (Apply txn commit without) n cs = refl
 time-by (Abort txn) n cs = refl
 time-by (Safe value) n cs = refl
@@ -81,7 +81,7 @@ time-applies (r ∷ rs) n = time-by r.kind n (applies_in rs) ∙ ap (or_else (ap
 without-by : (kind : Kind) (n : ℕ) (cs : List Commit)
     → without_of (cons_option (commit_by kind) cs) n ≡ or_else (rolls_back n kind) (without_of cs n)
 without-by (Write ops) n cs = refl
-without-by (Intent txn sub ops) n cs = refl
+without-by (Intent sub txn ops) n cs = refl
 without-by (Apply txn commit without) n cs = refl
 without-by (Abort txn) n cs = refl
 without-by (Safe value) n cs = refl
@@ -94,7 +94,7 @@ without-applies (r ∷ rs) n = without-by r.kind n (applies_in rs) ∙ ap (or_el
 txns-by : (kind : Kind) (cs : List Commit)
     → map (λ c. c.txn) (cons_option (commit_by kind) cs) ≡ cons_option (applied_txn kind) (map (λ c. c.txn) cs)
 txns-by (Write ops) cs = refl
-txns-by (Intent txn sub ops) cs = refl
+txns-by (Intent sub txn ops) cs = refl
 txns-by (Apply txn commit without) cs = refl
 txns-by (Abort txn) cs = refl
 txns-by (Safe value) cs = refl

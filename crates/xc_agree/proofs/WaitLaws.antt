@@ -51,7 +51,7 @@ step-waits n c u h held s done r time (Safe value) e k = grind (arith, k.waits, 
 step-waits n c u h held s done r time (Split at left right) e k = grind (arith, k.waits, since-snoc n h s.since done r)
 step-waits n c u h held s done r time (Apply txn commit without) e k = grind (arith, k.waits, since-snoc n h s.since done r)
 step-waits n c u h held s done r time (Abort txn) e k = grind (arith, k.waits, since-snoc n h s.since done r)
-step-waits n c u h held s done r time (Intent txn sub ops) e k = go (txn == n) refl s.since refl
+step-waits n c u h held s done r time (Intent sub txn ops) e k = go (txn == n) refl s.since refl
   where
     go : (b : Bool) → txn == n ≡ b → (o : Option ℕ) → s.since ≡ o
         → (if b && writes_at h ops then true else waits_by n (writes_at h) held done)
@@ -91,7 +91,7 @@ below-see n c u s time (Abort txn) h =
     (λ b. Below (if b then record (settles c s) { aborted = true } else passes s).place
     (if b then record (settles c s) { aborted = true } else passes s).since)
     [ true ↦ refl | false ↦ below-later s.place s.since h ]
-below-see n c u s time (Intent txn sub ops) h =
+below-see n c u s time (Intent sub txn ops) h =
     elim (txn == n) as
     (λ b. Below (if b then record s
     { place = s.place + 1; since = or_else s.since (Some (s.place + 1)); late = s.late || nat_le c time } else passes s).place
@@ -108,7 +108,7 @@ place-see n c u s time (Apply txn commit without) =
 place-see n c u s time (Abort txn) =
     elim (txn == n) as (λ b. (if b then record (settles c s) { aborted = true } else passes s).place ≡ s.place + 1)
     [ true ↦ refl | false ↦ refl ]
-place-see n c u s time (Intent txn sub ops) =
+place-see n c u s time (Intent sub txn ops) =
     elim (txn == n) as
     (λ b. (if b then record s { place = s.place + 1; since = or_else s.since (Some (s.place + 1)); late = s.late || nat_le c time } else
     passes s).place ≡ s.place + 1) [ true ↦ refl | false ↦ refl ]

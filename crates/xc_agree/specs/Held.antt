@@ -30,7 +30,7 @@ abbrev pub writes_at : ℕ → List Op → Bool
 writes_at h ops = list_any (λ op. hash_of op.key == h) ops
 
 abbrev pub intends_kind : ℕ → ℕ → Kind → Bool
-intends_kind n h (Intent txn sub ops) = txn == n && writes_at h ops
+intends_kind n h (Intent sub txn ops) = txn == n && writes_at h ops
 intends_kind n h _ = false
 
 abbrev pub intends : ℕ → ℕ → List Record → Bool
@@ -49,7 +49,7 @@ is_since place since = option_map_or (λ first. nat_le first place) since false
 -- whether the transaction waits after a record of this kind, by an operation among those that the test passes
 abbrev pub wait_kind : ℕ → (List Op → Bool) → Bool → Kind → Bool
 wait_kind n p w (Write ops) = w
-wait_kind n p w (Intent txn sub ops) = if txn == n && p ops then true else w
+wait_kind n p w (Intent sub txn ops) = if txn == n && p ops then true else w
 wait_kind n p w (Apply txn commit without) = if txn == n then false else w
 wait_kind n p w (Abort txn) = if txn == n then false else w
 wait_kind n p w (Safe value) = w

@@ -74,7 +74,7 @@ settles_as commit undone s c without =
 
 abbrev pub see_kind : ℕ → ℕ → List ℕ → Seen → ℕ → Kind → Seen
 see_kind n commit undone s time (Write ops) = passes s
-see_kind n commit undone s time (Intent txn sub ops) =
+see_kind n commit undone s time (Intent sub txn ops) =
     if txn == n then record s { place = s.place + 1; since = or_else s.since (Some (s.place + 1)); late = s.late || nat_le commit time }
     else passes s
 see_kind n commit undone s time (Apply txn c without) = if txn == n then settles_as commit undone s c without else passes s

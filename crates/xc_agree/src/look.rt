@@ -267,7 +267,7 @@ impl Look {
         requires { self.old.place + 1 < 2 ^ 32 }
         ensures place { OnOk result (self.new.place ≡ self.old.place + 1) }
         ensures taken { OnOk result ((sub : ℕ) (ops : List Op)
-            → Takes self.old self.new commits.now time (Intent txn sub ops)) }
+            → Takes self.old self.new commits.now time (Intent sub txn ops)) }
     {
         match self.find(commits, txn) {
             None => self.place += 1,

@@ -45,7 +45,7 @@ ops_fit-keep header ops e =
 fit_keeps : (header : Header) (pair : Option (Header × Header)) (kind : Kind) → kind_fits header pair kind ≡ true
     → keeps_header header pair kind ≡ true
 fit_keeps header pair (Write ops) fit = ops_fit-keep header ops fit
-fit_keeps header pair (Intent txn sub ops) fit =
+fit_keeps header pair (Intent sub txn ops) fit =
     let rest = and_parts (is_txn txn) (nat_le sub 64 && ops_fit header ops) fit in
     ops_fit-keep header ops (and_parts (nat_le sub 64) (ops_fit header ops) rest.1).1
 fit_keeps header pair (Apply txn commit without) fit = refl

@@ -110,7 +110,7 @@ LegalChain ps (b ∷ bs) = (place ps b ≤ length b.records) × ((is_closed_in p
 abbrev pub KindAgrees : Outcomes → ℕ → Kind → Type 0
 KindAgrees outcomes time (log.Write ops) = Unit {0}
 -- no late intent
-KindAgrees outcomes time (log.Intent n sub ops) = IsAfter time (outcomes.commit n)
+KindAgrees outcomes time (log.Intent sub n ops) = IsAfter time (outcomes.commit n)
 -- no commit and no rollback that differs
 KindAgrees outcomes time (log.Apply n c without) = (outcomes.commit n ≡ Some c) × (outcomes.undone n ≡ without)
 -- none aborted that is committed
@@ -144,14 +144,14 @@ pub record AgreeAll (outcomes : Outcomes) (bs : List AcceptedTablet) : Type 0 wh
 
 -- transaction numbers begin at 1
 abbrev pub KindNumbered : Kind → Type 0
-KindNumbered (log.Intent n sub ops) = 0 < n
+KindNumbered (log.Intent sub n ops) = 0 < n
 KindNumbered (log.Apply n c without) = 0 < n
 KindNumbered _ = Unit {0}
 
 -- a tablet that doesn't hold a key has no operation on it
 abbrev pub KindAway : List ℕ → Kind → Type 0
 KindAway k (log.Write ops) = puts k ops ≡ []
-KindAway k (log.Intent n sub ops) = puts k ops ≡ []
+KindAway k (log.Intent sub n ops) = puts k ops ≡ []
 KindAway k _ = Unit {0}
 
 -- well-formed logs, as far as reads rest on it

@@ -144,7 +144,7 @@ after-more t u (Some c) h k = omega arith
 pub record-late : (outcomes : Outcomes) (t : ℕ) (k : List ℕ) (time : ℕ) (kind : Kind) → t < time → KindAgrees outcomes time kind
     → Each (ComesAfter outcomes t) (kind_events k time kind)
 record-late outcomes t k time (log.Write ops) h g = each-map (ComesAfter outcomes t) (λ v. Put time v) (puts k ops) (λ v. h)
-record-late outcomes t k time (log.Intent n sub ops) h g =
+record-late outcomes t k time (log.Intent sub n ops) h g =
     each-map (ComesAfter outcomes t) (λ v. Hold n sub time v) (puts k ops) (λ v. after-more t time (outcomes.commit n) (omega arith) g)
 record-late outcomes t k time (log.Split at left right) h g = tt
 record-late outcomes t k time _ h g = (tt, tt)

@@ -70,14 +70,14 @@ pub record-adds : (u : ℕ) (k : List ℕ) (f l time : ℕ) (kind : Kind) → u 
     → Each (AddsAfter u) (kind_events k time kind)
 record-adds u k f l time (log.Write ops) a b c g = each-map (AddsAfter u) (λ v. Put time v) (puts k ops)
     (λ v. let q : u < time = omega arith in q)
-record-adds u k f l time (log.Intent n sub ops) a b c g = each-map (AddsAfter u) (λ v. Hold n sub time v) (puts k ops) (λ v. tt)
+record-adds u k f l time (log.Intent sub n ops) a b c g = each-map (AddsAfter u) (λ v. Hold n sub time v) (puts k ops) (λ v. tt)
 record-adds u k f l time (log.Apply n m without) a b c g = ((let q : f < m = g.0 in omega arith), tt)
 record-adds u k f l time (log.Split at left right) a b c g = tt
 record-adds u k f l time _ a b c g = (tt, tt)
 
 pub record-numbered : (k : List ℕ) (time : ℕ) (kind : Kind) → KindNumbered kind → Each IsNumbered (kind_events k time kind)
 record-numbered k time (log.Write ops) h = each-map IsNumbered (λ v. Put time v) (puts k ops) (λ v. tt)
-record-numbered k time (log.Intent n sub ops) h = each-map IsNumbered (λ v. Hold n sub time v) (puts k ops) (λ v. h)
+record-numbered k time (log.Intent sub n ops) h = each-map IsNumbered (λ v. Hold n sub time v) (puts k ops) (λ v. h)
 record-numbered k time (log.Split at left right) h = tt
 record-numbered k time _ h = (tt, tt)
 

@@ -57,7 +57,7 @@ undoes-not n d without undone e = (bytes_eq-Decides without undone).0 (kept (byt
     kept true e = refl
     kept false e = cc
 
-late-not : (n c time sub : ℕ) (ops : List Op) → (is_some (intent_ops n (log.Intent n sub ops)) && nat_le c time) ≡ false → time < c
+late-not : (n c time sub : ℕ) (ops : List Op) → (is_some (intent_ops n (log.Intent sub n ops)) && nat_le c time) ≡ false → time < c
 late-not n c time sub ops e = grind (arith, nat_tests)
 
 aborts-not : (n : ℕ) → aborts n (log.Abort n) ≡ false → ⊥
@@ -70,7 +70,7 @@ NoCase logs e = (n c : ℕ) → commit_of logs n ≡ Some c → HasNoCase logs n
 kind-agrees : (logs : Logs) (e : AcceptedTablet) (r : Record) (kind : Kind) → NoCase logs e → Exists (λ x. x ≡ e) (accepted_tablets logs)
     → Exists (λ x. x ≡ r) e.records → r.kind ≡ kind → KindAgrees (outcomes_of logs) r.time kind
 kind-agrees logs e r (log.Write ops) v i j k = tt
-kind-agrees logs e r (log.Intent n sub ops) v i j k = by-commit (commit_of logs n) (IsAfter r.time) tt (λ c q. late-not n c r.time sub ops
+kind-agrees logs e r (log.Intent sub n ops) v i j k = by-commit (commit_of logs n) (IsAfter r.time) tt (λ c q. late-not n c r.time sub ops
     (subst (λ w. (is_some (intent_ops n w) && nat_le c r.time) ≡ false) k
     (any-at (λ x. is_some (intent_ops n x.kind) && nat_le c x.time) e.records r (v n c q).early_intents j)))
 kind-agrees logs e r (log.Apply n d without) v i j k = let at = applied-commits logs e r n d without i j k in let case = v n at.0 at.1 in (

@@ -182,14 +182,14 @@ fit-away k t ops f h = ops-away k t ops f (all-each (op_fits t) ops (and_parts _
 kind-away : (k : List ℕ) (t : Header) (pair : Option (Header × Header)) (kind : Kind) → owns (hash_of k) t ≡ false
     → kind_fits t pair kind ≡ true → KindAway k kind
 kind-away k t pair (log.Write ops) f h = fit-away k t ops f h
-kind-away k t pair (log.Intent n sub ops) f h = fit-away k t ops f (and_parts _ _ (and_parts _ _ h).1).1
+kind-away k t pair (log.Intent sub n ops) f h = fit-away k t ops f (and_parts _ _ (and_parts _ _ h).1).1
 kind-away k t pair _ f h = tt
 
 txn-positive : (n : ℕ) → is_txn n ≡ true → 0 < n
 txn-positive n e = grind (arith, nat_tests)
 
 kind-numbered : (t : Header) (pair : Option (Header × Header)) (kind : Kind) → kind_fits t pair kind ≡ true → KindNumbered kind
-kind-numbered t pair (log.Intent n sub ops) h = txn-positive n (and_parts _ _ h).0
+kind-numbered t pair (log.Intent sub n ops) h = txn-positive n (and_parts _ _ h).0
 kind-numbered t pair (log.Apply n c without) h = txn-positive n (and_parts _ _ h).0
 kind-numbered t pair _ h = tt
 

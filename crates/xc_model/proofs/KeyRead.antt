@@ -165,7 +165,7 @@ holds-agree outcomes n sub time (v ∷ vs) = (tt, holds-agree outcomes n sub tim
 kind-agrees : (outcomes : Outcomes) (k : List ℕ) (time : ℕ) (kind : Kind) → KindAgrees outcomes time kind
     → Each (AgreesAt outcomes) (kind_events k time kind)
 kind-agrees outcomes k time (log.Write ops) h = puts-agree outcomes time (puts k ops)
-kind-agrees outcomes k time (log.Intent n sub ops) h = holds-agree outcomes n sub time (puts k ops)
+kind-agrees outcomes k time (log.Intent sub n ops) h = holds-agree outcomes n sub time (puts k ops)
 kind-agrees outcomes k time (log.Safe v) h = (tt, tt)
 kind-agrees outcomes k time (log.Split at left right) h = tt
 kind-agrees outcomes k time _ h = (h, tt)

@@ -46,7 +46,7 @@ puts-none n time (v ∷ vs) es e = puts-none n time vs es e
 kind-none : (n : ℕ) (k : List ℕ) (time : ℕ) (kind : Kind) (es : List Event) → kind_lefts k n [] kind ≡ [] → none_of n (waiting es) ≡ false
     → none_of n (waiting (kind_events k time kind ++ es)) ≡ false
 kind-none n k time (log.Write ops) es h e = puts-none n time (puts k ops) es e
-kind-none n k time (log.Intent m sub ops) es h e =
+kind-none n k time (log.Intent sub m ops) es h e =
     ⊎_elim (λ q. let none : puts k ops ≡ [] = sym (ap (λ b. cond b (puts k ops) []) (eq-eqb m n q))
     ∙ h in subst (λ vs. none_of n (waiting (map (λ v. Hold m sub time v) vs ++ es)) ≡ false) (sym none) e)
     (λ d. holds-other n m sub time (puts k ops) es d e) (cases_eq m n)

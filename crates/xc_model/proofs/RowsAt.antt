@@ -48,7 +48,7 @@ away-none g k es s f = over-path g (hash_of k) es
 
 -- of a transaction's operations, but for those of some subtransactions, on a key: what a record says
 abbrev pub kind_lefts : List ℕ → ℕ → List ℕ → Kind → List Written
-kind_lefts k n without (log.Intent m sub ops) = cond (m == n) (puts k (cond (not (has sub without)) ops [])) []
+kind_lefts k n without (log.Intent sub m ops) = cond (m == n) (puts k (cond (not (has sub without)) ops [])) []
 kind_lefts k n without _ = []
 
 -- an operation on the key, with its intent's time
@@ -82,7 +82,7 @@ intent_of n s time kind =
 kind-timed : (k without : List ℕ) (n s time : ℕ) (kind : Kind)
     → flat_map (intent_timed k without) (intent_of n s time kind) ≡ timed time (kind_lefts k n without kind)
 kind-timed k without n s time (log.Write ops) = refl
-kind-timed k without n s time (log.Intent m sub ops) = elim (m == n) as (λ b. flat_map (intent_timed k without)
+kind-timed k without n s time (log.Intent sub m ops) = elim (m == n) as (λ b. flat_map (intent_timed k without)
     (option_map_or (λ (ops : List Op). record { time = time; tablet = s; sub = sub; ops = ops } ∷ []) (cond b (Some ops) None) []) ≡
     timed time (cond b (puts k (cond (not (has sub without)) ops [])) [])) [
       | true ↦ append-nil (timed time (puts k (cond (not (has sub without)) ops [])))
@@ -103,7 +103,7 @@ records-timed k without n s (r ∷ rs) = flat_map-append (intent_timed k without
 
 lefts-away : (k without : List ℕ) (n : ℕ) (kind : Kind) → KindAway k kind → kind_lefts k n without kind ≡ []
 lefts-away k without n (log.Write ops) h = refl
-lefts-away k without n (log.Intent m sub ops) h = elim (m == n) as (λ b. cond b (puts k (cond (not (has sub without)) ops [])) [] ≡ []) [
+lefts-away k without n (log.Intent sub m ops) h = elim (m == n) as (λ b. cond b (puts k (cond (not (has sub without)) ops [])) [] ≡ []) [
   | true ↦ elim (has sub without) as (λ b. puts k (cond (not b) ops []) ≡ []) [ true ↦ refl | false ↦ h ]
   | false ↦ refl
 ]
@@ -290,7 +290,7 @@ kind_puts k _ = []
 kind-writes : (outcomes : Outcomes) (k : List ℕ) (time : ℕ) (kind : Kind) → KindNumbered kind
     → map (λ v. version_made time 0 v) (kind_puts k kind) ≡ filter (has_number 0) (committed outcomes (kind_events k time kind))
 kind-writes outcomes k time (log.Write ops) h = puts-zero outcomes time (puts k ops)
-kind-writes outcomes k time (log.Intent n sub ops) h =
+kind-writes outcomes k time (log.Intent sub n ops) h =
     sym (holds-other outcomes 0 n sub time (puts k ops) (λ q. let z : ⊥ = omega arith in z))
 kind-writes outcomes k time (log.Apply n c without) h = refl
 kind-writes outcomes k time _ h = refl
@@ -369,7 +369,7 @@ kind-holds : (outcomes : Outcomes) (k : List ℕ) (n c time : ℕ) (kind : Kind)
     → map (λ v. version_made c n v) (kind_lefts k n (outcomes.undone n) kind) ≡ filter (has_number n)
     (committed outcomes (kind_events k time kind))
 kind-holds outcomes k n c time (log.Write ops) p h = sym (puts-other outcomes n time (puts k ops) p)
-kind-holds outcomes k n c time (log.Intent m sub ops) p h = let left = puts k (cond (not (has sub (outcomes.undone n))) ops []) in ⊎_elim
+kind-holds outcomes k n c time (log.Intent sub m ops) p h = let left = puts k (cond (not (has sub (outcomes.undone n))) ops []) in ⊎_elim
     (λ e. ap (λ b. map (λ v. version_made c n v) (cond b left [])) (eq-eqb m n (sym e)) ∙ intent-holds outcomes k n c sub time ops h
     ∙ ap (λ w. filter (has_number n) (committed outcomes (map (λ v. Hold w sub time v) (puts k ops)))) e)
     (λ e. ap (λ b. map (λ v. version_made c n v) (cond b left [])) (ne_eqb m n (λ q. e (sym q)))
@@ -422,7 +422,7 @@ here-records (r ∷ rs) h =
     go : Each (KnownHere (r ∷ rs)) (filter_map (λ r. applied_txn r.kind) rs) → (kind : Kind) → r.kind ≡ kind → KindNumbered kind
         → Each (KnownHere (r ∷ rs)) (cons_option (applied_txn kind) (filter_map (λ r. applied_txn r.kind) rs))
     go rest (log.Write ops) e k = rest
-    go rest (log.Intent n sub ops) e k = rest
+    go rest (log.Intent sub n ops) e k = rest
     go rest (log.Apply n c without) e k = (
       (
         k,

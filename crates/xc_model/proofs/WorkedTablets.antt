@@ -103,10 +103,10 @@ the_write = at 10 (Write (sets a (codes "1") ∷ sets z (codes "2") ∷ []))
 
 -- of the subtransaction that is rolled back
 abbrev undone_intent : Record
-undone_intent = at 11 (Intent 5 1 (sets a (codes "8") ∷ []))
+undone_intent = at 11 (Intent 1 5 (sets a (codes "8") ∷ []))
 
 abbrev the_intent : Record
-the_intent = at 12 (Intent 5 0 (sets a (codes "3") ∷ removes z ∷ []))
+the_intent = at 12 (Intent 0 5 (sets a (codes "3") ∷ removes z ∷ []))
 
 abbrev parent_safe : Record
 parent_safe = at 13 (Safe 12)

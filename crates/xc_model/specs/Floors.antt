@@ -65,7 +65,7 @@ abbrev pub floors_after : ℕ → Kind → Floors → Floors
 floors_after s (kind.Safe value) f = raised s value f
 floors_after s (kind.Split at left right) f = split_into s left right f
 floors_after s (kind.Write ops) f = f
-floors_after s (kind.Intent n sub ops) f = f
+floors_after s (kind.Intent sub n ops) f = f
 floors_after s (kind.Apply n commit without) f = f
 floors_after s (kind.Abort n) f = f
 

@@ -20,7 +20,7 @@ use Rattle.xc_record.proofs.NumberLaws.{has-distinct, has-append}
 applied-kind : (n c : ℕ) (kind : Kind) (ms : List ℕ) → applies n kind ≡ Some c → has n (cons_option (applied_txn kind) ms) ≡ true
 applied-kind n c (Apply txn commit without) ms e = grind (arith, nat_tests)
 applied-kind n c (Write ops) ms e = cc
-applied-kind n c (Intent txn sub ops) ms e = cc
+applied-kind n c (Intent sub txn ops) ms e = cc
 applied-kind n c (Abort txn) ms e = cc
 applied-kind n c (Safe value) ms e = cc
 applied-kind n c (Split at left right) ms e = cc

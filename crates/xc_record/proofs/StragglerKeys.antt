@@ -77,7 +77,7 @@ waits-intent n k (r ∷ rs) e = go r.time r.kind (waits-intent n k rs) e
     go time (kind.Abort m) ih e = ih e
     go time (kind.Safe value) ih e = ih e
     go time (kind.Split at left right) ih e = ih e
-    go time (kind.Intent m sub ops) ih e =
+    go time (kind.Intent sub m ops) ih e =
         pick (m == n) (waits_in n (waiting (events k rs))) ih
         (ap (λ p. (m == n && p) || waits_in n (waiting (events k rs))) (sym (some_put-key k ops))
         ∙ holds-wait n m sub time (puts k ops) (events k rs) e)

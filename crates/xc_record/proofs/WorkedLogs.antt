@@ -50,9 +50,9 @@ z = codes "zzz"
 abbrev pub two_tablets : ℕ → ℕ → Logs
 two_tablets safe commit = record {
   tablets =
-      root 0 0 32767 (at 10 (Intent 7 0 (sets a (codes "1") ∷ [])) ∷ at 20 (Apply 7 15 []) ∷ at 22 (Safe 22) ∷ [])
+      root 0 0 32767 (at 10 (Intent 0 7 (sets a (codes "1") ∷ [])) ∷ at 20 (Apply 7 15 []) ∷ at 22 (Safe 22) ∷ [])
       ∷ root 1 32768 65535
-      (at 11 (Intent 7 0 (sets z (codes "2") ∷ [])) ∷ at 21 (Safe safe) ∷ at 25 (Apply 7 commit []) ∷ at 30 (Safe 28) ∷ [])
+      (at 11 (Intent 0 7 (sets z (codes "2") ∷ [])) ∷ at 21 (Safe safe) ∷ at 25 (Apply 7 commit []) ∷ at 30 (Safe 28) ∷ [])
       ∷ [];
 }
 
@@ -61,7 +61,7 @@ abbrev pub with_split : ℕ → Logs
 with_split split_time = record {
   tablets =
       root 0 0 65535
-      (at 10 (Write (sets a (codes "1") ∷ [])) ∷ at 12 (Intent 5 0 (sets z (codes "9") ∷ [])) ∷ at 13 (Safe 12) ∷ at split_time
+      (at 10 (Write (sets a (codes "1") ∷ [])) ∷ at 12 (Intent 0 5 (sets z (codes "9") ∷ [])) ∷ at 13 (Safe 12) ∷ at split_time
       (Split 32768 1 2) ∷ [])
       ∷ child 1 0 32767 0 (at 20 (Safe 20) ∷ [])
       ∷ child 2 32768 65535 0 (at 18 (Apply 5 16 []) ∷ at 19 (Safe 17) ∷ [])
@@ -73,8 +73,8 @@ abbrev pub with_both_children : Logs
 with_both_children = record {
   tablets =
       root 0 0 65535
-      (at 10 (Write (sets a (codes "1") ∷ sets z (codes "2") ∷ [])) ∷ at 11 (Intent 5 1 (sets a (codes "8") ∷ [])) ∷ at 12
-      (Intent 5 0 (sets a (codes "3") ∷ removes z ∷ []))
+      (at 10 (Write (sets a (codes "1") ∷ sets z (codes "2") ∷ [])) ∷ at 11 (Intent 1 5 (sets a (codes "8") ∷ [])) ∷ at 12
+      (Intent 0 5 (sets a (codes "3") ∷ removes z ∷ []))
       ∷ at 13 (Safe 12) ∷ at 14 (Split 32768 1 2) ∷ [])
       ∷ child 1 0 32767 0 (at 18 (Apply 5 16 (1 ∷ [])) ∷ at 20 (Safe 19) ∷ [])
       ∷ child 2 32768 65535 0 (at 21 (Apply 5 16 (1 ∷ [])) ∷ at 23 (Safe 22) ∷ [])
@@ -86,7 +86,7 @@ abbrev pub with_late_apply : ℕ → Logs
 with_late_apply commit = record {
   tablets =
       root 0 0 65535
-      (at 10 (Write (sets a (codes "1") ∷ [])) ∷ at 11 (Intent 5 0 (sets b (codes "2") ∷ [])) ∷ at 13 (Safe 12) ∷ at 20
+      (at 10 (Write (sets a (codes "1") ∷ [])) ∷ at 11 (Intent 0 5 (sets b (codes "2") ∷ [])) ∷ at 13 (Safe 12) ∷ at 20
       (Apply 5 commit []) ∷ at 21 (Safe 21) ∷ [])
       ∷ [];
 }
@@ -95,8 +95,8 @@ with_late_apply commit = record {
 abbrev pub with_equal_commits : Logs
 with_equal_commits = record {
   tablets =
-      root 0 0 65535 (at 5 (Write (sets c (codes "z") ∷ [])) ∷ at 10 (Intent 3 0 (sets a (codes "t3") ∷ []))
-      ∷ at 11 (Intent 2 0 (sets a (codes "t2") ∷ sets b (codes "x") ∷ sets b (codes "y") ∷ removes c ∷ []))
+      root 0 0 65535 (at 5 (Write (sets c (codes "z") ∷ [])) ∷ at 10 (Intent 0 3 (sets a (codes "t3") ∷ []))
+      ∷ at 11 (Intent 0 2 (sets a (codes "t2") ∷ sets b (codes "x") ∷ sets b (codes "y") ∷ removes c ∷ []))
       ∷ at 20 (Apply 3 15 []) ∷ at 21 (Apply 2 15 []) ∷ at 22 (Safe 15) ∷ [])
       ∷ [];
 }

@@ -17,9 +17,9 @@ abbrev with_rollback : Logs
 with_rollback = record {
   tablets =
       root 0 0 65535
-      (at 10 (Intent 5 0 (sets a (codes "0") ∷ [])) ∷ at 11 (Intent 5 1 (sets b (codes "1") ∷ [])) ∷ at 12
-      (Intent 5 2 (sets a (codes "2") ∷ sets c (codes "2") ∷ []))
-      ∷ at 13 (Intent 5 3 (sets z (codes "3") ∷ [])) ∷ at 20 (Apply 5 15 (2 ∷ [])) ∷ at 22 (Safe 21) ∷ [])
+      (at 10 (Intent 0 5 (sets a (codes "0") ∷ [])) ∷ at 11 (Intent 1 5 (sets b (codes "1") ∷ [])) ∷ at 12
+      (Intent 2 5 (sets a (codes "2") ∷ sets c (codes "2") ∷ []))
+      ∷ at 13 (Intent 3 5 (sets z (codes "3") ∷ [])) ∷ at 20 (Apply 5 15 (2 ∷ [])) ∷ at 22 (Safe 21) ∷ [])
       ∷ [];
 }
 
@@ -68,9 +68,9 @@ rollback-later_steps = refl
 abbrev two_rollbacks : ℕ → List ℕ → Logs
 two_rollbacks safe without = record {
   tablets =
-      root 0 0 32767 (at 10 (Intent 7 0 (sets a (codes "1") ∷ [])) ∷ at 20 (Apply 7 15 (1 ∷ [])) ∷ at 22 (Safe 22) ∷ [])
+      root 0 0 32767 (at 10 (Intent 0 7 (sets a (codes "1") ∷ [])) ∷ at 20 (Apply 7 15 (1 ∷ [])) ∷ at 22 (Safe 22) ∷ [])
       ∷ root 1 32768 65535
-      (at 11 (Intent 7 1 (sets z (codes "2") ∷ [])) ∷ at 21 (Safe safe) ∷ at 25 (Apply 7 15 without) ∷ at 30 (Safe 28) ∷ [])
+      (at 11 (Intent 1 7 (sets z (codes "2") ∷ [])) ∷ at 21 (Safe safe) ∷ at 25 (Apply 7 15 without) ∷ at 30 (Safe 28) ∷ [])
       ∷ [];
 }
 

@@ -63,11 +63,11 @@ abbrev pub provisional_cmp : Provisional → Provisional → Ordering
 provisional_cmp x y = ordering_then (nat_cmp x.time y.time) (nat_cmp x.tablet y.tablet)
 
 abbrev pub intent_ops : ℕ → Kind → Option (List Op)
-intent_ops n (Intent txn sub ops) = if txn == n then Some ops else None
+intent_ops n (Intent sub txn ops) = if txn == n then Some ops else None
 intent_ops n _ = None
 
 abbrev pub sub_of : Kind → ℕ
-sub_of (Intent txn sub ops) = sub
+sub_of (Intent sub txn ops) = sub
 sub_of _ = 0
 
 -- the intents of the transaction, of one tablet

@@ -53,7 +53,7 @@ puts k (op ∷ ops) = if bytes_eq k op.key then (op.value ∷ puts k ops) else p
 
 abbrev pub kind_events : List ℕ → ℕ → Kind → List Event
 kind_events k time (kind.Write ops) = map (λ v. Put time v) (puts k ops)
-kind_events k time (kind.Intent n sub ops) = map (λ v. Hold n sub time v) (puts k ops)
+kind_events k time (kind.Intent sub n ops) = map (λ v. Hold n sub time v) (puts k ops)
 kind_events k time (kind.Apply n commit without) = Apply n commit without ∷ []
 kind_events k time (kind.Abort n) = Abort n ∷ []
 kind_events k time (kind.Safe value) = Safe value ∷ []

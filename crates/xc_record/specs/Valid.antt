@@ -43,7 +43,7 @@ ops_keep header ops = nat_le (length ops) RECORD_OPERATIONS && list_all (λ op. 
 
 abbrev pub keeps_header : Header → Option (Header × Header) → Kind → Bool
 keeps_header header pair (Write ops) = ops_keep header ops
-keeps_header header pair (Intent txn sub ops) = ops_keep header ops
+keeps_header header pair (Intent sub txn ops) = ops_keep header ops
 keeps_header header pair (Apply txn commit without) = true
 keeps_header header pair (Abort txn) = true
 keeps_header header pair (Safe value) = true
@@ -51,7 +51,7 @@ keeps_header header pair (Split at left right) = split_fits pair at left right
 
 abbrev pub kind_fits : Header → Option (Header × Header) → Kind → Bool
 kind_fits header pair (Write ops) = ops_fit header ops
-kind_fits header pair (Intent txn sub ops) = is_txn txn && (nat_le sub LAST_SUB && ops_fit header ops)
+kind_fits header pair (Intent sub txn ops) = is_txn txn && (nat_le sub LAST_SUB && ops_fit header ops)
 kind_fits header pair (Apply txn commit without) = is_txn txn && (is_time commit && are_subs without)
 kind_fits header pair (Abort txn) = is_txn txn
 kind_fits header pair (Safe value) = is_time value
@@ -71,7 +71,7 @@ tablet_fits headers t =
 
 abbrev pub ops_in : Kind → ℕ
 ops_in (Write ops) = length ops
-ops_in (Intent txn sub ops) = length ops
+ops_in (Intent sub txn ops) = length ops
 ops_in _ = 0
 
 abbrev pub headers_of : List Tablet → List Header

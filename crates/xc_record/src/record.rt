@@ -29,8 +29,8 @@ pub enum Kind {
     /// Provisional records of a distributed transaction: its operations wait here until its apply or abort. They belong
     /// to the transaction's subtransaction `sub`, 1 to `LAST_SUB`, or to none where it is 0.
     Intent {
-        txn: u32,
         sub: u8,
+        txn: u32,
         ops: Ops,
     },
     /// The transaction committed at this time. What waits of it becomes versions of the rows, but for the

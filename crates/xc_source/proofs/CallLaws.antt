@@ -29,15 +29,15 @@ to_transaction-found f m n t e = rw e refl
 
 pub write-next : (n : ℕ) (op : Op) (m : Machine) (j j' : Logged) (cs : List Commit) (ts : List Transaction) (t t' : Transaction)
     (ops : List Op) (id sub : ℕ) → machine_of j cs ts ≡ m → transaction m n ≡ Some t → id ≡ tablet_of (machine_of j cs ts) op.key
-    → t' ≡ written op t → ops ≡ op ∷ [] → sub ≡ t.current → j' ≡ logged_in id (kind.Intent n sub ops) j
+    → t' ≡ written op t → ops ≡ op ∷ [] → sub ≡ t.current → j' ≡ logged_in id (kind.Intent sub n ops) j
     → machine_of j' cs (slice_set ts (n - 1) t') ≡ to_transaction (write_after n op m) m n
 write-next n op m j j' cs ts t t' ops id sub e f i w o u l =
     let M = machine_of j cs ts in
     let tablet = tablet_of M op.key in
-    let l' = l ∙ ap (λ x. logged_in x (kind.Intent n sub ops) j) i ∙ ap (λ x. logged_in tablet (kind.Intent n x ops) j) u
-    ∙ ap (λ x. logged_in tablet (kind.Intent n t.current x) j) o in
+    let l' = l ∙ ap (λ x. logged_in x (kind.Intent sub n ops) j) i ∙ ap (λ x. logged_in tablet (kind.Intent x n ops) j) u
+    ∙ ap (λ x. logged_in tablet (kind.Intent t.current n x) j) o in
     ap (λ x. machine_of x cs (slice_set ts (n - 1) t')) l'
-    ∙ ap (λ x. machine_of (logged_in tablet (kind.Intent n t.current (op ∷ [])) j) cs (slice_set ts (n - 1) x)) w
+    ∙ ap (λ x. machine_of (logged_in tablet (kind.Intent t.current n (op ∷ [])) j) cs (slice_set ts (n - 1) x)) w
     ∙ ap (λ x. write_after n op x t) e
     ∙ to_transaction-found (write_after n op m) m n t f
 

@@ -43,7 +43,7 @@ abbrev pub last_part : List SourceCommand
 last_part = command.Apply 1 0 ∷ command.Split 1 50000 ∷ command.Safe 0 ∷ command.Finish ∷ []
 
 abbrev pub intent_z : Kind
-intent_z = Intent 1 0 (sets (codes "zzz") (codes "3") ∷ [])
+intent_z = Intent 0 1 (sets (codes "zzz") (codes "3") ∷ [])
 
 abbrev pub both_commits : List Commit
 both_commits =
@@ -59,7 +59,7 @@ with_early_safe = machine_after first_part (command.Safe 0 ∷ last_part)
 
 early_safe_tablets : with_early_safe.tablets ≡
     log_of (root 0 0 32767)
-    (at 101 (Write (sets (codes "aaa") (codes "1") ∷ [])) ∷ at 102 (Intent 1 0 (sets (codes "aaa") (codes "2") ∷ []))
+    (at 101 (Write (sets (codes "aaa") (codes "1") ∷ [])) ∷ at 102 (Intent 0 1 (sets (codes "aaa") (codes "2") ∷ []))
     ∷ at 105 (Safe 103) ∷ at 106 (Apply 1 104 []) ∷ at 108 (Safe 108) ∷ at 110 (Safe 110) ∷ [])
     ∷ log_of (root 1 32768 65535) (at 103 intent_z ∷ at 107 (Split 50000 2 3) ∷ [])
     ∷ log_of (child 2 32768 49999 1) (at 111 (Safe 111) ∷ [])
@@ -74,7 +74,7 @@ early_safe_commits = refl
 -- the script without it
 without_early_safe : (machine_after first_part last_part).tablets ≡
     log_of (root 0 0 32767)
-    (at 101 (Write (sets (codes "aaa") (codes "1") ∷ [])) ∷ at 102 (Intent 1 0 (sets (codes "aaa") (codes "2") ∷ []))
+    (at 101 (Write (sets (codes "aaa") (codes "1") ∷ [])) ∷ at 102 (Intent 0 1 (sets (codes "aaa") (codes "2") ∷ []))
     ∷ at 105 (Apply 1 104 []) ∷ at 107 (Safe 107) ∷ at 109 (Safe 109) ∷ [])
     ∷ log_of (root 1 32768 65535) (at 103 intent_z ∷ at 106 (Split 50000 2 3) ∷ [])
     ∷ log_of (child 2 32768 49999 1) (at 110 (Safe 110) ∷ [])
@@ -91,8 +91,8 @@ with_savepoint =
 
 savepoint_tablets : (run with_savepoint (start (root 0 0 65535 ∷ []) 0)).tablets ≡
     log_of (root 0 0 65535)
-    (at 1 (Intent 1 0 (sets (codes "aaa") (codes "1") ∷ [])) ∷ at 2 (Intent 1 1 (sets (codes "a b") (codes "2") ∷ []))
-    ∷ at 3 (Intent 1 2 (sets (codes "ccc") (codes "3") ∷ [])) ∷ at 5 (Apply 1 4 (1 ∷ [])) ∷ at 6 (Safe 6) ∷ []) ∷ []
+    (at 1 (Intent 0 1 (sets (codes "aaa") (codes "1") ∷ [])) ∷ at 2 (Intent 1 1 (sets (codes "a b") (codes "2") ∷ []))
+    ∷ at 3 (Intent 2 1 (sets (codes "ccc") (codes "3") ∷ [])) ∷ at 5 (Apply 1 4 (1 ∷ [])) ∷ at 6 (Safe 6) ∷ []) ∷ []
 unfolding step hash_of tablets_of holder commits_on pending
 savepoint_tablets = refl
 

@@ -22,7 +22,7 @@ one_step : (generated 0 1).tablets ≡
     log_of (root 0 0 16383) (at 3 (Safe 3) ∷ [])
     ∷ log_of (root 1 16384 32767) (at 4 (Safe 4) ∷ [])
     ∷ log_of (root 2 32768 49151)
-    (at 1 (Intent 1 0 (sets (codes "k970") (codes "41") ∷ [])) ∷ at 2 (Abort 1) ∷ at 5 (Safe 5) ∷ [])
+    (at 1 (Intent 0 1 (sets (codes "k970") (codes "41") ∷ [])) ∷ at 2 (Abort 1) ∷ at 5 (Safe 5) ∷ [])
     ∷ log_of (root 3 49152 65535) (at 6 (Safe 6) ∷ []) ∷ []
 unfolding generated workload first_words digits word_commands split_commands step hash_of tablets_of holder commits_on pending
 one_step = refl
@@ -34,10 +34,10 @@ one_step_commits = refl
 three_steps : (generated 0 3).tablets ≡
     log_of (root 0 0 16383) (at 6 (Safe 6) ∷ [])
     ∷ log_of (root 1 16384 32767)
-    (at 3 (Write (sets (codes "k231") (codes "637") ∷ [])) ∷ at 4 (Intent 2 0 (sets (codes "k604") (codes "716") ∷ []))
+    (at 3 (Write (sets (codes "k231") (codes "637") ∷ [])) ∷ at 4 (Intent 0 2 (sets (codes "k604") (codes "716") ∷ []))
     ∷ at 5 (Abort 2) ∷ at 7 (Safe 7) ∷ [])
     ∷ log_of (root 2 32768 49151)
-    (at 1 (Intent 1 0 (sets (codes "k970") (codes "41") ∷ [])) ∷ at 2 (Abort 1) ∷ at 8 (Safe 8) ∷ [])
+    (at 1 (Intent 0 1 (sets (codes "k970") (codes "41") ∷ [])) ∷ at 2 (Abort 1) ∷ at 8 (Safe 8) ∷ [])
     ∷ log_of (root 3 49152 65535) (at 9 (Safe 9) ∷ []) ∷ []
 unfolding generated workload first_words digits word_commands split_commands step hash_of tablets_of holder commits_on pending
 three_steps = refl

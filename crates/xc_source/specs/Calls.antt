@@ -103,7 +103,7 @@ abbrev pub written : Op → Transaction → Transaction
 written op t = record t { writes = t.writes ++ record { sub = t.current; op = op; waits = true } ∷ [] }
 
 abbrev pub write_after : ℕ → Op → Machine → Transaction → Machine
-write_after n op m t = logged (tablet_of m op.key) (kind.Intent n t.current (op ∷ [])) (with_transaction n (written op t) m)
+write_after n op m t = logged (tablet_of m op.key) (kind.Intent t.current n (op ∷ [])) (with_transaction n (written op t) m)
 
 -- the machine after something is done with the transaction of this number
 abbrev pub to_transaction : (Transaction → Machine) → Machine → ℕ → Machine

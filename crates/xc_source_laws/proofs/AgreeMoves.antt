@@ -142,15 +142,15 @@ abort-agrees m bs n t l a =
 write-agrees : (m : Machine) (bs : List AcceptedTablet) (n : ℕ) (op : Op) (t : Transaction) (id : ℕ) (b : AcceptedTablet)
     (o : OpenAt bs id b)
     → IsMachine m bs → IsLive m n t → AgreesSo m bs
-    → AgreesSo (logged id (kind.Intent n t.current (op ∷ [])) (with_transaction n (written op t) m))
-    (grown_books o.seam (next_record m (kind.Intent n t.current (op ∷ []))))
+    → AgreesSo (logged id (kind.Intent t.current n (op ∷ [])) (with_transaction n (written op t) m))
+    (grown_books o.seam (next_record m (kind.Intent t.current n (op ∷ []))))
 write-agrees m bs n op t id b o k l a =
-    let r = next_record m (kind.Intent n t.current (op ∷ [])) in
+    let r = next_record m (kind.Intent t.current n (op ∷ [])) in
     let ys = slice_set m.txns (n - 1) (written op t) in
     let same = at-set-same m.txns n t (written op t) l.there in
     let old : (k : List ℕ) (i : ℕ) → waits_in i k (key_path k bs) ≡ true → Waiter ys i k =
     λ k i e. waiter-more m.txns n t (written op t) k i l.there (written-waits k op t) (a.waits k i e) in
-    agree-logged m (logged id (kind.Intent n t.current (op ∷ [])) (with_transaction n (written op t) m)) bs id b o r k
+    agree-logged m (logged id (kind.Intent t.current n (op ∷ [])) (with_transaction n (written op t) m)) bs id b o r k
     (later-set m.time m.txns n t (written op t) l.there (follows-stage m.time t (written op t) refl refl))
     (record {
       says = record {

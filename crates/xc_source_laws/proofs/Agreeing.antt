@@ -65,7 +65,7 @@ path-says time ts h bs s =
 kind-early : (time c at : ℕ) (ts : List Transaction) (k : Kind) → time < c → KindSays time ts at k
     → option_map_or (λ value. nat_le c value) (safe_value k) false ≡ false
 kind-early time c at ts (kind.Write ops) l s = refl
-kind-early time c at ts (kind.Intent n sub ops) l s = refl
+kind-early time c at ts (kind.Intent sub n ops) l s = refl
 kind-early time c at ts (kind.Apply n d without) l s = refl
 kind-early time c at ts (kind.Abort n) l s = refl
 kind-early time c at ts (kind.Safe v) l s = let a : v ≤ time = s in grind (arith, nat_tests)

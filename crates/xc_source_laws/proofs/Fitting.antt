@@ -143,7 +143,7 @@ fits-taken t c xs b ys r f o n s ok =
 
 kind-more : (h : Header) (pair : Header × Header) (k : Kind) → kind_fits h None k ≡ true → kind_fits h (Some pair) k ≡ true
 kind-more h pair (kind.Write ops) e = e
-kind-more h pair (kind.Intent txn sub ops) e = e
+kind-more h pair (kind.Intent sub txn ops) e = e
 kind-more h pair (kind.Apply txn commit without) e = e
 kind-more h pair (kind.Abort txn) e = e
 kind-more h pair (kind.Safe value) e = e

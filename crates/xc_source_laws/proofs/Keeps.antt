@@ -103,15 +103,15 @@ move-abort P cl m n t l k = record {
 
 pub move-write : (P : Machine → List AcceptedTablet → Type 0) → Closed P → (m : Machine) (n : ℕ) (op : Op) (t : Transaction) (id : ℕ)
     (b : AcceptedTablet) (k : Kept P m) → OpenAt k.books id b → IsLive m n t → holds b.header (hash_of op.key) ≡ true → OpFits op
-    → Kept P (logged id (kind.Intent n t.current (op ∷ [])) (with_transaction n (written op t) m))
+    → Kept P (logged id (kind.Intent t.current n (op ∷ [])) (with_transaction n (written op t) m))
 move-write P cl m n op t id b k o l h f = record {
-  books = grown_books o.seam (next_record m (kind.Intent n t.current (op ∷ [])));
-  base = base-txn (logged id (kind.Intent n t.current (op ∷ [])) m)
-      (grown_books o.seam (next_record m (kind.Intent n t.current (op ∷ [])))) n
+  books = grown_books o.seam (next_record m (kind.Intent t.current n (op ∷ [])));
+  base = base-txn (logged id (kind.Intent t.current n (op ∷ [])) m)
+      (grown_books o.seam (next_record m (kind.Intent t.current n (op ∷ [])))) n
       (written op t)
-      (live-txn (m.time + 1) (grown_books o.seam (next_record m (kind.Intent n t.current (op ∷ [])))) (written op t) l.live
+      (live-txn (m.time + 1) (grown_books o.seam (next_record m (kind.Intent t.current n (op ∷ [])))) (written op t) l.live
       (λ w. omega arith))
-      (base-plain m k.books id b o.seam (kind.Intent n t.current (op ∷ [])) k.base o.opened refl refl refl);
+      (base-plain m k.books id b o.seam (kind.Intent t.current n (op ∷ [])) k.base o.opened refl refl refl);
   holds_of = cl.write m k.books n op t id b o k.base l h f k.holds_of;
 }
 

@@ -63,7 +63,7 @@ did-write m xs t op o h l r =
     (is-known m n t there, (is-not-ended m n t there l, (free, (not-full m 1 r, (not-ended m 1 r, tt))))) in
     let some = to_transaction (call.write_after n op m) m n in
     let u = with_transaction n (written op t) m in
-    let k = kind.Intent n t.current (op ∷ []) in
+    let k = kind.Intent t.current n (op ∷ []) in
     let id = call.tablet_of m op.key in
     let left : (call.write n op m).1 ≡ logged id k u =
     leaves (call.write_refusal n op m) m (m.time + 1) some e ∙ ap (λ o. option_map_or (call.write_after n op m) o m) there in

@@ -83,7 +83,7 @@ slow-closed t0 r0 = record {
   savepoint = λ m bs n t k l f p. p;
   roll_back = λ m bs n sub t k l i f p. p;
   write = λ m bs n op t id b o k l h f p.
-      let e = size-logged m bs id b o.seam (next_record m (kind.Intent n t.current (op ∷ []))) k.shape in omega arith;
+      let e = size-logged m bs id b o.seam (next_record m (kind.Intent t.current n (op ∷ []))) k.shape in omega arith;
   put = λ m bs op id b o k h f p. let e = size-logged m bs id b o.seam (next_record m (kind.Write (op ∷ []))) k.shape in omega arith;
   commit = λ m bs n t k l p. slow-listed t0 r0 (m.time + 1) n t
       (with_transaction n (record t { stage = Committed (m.time + 1) }) (record m { time = m.time + 1 })) bs (let q = p in omega arith);
@@ -203,7 +203,7 @@ write-limits n op m l s =
     with-room 1 m (to_transaction (call.write_after n op m) m n) l (room m 1 p.1.1.1.0 p.1.1.1.1.0)
     (grew-to 1 (call.write_after n op m) m n (λ t.
     grew-then 0 1 m (with_transaction n (written op t) m) (call.write_after n op m t) (grew-txn n (written op t) m)
-    (grew-logged (call.tablet_of m op.key) (kind.Intent n t.current (op ∷ [])) (with_transaction n (written op t) m)))) q)
+    (grew-logged (call.tablet_of m op.key) (kind.Intent t.current n (op ∷ [])) (with_transaction n (written op t) m)))) q)
 
 put-limits : (op : Op) (m : Machine) → Limits m → SlowTo m (call.put op m).1 → Limits (call.put op m).1
 put-limits op m l s =

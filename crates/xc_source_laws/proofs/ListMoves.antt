@@ -141,7 +141,7 @@ begin-lists time ts cs bs s = record {
   where
     apply-more : (k : Kind) → ApplyOf ts k → ApplyOf (ts ++ begun ∷ []) k
     apply-more (kind.Write ops) a = tt
-    apply-more (kind.Intent m sub ops) a = tt
+    apply-more (kind.Intent sub m ops) a = tt
     apply-more (kind.Apply m c without) a = (a.0, at-left ts m a.0 a.1, a.2)
     apply-more (kind.Abort m) a = tt
     apply-more (kind.Safe v) a = tt
@@ -166,7 +166,7 @@ up-more time cs d l t u =
 
 put-more : (cs ds : List Commit) (at : ℕ) (k : Kind) → PutIn cs at k → PutIn (cs ++ ds) at k
 put-more cs ds at (kind.Write ops) p = exists-left (λ c. c ≡ record { time = at; txn = 0; ops = ops }) cs ds p
-put-more cs ds at (kind.Intent m sub ops) p = tt
+put-more cs ds at (kind.Intent sub m ops) p = tt
 put-more cs ds at (kind.Apply m c without) p = tt
 put-more cs ds at (kind.Abort m) p = tt
 put-more cs ds at (kind.Safe v) p = tt
@@ -349,7 +349,7 @@ comes-after x y l = (grind (arith, nat_tests), grind (arith, nat_tests))
 write-lists : (t : ℕ) (ts : List Transaction) (cs : List Commit) (xs : List AcceptedTablet) (b : AcceptedTablet) (ys : List AcceptedTablet)
     (n : ℕ) (op : Op) (x : Transaction) → txn_at ts n ≡ Some x → is_live x.stage ≡ true → ListsOf t ts cs (xs ++ b ∷ ys)
     → ListsOf (t + 1) (slice_set ts (n - 1) (written op x)) cs
-    (xs ++ taken b (record { time = t + 1; kind = kind.Intent n x.current (op ∷ []) }) ∷ ys)
+    (xs ++ taken b (record { time = t + 1; kind = kind.Intent x.current n (op ∷ []) }) ∷ ys)
 write-lists t ts cs xs b ys n op x e l old = record {
   up = s.up;
   top = s.top;
@@ -378,7 +378,7 @@ write-lists t ts cs xs b ys n op x e l old = record {
     zs = slice_set ts (n - 1) u
 
     r : Record
-    r = record { time = t + 1; kind = kind.Intent n x.current (op ∷ []) }
+    r = record { time = t + 1; kind = kind.Intent x.current n (op ∷ []) }
 
     made : LogIntent
     made = record { time = t + 1; tablet = b.header.id; sub = x.current; ops = op ∷ [] }

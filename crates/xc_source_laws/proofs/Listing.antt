@@ -121,7 +121,7 @@ apply-set : (xs : List Transaction) (n : ℕ) (t u : Transaction) (k : Kind) →
     → (1 ≤ length t.writes → 1 ≤ length u.writes) → ApplyOf xs k
     → ApplyOf (slice_set xs (n - 1) u) k
 apply-set xs n t u (kind.Write ops) e w a = tt
-apply-set xs n t u (kind.Intent m sub ops) e w a = tt
+apply-set xs n t u (kind.Intent sub m ops) e w a = tt
 apply-set xs n t u (kind.Apply m c without) e w a =
     ⊎_elim
     (λ s. let same : t ≡ a.0 = same_Some t a.0 (sym e ∙ ap (txn_at xs) s ∙ a.1) in

@@ -58,7 +58,7 @@ pub record Found (ts : List Transaction) (time : ℕ) (n c : ℕ) : Type 0 where
 
 kind-found : (time : ℕ) (ts : List Transaction) (n c at : ℕ) (k : Kind) → KindSays time ts at k → applies n k ≡ Some c → Found ts time n c
 kind-found time ts n c at (kind.Write ops) s e = cc
-kind-found time ts n c at (kind.Intent m sub ops) s e = cc
+kind-found time ts n c at (kind.Intent sub m ops) s e = cc
 kind-found time ts n c at (kind.Apply m d without) s e = go (m == n) refl e
   where
     go : (b : Bool) → (m == n) ≡ b → (if b then Some d else None) ≡ Some c → Found ts time n c
@@ -98,7 +98,7 @@ if-some false x f h = refl
 kind-commit : (time : ℕ) (ts : List Transaction) (n c at : ℕ) (k : Kind) → Found ts time n c → KindSays time ts at k
     → option_map_or (λ d. not (d == c)) (applies n k) false ≡ false
 kind-commit time ts n c at (kind.Write ops) f s = refl
-kind-commit time ts n c at (kind.Intent m sub ops) f s = refl
+kind-commit time ts n c at (kind.Intent sub m ops) f s = refl
 kind-commit time ts n c at (kind.Apply m d without) f s =
     if-some (m == n) d (λ d. not (d == c))
     (λ q. let same : m ≡ n = eqb-true m n q in
@@ -112,7 +112,7 @@ kind-rollback : (time : ℕ) (ts : List Transaction) (n c at : ℕ) (k : Kind) (
     → KindSays time ts at k
     → option_map_or (λ w. not (bytes_eq w u)) (rolls_back n k) false ≡ false
 kind-rollback time ts n c at (kind.Write ops) u f e s = refl
-kind-rollback time ts n c at (kind.Intent m sub ops) u f e s = refl
+kind-rollback time ts n c at (kind.Intent sub m ops) u f e s = refl
 kind-rollback time ts n c at (kind.Apply m d without) u f e s =
     if-some (m == n) without (λ w. not (bytes_eq w u))
     (λ q. let same : m ≡ n = eqb-true m n q in
@@ -130,7 +130,7 @@ some-if false x h = refl
 kind-intent : (time : ℕ) (ts : List Transaction) (n c at : ℕ) (k : Kind) → Found ts time n c → KindSays time ts at k
     → (is_some (intent_ops n k) && nat_le c at) ≡ false
 kind-intent time ts n c at (kind.Write ops) f s = refl
-kind-intent time ts n c at (kind.Intent m sub ops) f s = go (m == n) refl
+kind-intent time ts n c at (kind.Intent sub m ops) f s = go (m == n) refl
   where
     go : (b : Bool) → (m == n) ≡ b → (is_some (if b then Some ops else None) && nat_le c at) ≡ false
     go true q =
@@ -145,7 +145,7 @@ kind-intent time ts n c at (kind.Split place left right) f s = refl
 
 kind-abort : (time : ℕ) (ts : List Transaction) (n c at : ℕ) (k : Kind) → Found ts time n c → KindSays time ts at k → aborts n k ≡ false
 kind-abort time ts n c at (kind.Write ops) f s = refl
-kind-abort time ts n c at (kind.Intent m sub ops) f s = refl
+kind-abort time ts n c at (kind.Intent sub m ops) f s = refl
 kind-abort time ts n c at (kind.Apply m d without) f s = refl
 kind-abort time ts n c at (kind.Abort m) f s =
     ⊎_elim
@@ -158,7 +158,7 @@ kind-abort time ts n c at (kind.Split place left right) f s = refl
 -- what was rolled back, as the logs give it
 rolls-none : (n : ℕ) (k : Kind) → rolls_back n k ≡ None → applies n k ≡ None
 rolls-none n (kind.Write ops) e = refl
-rolls-none n (kind.Intent m sub ops) e = refl
+rolls-none n (kind.Intent sub m ops) e = refl
 rolls-none n (kind.Apply m d without) e = go (m == n) e
   where
     go : (b : Bool) → (if b then Some without else None) ≡ None → (if b then Some d else None) ≡ None
@@ -181,7 +181,7 @@ none-first {B = B} f g h (x ∷ xs) e = go (f x) refl e (λ q. none-first f g h 
 kind-rolled : (time : ℕ) (ts : List Transaction) (n c at : ℕ) (k : Kind) (w : List ℕ) → (f : Found ts time n c) → KindSays time ts at k
     → rolls_back n k ≡ Some w → f.t.undone ≡ w
 kind-rolled time ts n c at (kind.Write ops) w f s e = cc
-kind-rolled time ts n c at (kind.Intent m sub ops) w f s e = cc
+kind-rolled time ts n c at (kind.Intent sub m ops) w f s e = cc
 kind-rolled time ts n c at (kind.Apply m d without) w f s e = go (m == n) refl e
   where
     go : (b : Bool) → (m == n) ≡ b → (if b then Some without else None) ≡ Some w → f.t.undone ≡ w

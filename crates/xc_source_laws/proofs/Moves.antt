@@ -49,8 +49,8 @@ pub record Closed (P : Machine → List AcceptedTablet → Type 0) : Type 0 wher
       → is_savepoint sub t ≡ true → t.current < 64 → P m bs → P (with_transaction n (next_begun (undone_from sub t)) m) bs
   pub write : (m : Machine) (bs : List AcceptedTablet) (n : ℕ) (op : Op) (t : Transaction) (id : ℕ) (b : AcceptedTablet)
       (o : OpenAt bs id b) → IsMachine m bs → IsLive m n t → holds b.header (hash_of op.key) ≡ true → OpFits op → P m bs
-      → P (logged id (kind.Intent n t.current (op ∷ [])) (with_transaction n (written op t) m))
-      (grown_books o.seam (next_record m (kind.Intent n t.current (op ∷ []))))
+      → P (logged id (kind.Intent t.current n (op ∷ [])) (with_transaction n (written op t) m))
+      (grown_books o.seam (next_record m (kind.Intent t.current n (op ∷ []))))
   pub put : (m : Machine) (bs : List AcceptedTablet) (op : Op) (id : ℕ) (b : AcceptedTablet)
       (o : OpenAt bs id b) → IsMachine m bs → holds b.header (hash_of op.key) ≡ true → OpFits op → P m bs
       → P (with_commit (m.time + 1) 0 (op ∷ []) (logged id (kind.Write (op ∷ [])) m))

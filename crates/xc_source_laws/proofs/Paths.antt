@@ -93,12 +93,12 @@ events-push k rs r =
 
 -- the transaction's operation of the key waits, or one waited before
 pub waits-intent : (n m sub time : ℕ) (op : Op) (k : List ℕ) (rs : List Record)
-    → waits_in n k (rs ++ record { time = time; kind = kind.Intent m sub (op ∷ []) } ∷ []) ≡ true
+    → waits_in n k (rs ++ record { time = time; kind = kind.Intent sub m (op ∷ []) } ∷ []) ≡ true
     → (waits_in n k rs ≡ true) ⊎ ((m ≡ n) × (bytes_eq k op.key ≡ true))
 waits-intent n m sub time op k rs e =
     go (bytes_eq k op.key) refl
     (subst (λ es. list_any (λ w. w.txn == n) (waiting es) ≡ true)
-    (events-push k rs (record { time = time; kind = kind.Intent m sub (op ∷ []) })) e)
+    (events-push k rs (record { time = time; kind = kind.Intent sub m (op ∷ []) })) e)
   where
     either : (ws : List Waiting) → list_any (λ w. w.txn == n) (ws ++ record { txn = m; sub = sub; value = op.value } ∷ []) ≡ true
         → (list_any (λ w. w.txn == n) ws ≡ true) ⊎ (m ≡ n)

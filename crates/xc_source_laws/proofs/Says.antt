@@ -40,7 +40,7 @@ pub record Aborts (ts : List Transaction) (n : ℕ) : Type 0 where
 
 abbrev pub KindSays : ℕ → List Transaction → ℕ → Kind → Type 0
 KindSays time ts at (kind.Write ops) = Unit {0}
-KindSays time ts at (kind.Intent n sub ops) = Wrote ts n at
+KindSays time ts at (kind.Intent sub n ops) = Wrote ts n at
 KindSays time ts at (kind.Apply n c without) = Applied ts n c without
 KindSays time ts at (kind.Abort n) = Aborts ts n
 KindSays time ts at (kind.Safe v) = v ≤ time
@@ -182,7 +182,7 @@ later-begun time xs = record {
 kind-later : (t u : ℕ) (xs ys : List Transaction) (at : ℕ) (k : Kind) → t ≤ u → at ≤ t → Later t xs ys → KindSays t xs at k
     → KindSays u ys at k
 kind-later t u xs ys at (kind.Write ops) l p g s = tt
-kind-later t u xs ys at (kind.Intent n sub ops) l p g s =
+kind-later t u xs ys at (kind.Intent sub n ops) l p g s =
     let next = g.onward n s.t s.there in
     record {
       t = next.u;

@@ -74,7 +74,7 @@ ops-are m bs n t k s e u =
 apply-wrote : (ts : List Transaction) (n c : ℕ) (k : Kind) → ApplyOf ts k → applies n k ≡ Some c
     → (t : Transaction) × (txn_at ts n ≡ Some t) × (1 ≤ length t.writes)
 apply-wrote ts n c (kind.Write ops) a e = cc
-apply-wrote ts n c (kind.Intent m sub ops) a e = cc
+apply-wrote ts n c (kind.Intent sub m ops) a e = cc
 apply-wrote ts n c (kind.Apply m d without) a e = go (m == n) refl e
   where
     go : (b : Bool) → (m == n) ≡ b → (if b then Some d else None) ≡ Some c → (t : Transaction) × (txn_at ts n ≡ Some t)
@@ -119,7 +119,7 @@ committing m bs n c k a s e =
 kind-applied : (n : ℕ) (k : Kind) (ns : List ℕ) → has n (cons_option (applied_txn k) ns) ≡ true
     → ((d : ℕ) × (applies n k ≡ Some d)) ⊎ (has n ns ≡ true)
 kind-applied n (kind.Write ops) ns e = inr e
-kind-applied n (kind.Intent m sub ops) ns e = inr e
+kind-applied n (kind.Intent sub m ops) ns e = inr e
 kind-applied n (kind.Apply m c without) ns e = go (m == n) refl e
   where
     go : (b : Bool) → (m == n) ≡ b → (b || has n ns) ≡ true → ((d : ℕ) × (applies n (kind.Apply m c without) ≡ Some d)) ⊎ (has n ns ≡ true)
@@ -233,7 +233,7 @@ pub record IsWriteOf (m : Machine) (x : LogCommit) : Type 0 where
 write-listed : (m : Machine) (id at : ℕ) (k : Kind) (more : List LogCommit) → PutIn m.commits at k → Each (IsWriteOf m) more
     → Each (IsWriteOf m) (option_map_or (λ ops. record { time = at; txn = 0; tablet = id; ops = ops } ∷ []) (write_ops k) [] ++ more)
 write-listed m id at (kind.Write ops) more p h = (record { txn = refl; listed = p }, h)
-write-listed m id at (kind.Intent n sub ops) more p h = h
+write-listed m id at (kind.Intent sub n ops) more p h = h
 write-listed m id at (kind.Apply n c without) more p h = h
 write-listed m id at (kind.Abort n) more p h = h
 write-listed m id at (kind.Safe v) more p h = h

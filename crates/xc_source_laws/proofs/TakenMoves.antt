@@ -89,7 +89,7 @@ taken-closed = record {
   savepoint = λ m bs n t k l f h. live-taken m bs n t (next_begun t) l refl h;
   roll_back = λ m bs n sub t k l i f h. live-taken m bs n t (next_begun (undone_from sub t)) l refl h;
   write = λ m bs n op t id b o k l q f h.
-      grown-taken (slice_set m.txns (n - 1) (written op t)) id bs b o.seam (next_record m (kind.Intent n t.current (op ∷ [])))
+      grown-taken (slice_set m.txns (n - 1) (written op t)) id bs b o.seam (next_record m (kind.Intent t.current n (op ∷ [])))
       (set-taken m.txns bs n t (written op t) l.there
       (λ f w. f (any-waiting t.writes (record { sub = t.current; op = op; waits = true }) refl w)) h);
   put = λ m bs op id b o k q f h. grown-taken m.txns id bs b o.seam (next_record m (kind.Write (op ∷ []))) h;

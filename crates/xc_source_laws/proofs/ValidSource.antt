@@ -219,8 +219,8 @@ valid-closed = record {
   roll_back = λ m bs n sub t k l is few v.
       with-txn m bs n (next_begun (undone_from sub t)) v (undone-subs sub t is few (get-subs m bs n t v l.there));
   write = λ m bs n op t id b o k l h f v.
-      with-record m (logged id (kind.Intent n t.current (op ∷ [])) (with_transaction n (written op t) m)) bs id b o
-      (kind.Intent n t.current (op ∷ [])) v refl
+      with-record m (logged id (kind.Intent t.current n (op ∷ [])) (with_transaction n (written op t) m)) bs id b o
+      (kind.Intent t.current n (op ∷ [])) v refl
       (omega arith)
       (λ lt few. let sub : nat_le t.current 64 ≡ true = let q = (get-subs m bs n t v l.there).current in grind (arith, nat_tests) in
       rw (txn-fits m n t l.there few, sub, one-op b.header op h f) refl) refl (length-set m.txns (n - 1) (written op t))

@@ -52,7 +52,7 @@ owned e h ops c d keep ch = record {
 pub keys-of_header : (h : Header) (pair : Option (Header × Header)) (kind : Kind) → keeps_header h pair kind ≡ true
     → keys_keep h kind ≡ true
 keys-of_header h pair (kind.Write ops) e = e
-keys-of_header h pair (kind.Intent txn sub ops) e = e
+keys-of_header h pair (kind.Intent sub txn ops) e = e
 keys-of_header h pair (kind.Apply txn commit without) e = refl
 keys-of_header h pair (kind.Abort txn) e = refl
 keys-of_header h pair (kind.Safe value) e = refl

@@ -38,7 +38,7 @@ use Rattle.xc_tablet.specs.State.{seen, IsState, Ready, names_children}
 pub names-of_header : (h : Header) (pair : Option (Header × Header)) (kind : Kind) → keeps_header h pair kind ≡ true
     → names_children pair kind ≡ true
 names-of_header h pair (kind.Write ops) e = refl
-names-of_header h pair (kind.Intent txn sub ops) e = refl
+names-of_header h pair (kind.Intent sub txn ops) e = refl
 names-of_header h pair (kind.Apply txn commit without) e = refl
 names-of_header h pair (kind.Abort txn) e = refl
 names-of_header h pair (kind.Safe value) e = refl
@@ -48,7 +48,7 @@ pub few-of_header : (h : Header) (pair : Option (Header × Header)) (kind : Kind
 few-of_header h pair (kind.Write ops) e =
     let p : nat_le (length ops) 64 ≡ true =
     (and_parts (nat_le (length ops) 64) (list_all (λ op. holds h (hash_of op.key)) ops) e).0 in grind (arith, nat_tests)
-few-of_header h pair (kind.Intent txn sub ops) e =
+few-of_header h pair (kind.Intent sub txn ops) e =
     let p : nat_le (length ops) 64 ≡ true =
     (and_parts (nat_le (length ops) 64) (list_all (λ op. holds h (hash_of op.key)) ops) e).0 in grind (arith, nat_tests)
 few-of_header h pair (kind.Apply txn commit without) e = omega arith
@@ -77,7 +77,7 @@ split-named f s at left right e = go (children f.headers s) e
 
 pub headers-after : (s : ℕ) (kind : Kind) (f : Floors) → (floors_after s kind f).headers ≡ f.headers
 headers-after s (kind.Write ops) f = refl
-headers-after s (kind.Intent txn sub ops) f = refl
+headers-after s (kind.Intent sub txn ops) f = refl
 headers-after s (kind.Apply txn commit without) f = refl
 headers-after s (kind.Abort txn) f = refl
 headers-after s (kind.Safe value) f = refl
@@ -85,7 +85,7 @@ headers-after s (kind.Split at left right) f = refl
 
 pub closed-after : (s : ℕ) (kind : Kind) (f : Floors) → is_split kind ≡ false → (floors_after s kind f).closed ≡ f.closed
 closed-after s (kind.Write ops) f e = refl
-closed-after s (kind.Intent txn sub ops) f e = refl
+closed-after s (kind.Intent sub txn ops) f e = refl
 closed-after s (kind.Apply txn commit without) f e = refl
 closed-after s (kind.Abort txn) f e = refl
 closed-after s (kind.Safe value) f e = refl
@@ -120,7 +120,7 @@ split-started f s left right e = go (slice_get f.headers s) e
 
 pub started-after : (s : ℕ) (kind : Kind) (f : Floors) → has_started f s ≡ true → has_started (floors_after s kind f) s ≡ true
 started-after s (kind.Write ops) f e = e
-started-after s (kind.Intent txn sub ops) f e = e
+started-after s (kind.Intent sub txn ops) f e = e
 started-after s (kind.Apply txn commit without) f e = e
 started-after s (kind.Abort txn) f e = e
 started-after s (kind.Safe value) f e = e
@@ -128,7 +128,7 @@ started-after s (kind.Split at left right) f e = split-started f s left right e
 
 pub closed-length : (s : ℕ) (kind : Kind) (f : Floors) → length (floors_after s kind f).closed ≡ length f.closed
 closed-length s (kind.Write ops) f = refl
-closed-length s (kind.Intent txn sub ops) f = refl
+closed-length s (kind.Intent sub txn ops) f = refl
 closed-length s (kind.Apply txn commit without) f = refl
 closed-length s (kind.Abort txn) f = refl
 closed-length s (kind.Safe value) f = refl

@@ -80,7 +80,7 @@ all_held header ops = list_all (λ op. holds header (hash_of op.key)) ops
 
 abbrev pub keys_keep : Header → Kind → Bool
 keys_keep header (kind.Write ops) = ops_keep header ops
-keys_keep header (kind.Intent txn sub ops) = ops_keep header ops
+keys_keep header (kind.Intent sub txn ops) = ops_keep header ops
 keys_keep header (kind.Apply txn commit without) = true
 keys_keep header (kind.Abort txn) = true
 keys_keep header (kind.Safe value) = true

@@ -32,7 +32,7 @@ pub record Settles (c d : Contents) : Type 0 where
 -- versions, one for each operation of a write
 abbrev pub puts_of : ℕ → ℕ → Kind → ℕ
 puts_of lo hi (kind.Write ops) = count_in lo hi ops
-puts_of lo hi (kind.Intent txn sub ops) = 0
+puts_of lo hi (kind.Intent sub txn ops) = 0
 puts_of lo hi (kind.Apply txn commit without) = 0
 puts_of lo hi (kind.Abort txn) = 0
 puts_of lo hi (kind.Safe value) = 0
@@ -41,7 +41,7 @@ puts_of lo hi (kind.Split at left right) = 0
 -- places to wait, one for each operation of an intent
 abbrev pub holds_of : ℕ → ℕ → Kind → ℕ
 holds_of lo hi (kind.Write ops) = 0
-holds_of lo hi (kind.Intent txn sub ops) = count_in lo hi ops
+holds_of lo hi (kind.Intent sub txn ops) = count_in lo hi ops
 holds_of lo hi (kind.Apply txn commit without) = 0
 holds_of lo hi (kind.Abort txn) = 0
 holds_of lo hi (kind.Safe value) = 0
@@ -49,7 +49,7 @@ holds_of lo hi (kind.Split at left right) = 0
 
 abbrev pub is_apply : Kind → Bool
 is_apply (kind.Write ops) = false
-is_apply (kind.Intent txn sub ops) = false
+is_apply (kind.Intent sub txn ops) = false
 is_apply (kind.Apply txn commit without) = true
 is_apply (kind.Abort txn) = false
 is_apply (kind.Safe value) = false

@@ -43,7 +43,7 @@ pub record IsState (s : State) : Type 0 where
 
 abbrev pub names_children : Option (Header × Header) → Kind → Bool
 names_children pair (kind.Write ops) = true
-names_children pair (kind.Intent txn sub ops) = true
+names_children pair (kind.Intent sub txn ops) = true
 names_children pair (kind.Apply txn commit without) = true
 names_children pair (kind.Abort txn) = true
 names_children pair (kind.Safe value) = true

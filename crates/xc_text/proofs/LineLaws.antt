@@ -57,13 +57,13 @@ abbrev intent_fits : ℕ → ℕ → Bool
 intent_fits txn sub = is_txn txn && nat_le sub 64
 
 intent_cases : (txn sub : ℕ) (o : Option (List Op))
-    → judge kind_numbers_fit kind_names_fit (o >>= (λ ops. Some (Intent txn sub ops))) ≡ carried (intent_fits txn sub) (Intent txn sub)
+    → judge kind_numbers_fit kind_names_fit (o >>= (λ ops. Some (Intent sub txn ops))) ≡ carried (intent_fits txn sub) (Intent sub txn)
     (judge (λ ops. true) (list_all op_is_named) o)
-intent_cases txn sub None = carried_form (intent_fits txn sub) (Intent txn sub)
+intent_cases txn sub None = carried_form (intent_fits txn sub) (Intent sub txn)
 intent_cases txn sub (Some ops) = by (intent_fits txn sub) (list_all op_is_named ops)
   where
     by : (fit named : Bool)
-        → (if fit then (if named then Ok (Intent txn sub ops) else Err Key) else Err Number) ≡ carried fit (Intent txn sub)
+        → (if fit then (if named then Ok (Intent sub txn ops) else Err Key) else Err Number) ≡ carried fit (Intent sub txn)
         (if named then Ok ops else Err Key)
     by true true = refl
     by true false = refl
@@ -71,8 +71,8 @@ intent_cases txn sub (Some ops) = by (intent_fits txn sub) (list_all op_is_named
     by false false = refl
 
 pub intent_judged : (v : Version) (txn sub : ℕ) (words : List (List ℕ))
-    → judge kind_numbers_fit kind_names_fit (ops_of v words >>= (λ ops. Some (Intent txn sub ops))) ≡ carried (intent_fits txn sub)
-    (Intent txn sub) (ops_in v words)
+    → judge kind_numbers_fit kind_names_fit (ops_of v words >>= (λ ops. Some (Intent sub txn ops))) ≡ carried (intent_fits txn sub)
+    (Intent sub txn) (ops_in v words)
 unfolding ops_in
 intent_judged v txn sub words = intent_cases txn sub (ops_of v words)
 
@@ -167,7 +167,7 @@ pub is_intent : (words middle rest : List (List ℕ)) (txn sub : ℕ) → first_
 is_intent words middle rest txn sub a b = record { middle = middle; first = a; second = b }
 
 intent_is : (v : Version) (words rest : List (List ℕ)) (txn sub : ℕ) → IsIntent words rest txn sub
-    → kind_judged (intent_of v words) ≡ carried (intent_fits txn sub) (Intent txn sub) (ops_in v rest)
+    → kind_judged (intent_of v words) ≡ carried (intent_fits txn sub) (Intent sub txn) (ops_in v rest)
 intent_is v words rest txn sub e = rw (e.first, e.second) (intent_judged v txn sub rest)
 
 pub intent_refused : (v : Version) (words rest : List (List ℕ)) (txn sub : ℕ) (e : Fail) → IsIntent words rest txn sub
@@ -175,14 +175,14 @@ pub intent_refused : (v : Version) (words rest : List (List ℕ)) (txn sub : ℕ
 intent_refused v words rest txn sub e n h =
     let P : Result Kind LogKind
     → Type 0 = λ r. Refuses (after_numbers (intent_fits txn sub) e) r in subst P (sym (intent_is v words rest txn sub n))
-    (refused (intent_fits txn sub) (Intent txn sub) e (ops_in v rest) h)
+    (refused (intent_fits txn sub) (Intent sub txn) e (ops_in v rest) h)
 
 pub intent_number : (v : Version) (words rest : List (List ℕ)) (txn sub : ℕ) (ops : List Op) → IsIntent words rest txn sub
     → ops_in v rest ≡ Ok ops → intent_fits txn sub ≡ false → kind_judged (intent_of v words) ≡ Err Number
 intent_number v words rest txn sub ops n h bad = intent_is v words rest txn sub n ∙ rw (h, bad) refl
 
 pub intent_read : (v : Version) (words rest : List (List ℕ)) (txn sub : ℕ) (ops : List Op) → IsIntent words rest txn sub
-    → ops_in v rest ≡ Ok ops → is_txn txn ≡ true → nat_le sub 64 ≡ true → kind_judged (intent_of v words) ≡ Ok (Intent txn sub ops)
+    → ops_in v rest ≡ Ok ops → is_txn txn ≡ true → nat_le sub 64 ≡ true → kind_judged (intent_of v words) ≡ Ok (Intent sub txn ops)
 intent_read v words rest txn sub ops n h a b = intent_is v words rest txn sub n ∙ rw (h, a, b) refl
 
 -- the numbers and the words of an apply

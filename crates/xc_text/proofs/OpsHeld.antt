@@ -53,7 +53,7 @@ write_some None h = refl
 write_some (Some ops) h = h
 
 intent_some : (txn sub : ℕ) (o : Option (List Op)) → holds_of some_op o ≡ true
-    → holds_of has_ops (option_and_then (λ ops. Some (Intent txn sub ops)) o) ≡ true
+    → holds_of has_ops (option_and_then (λ ops. Some (Intent sub txn ops)) o) ≡ true
 intent_some txn sub None h = refl
 intent_some txn sub (Some ops) h = h
 
@@ -66,8 +66,8 @@ apply_some words =
 
 intents_some : (v : Version) (words : List (List ℕ)) → holds_of has_ops (intent_of v words) ≡ true
 intents_some v words =
-    then_holds has_ops (first_number words) (λ txn. sub_of txn.1 >>= (λ sub. ops_of v sub.1 >>= (λ ops. Some (Intent txn.0 sub.0 ops))))
-    (λ txn. then_holds has_ops (sub_of txn.1) (λ sub. ops_of v sub.1 >>= (λ ops. Some (Intent txn.0 sub.0 ops)))
+    then_holds has_ops (first_number words) (λ txn. sub_of txn.1 >>= (λ sub. ops_of v sub.1 >>= (λ ops. Some (Intent sub.0 txn.0 ops))))
+    (λ txn. then_holds has_ops (sub_of txn.1) (λ sub. ops_of v sub.1 >>= (λ ops. Some (Intent sub.0 txn.0 ops)))
     (λ sub. intent_some txn.0 sub.0 (ops_of v sub.1) (ops_some v sub.1)))
 
 abort_some : (words : List (List ℕ)) → holds_of has_ops (abort_of words) ≡ true

@@ -146,7 +146,7 @@ split_good hs h place left right small (Some pair) e f =
 pub kind_good : (hs : List Header) (h : Header) (k : Kind) → list_all header_numbers_fit hs ≡ true
     → kind_fits h (children hs h.id) k ≡ true → KindGood hs h k
 kind_good hs h (Write ops) small f = let g = ops_good h ops f in record { numbers = refl; names = g.2; some = g.0; few = g.1; range = g.3 }
-kind_good hs h (Intent txn sub ops) small f =
+kind_good hs h (Intent sub txn ops) small f =
     let p = and_parts (is_txn txn) (nat_le sub 64 && ops_fit h ops) f in
     let q = and_parts (nat_le sub 64) (ops_fit h ops) p.1 in
     let g = ops_good h ops q.1 in record { numbers = and_from _ _ p.0 q.0; names = g.2; some = g.0; few = g.1; range = g.3 }

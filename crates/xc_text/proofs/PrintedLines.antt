@@ -64,7 +64,7 @@ without_plain (sub ∷ subs) h = numbers_plain (sub ∷ subs) (in_range-subs (su
 kind_plain : (v : Version) (k : Kind) → kind_numbers_fit k ≡ true → kind_names_fit k ≡ true → kind_spelled v k ≡ true
     → list_all plain (kind_words v k) ≡ true
 kind_plain v (Write ops) n m s = ops_plain v ops m s
-kind_plain v (Intent txn sub ops) n m s =
+kind_plain v (Intent sub txn ops) n m s =
     let p = and_parts (is_txn txn) (nat_le sub 64) n in
     rw (decimal_plain txn (txn_small txn p.0)) (list_all-append plain (sub_words sub) (map (op_word v) ops)
     ∙ rw (sub_plain sub p.1) (ops_plain v ops m s))
@@ -118,7 +118,7 @@ kind_is : (v : Version) (k : Kind) → kind_numbers_fit k ≡ true → kind_name
     → kind_of v (kind_words v k) ≡ Some k
 unfolding kind_of
 kind_is v (Write ops) n m s some = rw (ops_are v ops m s some) refl
-kind_is v (Intent txn sub ops) n m s some =
+kind_is v (Intent sub txn ops) n m s some =
     let p = and_parts (is_txn txn) (nat_le sub 64) n in
     rw (number_is txn (txn_small txn p.0)) (rw (sub_is v sub ops p.1 some) (rw (ops_are v ops m s some) refl))
 kind_is v (Apply txn commit without) n m s some =

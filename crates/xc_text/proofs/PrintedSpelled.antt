@@ -140,7 +140,7 @@ op_two op = by op.value
 
 kind_two : (k : Kind) → kind_spelled Two k ≡ true
 kind_two (Write ops) = all_two (op_spelled Two) op_two ops
-kind_two (Intent txn sub ops) = all_two (op_spelled Two) op_two ops
+kind_two (Intent sub txn ops) = all_two (op_spelled Two) op_two ops
 kind_two (Apply txn commit without) = refl
 kind_two (Abort txn) = refl
 kind_two (Safe value) = refl

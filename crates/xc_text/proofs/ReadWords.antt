@@ -231,11 +231,11 @@ sub_back (w ∷ ws) p h low = by (bytes_eq w (codes "sub")) refl h
 
 intent_words : (v : Version) (words : List (List ℕ)) (k : Kind) → intent_of v words ≡ Some k → AreWords v (codes "intent" ∷ words) k
 intent_words v words k h =
-    option_and_then_some (λ txn. sub_of txn.1 >>= (λ sub. ops_of v sub.1 >>= (λ ops. Some (Intent txn.0 sub.0 ops)))) (first_number words) k
+    option_and_then_some (λ txn. sub_of txn.1 >>= (λ sub. ops_of v sub.1 >>= (λ ops. Some (Intent sub.0 txn.0 ops)))) (first_number words) k
     h
-    (λ txn is more. option_and_then_some (λ sub. ops_of v sub.1 >>= (λ ops. Some (Intent txn.0 sub.0 ops))) (sub_of txn.1) k more
-    (λ sub in_sub others. option_and_then_some (λ ops. Some (Intent txn.0 sub.0 ops)) (ops_of v sub.1) k others
-    (λ ops got same. subst (AreWords v (codes "intent" ∷ words)) (same_Some (Intent txn.0 sub.0 ops) k same)
+    (λ txn is more. option_and_then_some (λ sub. ops_of v sub.1 >>= (λ ops. Some (Intent sub.0 txn.0 ops))) (sub_of txn.1) k more
+    (λ sub in_sub others. option_and_then_some (λ ops. Some (Intent sub.0 txn.0 ops)) (ops_of v sub.1) k others
+    (λ ops got same. subst (AreWords v (codes "intent" ∷ words)) (same_Some (Intent sub.0 txn.0 ops) k same)
     (λ fit named. let p = and_parts (is_txn txn.0) (nat_le sub.0 64) fit in
     let all = ops_words v sub.1 ops got named in (
       ap (λ ws. codes "intent" ∷ ws) (first_word words txn is (txn_low txn.0 p.0)

@@ -23,7 +23,7 @@ use Rattle.xc_text.specs.LogText.{in_range, is_split_off, is_orphaned}
 
 abbrev pub has_ops : Kind → Bool
 has_ops (Write ops) = nat_le 1 (length ops)
-has_ops (Intent txn sub ops) = nat_le 1 (length ops)
+has_ops (Intent sub txn ops) = nat_le 1 (length ops)
 has_ops _ = true
 
 all_fit : (h : Header) (ops : List Op) → list_all op_is_named ops ≡ true → list_all (λ op. holds h (hash_of op.key)) ops ≡ true
@@ -43,7 +43,7 @@ ops_ok h ops some few named held =
 pub kind_ok : (hs : List Header) (h : Header) (k : Kind) → has_ops k ≡ true → nat_lt 64 (ops_in k) ≡ false → kind_numbers_fit k ≡ true
     → kind_names_fit k ≡ true → in_range hs h k ≡ true → kind_fits h (children hs h.id) k ≡ true
 kind_ok hs h (Write ops) some few numbers names range = ops_ok h ops some few names range
-kind_ok hs h (Intent txn sub ops) some few numbers names range =
+kind_ok hs h (Intent sub txn ops) some few numbers names range =
     let p = and_parts (is_txn txn) (nat_le sub 64) numbers in rw (p.0, p.1) (ops_ok h ops some few names range)
 kind_ok hs h (Apply txn commit without) some few numbers names range = numbers
 kind_ok hs h (Abort txn) some few numbers names range = numbers
@@ -92,7 +92,7 @@ open_push (q ∷ (x ∷ xs)) r h last = by (λ e. open_push (x ∷ xs) r e last)
 
 not_split : (h : Header) (time : ℕ) (k : Kind) → (is_time time && kind_fits h None k) ≡ true → is_split k ≡ false
 not_split h time (Write ops) e = refl
-not_split h time (Intent txn sub ops) e = refl
+not_split h time (Intent sub txn ops) e = refl
 not_split h time (Apply txn commit without) e = refl
 not_split h time (Abort txn) e = refl
 not_split h time (Safe value) e = refl

@@ -19,8 +19,8 @@ mixed_text = two (
 
 abbrev pub mixed : List Entry
 mixed =
-    record { id = 0; item = at 10 (Intent 7 0 (sets a (codes "1") ∷ [])) }
-    ∷ record { id = 1; item = at 11 (Intent 7 0 (sets z (codes "2") ∷ [])) }
+    record { id = 0; item = at 10 (Intent 0 7 (sets a (codes "1") ∷ [])) }
+    ∷ record { id = 1; item = at 11 (Intent 0 7 (sets z (codes "2") ∷ [])) }
     ∷ record { id = 0; item = at 20 (Apply 7 15 []) }
     ∷ record { id = 1; item = at 21 (Safe 14) }
     ∷ record { id = 1; item = at 25 (Apply 7 15 []) }

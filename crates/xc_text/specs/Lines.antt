@@ -108,7 +108,7 @@ intent_of version words = do
   txn ← first_number words
   sub ← sub_of txn.1
   ops ← ops_of version sub.1
-  Some (Intent txn.0 sub.0 ops)
+  Some (Intent sub.0 txn.0 ops)
 
 abbrev pub all_numbers : List (List ℕ) → Option (List ℕ)
 all_numbers [] = Some []
@@ -167,7 +167,7 @@ kind_of version (verb ∷ words) = kind_by version verb words
 
 abbrev pub kind_numbers_fit : Kind → Bool
 kind_numbers_fit (Write ops) = true
-kind_numbers_fit (Intent txn sub ops) = is_txn txn && nat_le sub LAST_SUB
+kind_numbers_fit (Intent sub txn ops) = is_txn txn && nat_le sub LAST_SUB
 kind_numbers_fit (Apply txn commit without) = is_txn txn && (is_time commit && are_subs without)
 kind_numbers_fit (Abort txn) = is_txn txn
 kind_numbers_fit (Safe value) = is_time value
@@ -175,7 +175,7 @@ kind_numbers_fit (Split place left right) = nat_lt place 65536 && (nat_lt left M
 
 abbrev pub kind_names_fit : Kind → Bool
 kind_names_fit (Write ops) = list_all op_is_named ops
-kind_names_fit (Intent txn sub ops) = list_all op_is_named ops
+kind_names_fit (Intent sub txn ops) = list_all op_is_named ops
 kind_names_fit _ = true
 
 -- the operations, where their names fit

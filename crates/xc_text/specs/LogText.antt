@@ -77,7 +77,7 @@ is_unknown s _ = false
 -- the keys hash into the tablet's range, and a split names the tablet's children
 abbrev pub in_range : List Header → Header → Kind → Bool
 in_range headers h (Write ops) = list_all (λ op. holds h (hash_of op.key)) ops
-in_range headers h (Intent txn sub ops) = list_all (λ op. holds h (hash_of op.key)) ops
+in_range headers h (Intent sub txn ops) = list_all (λ op. holds h (hash_of op.key)) ops
 in_range headers h (Split place left right) = split_fits (children headers h.id) place left right
 in_range headers h _ = true
 

@@ -57,7 +57,7 @@ without_words (sub ∷ subs) = codes "without" ∷ map decimal (sub ∷ subs)
 
 abbrev pub kind_words : Version → Kind → List (List ℕ)
 kind_words version (Write ops) = codes "write" ∷ map (op_word version) ops
-kind_words version (Intent txn sub ops) = codes "intent" ∷ decimal txn ∷ (sub_words sub ++ map (op_word version) ops)
+kind_words version (Intent sub txn ops) = codes "intent" ∷ decimal txn ∷ (sub_words sub ++ map (op_word version) ops)
 kind_words version (Apply txn commit without) = codes "apply" ∷ decimal txn ∷ decimal commit ∷ without_words without
 kind_words version (Abort txn) = codes "abort" ∷ decimal txn ∷ []
 kind_words version (Safe value) = codes "safe" ∷ decimal value ∷ []
@@ -65,7 +65,7 @@ kind_words version (Split place left right) = codes "split" ∷ decimal place �
 
 abbrev pub kind_spelled : Version → Kind → Bool
 kind_spelled version (Write ops) = list_all (op_spelled version) ops
-kind_spelled version (Intent txn sub ops) = list_all (op_spelled version) ops
+kind_spelled version (Intent sub txn ops) = list_all (op_spelled version) ops
 kind_spelled version _ = true
 
 unfoldable pub record_text : Version → ℕ → Record → List ℕ

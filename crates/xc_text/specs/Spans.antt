@@ -23,7 +23,7 @@ pub record IsSpan (span : Span) (ops : List Op) : Type 0 where
 
 abbrev pub Describes : Span → Kind → Type 0
 Describes span (Write ops) = IsSpan span ops
-Describes span (Intent txn sub ops) = IsSpan span ops
+Describes span (Intent sub txn ops) = IsSpan span ops
 Describes span _ = Unit {0}
 
 abbrev pub DescribesLine : Span → LogLine → Type 0

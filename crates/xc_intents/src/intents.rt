@@ -111,8 +111,8 @@ impl Intents {
     }
 
     /// Begins a walk through the operations of the transaction whose keys' hashes are from `lo` to `hi`, which
-    /// `take_next` takes out one after another. False where it has none, and then no walk is begun. The transaction is
-    /// found by the bits of its number, unless the last call was for it too.
+    /// `take_next` takes out one after another. False comes only where it holds none of them; then the walk before may
+    /// have ended. The transaction is found by the bits of its number, unless the last call was for it too.
     pub fn begin(&mut self, txn: u32, lo: u16, hi: u16) -> bool
         ensures sought { result ≡ true → self.new.sought ≡ Some (record { txn = txn; lo = lo; hi = hi }) }
         ensures none { result ≡ false → find (is_part txn lo hi) self.old.held ≡ None }

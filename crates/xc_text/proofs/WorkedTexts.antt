@@ -156,14 +156,17 @@ table =
     (one_head ++ ([]), Some (record { line = 3; kind = kind.NoEnd })) ∷
     (one_head ++ (codes "end" ++ (13 ∷ []) ++ codes "\n"), Some (record { line = 3; kind = kind.Form })) ∷ (
       one_head ++ (codes
-          "0 4611686018427387903 write +aaaaaaaaaaaaaaaaaaaaaaaaaaaaaaaa=vvvvvvvvvvvvvvvvvvvvvvvvvvvvvvvvvvvvvvvvvvvvvvvvvvvvvvvvvvvvvvvv\nend\n"),
+          "0 4611686018427387903 write +aaaaaaaaaaaaaaaaaaaaaaaaaaaaaaaa="
+          ++ codes "vvvvvvvvvvvvvvvvvvvvvvvvvvvvvvvvvvvvvvvvvvvvvvvvvvvvvvvvvvvvvvvv\nend\n"),
       None,
     ) ∷ (
       one_head ++ (codes "0 4611686018427387904 write +aaaaaaaaaaaaaaaaaaaaaaaaaaaaaaaaa=\n"),
       Some
           (record { line = 3; kind = kind.Number }),
-    ) ∷
-    (one_head ++ (codes "0 4611686018427387903 write +aaaaaaaaaaaaaaaaaaaaaaaaaaaaaaaaa=\n"), Some (record { line = 3; kind = kind.Key })) ∷ (
+    ) ∷ (
+      one_head ++ (codes "0 4611686018427387903 write +aaaaaaaaaaaaaaaaaaaaaaaaaaaaaaaaa=\n"),
+      Some (record { line = 3; kind = kind.Key }),
+    ) ∷ (
       one_head ++ (codes "0 1 write +a=vvvvvvvvvvvvvvvvvvvvvvvvvvvvvvvvvvvvvvvvvvvvvvvvvvvvvvvvvvvvvvvvv\n"),
       Some
           (record { line = 3; kind = kind.Key }),
@@ -179,15 +182,21 @@ table =
     (one_head ++ (codes "0 1 write +a=b=c\n"), Some (record { line = 3; kind = kind.Key })) ∷
     (one_head ++ (codes "0 1 write +=1 a\n"), Some (record { line = 3; kind = kind.Form })) ∷ (
       one_head ++ (codes
-          "0 1 write -a -a -a -a -a -a -a -a -a -a -a -a -a -a -a -a -a -a -a -a -a -a -a -a -a -a -a -a -a -a -a -a -a -a -a -a -a -a -a -a -a -a -a -a -a -a -a -a -a -a -a -a -a -a -a -a -a -a -a -a -a -a -a -a\nend\n"),
+          "0 1 write -a -a -a -a -a -a -a -a -a -a -a -a -a -a -a -a -a -a -a -a -a -a -a -a -a -a -a -a -a -a "
+          ++ codes "-a -a -a -a -a -a -a -a -a -a -a -a -a -a -a -a -a -a -a -a -a -a -a -a -a -a -a -a -a -a -a -a -a "
+          ++ codes "-a\nend\n"),
       None,
     ) ∷ (
       one_head ++ (codes
-          "0 1 write -a -a -a -a -a -a -a -a -a -a -a -a -a -a -a -a -a -a -a -a -a -a -a -a -a -a -a -a -a -a -a -a -a -a -a -a -a -a -a -a -a -a -a -a -a -a -a -a -a -a -a -a -a -a -a -a -a -a -a -a -a -a -a -a -a\nend\n"),
+          "0 1 write -a -a -a -a -a -a -a -a -a -a -a -a -a -a -a -a -a -a -a -a -a -a -a -a -a -a -a -a -a -a "
+          ++ codes "-a -a -a -a -a -a -a -a -a -a -a -a -a -a -a -a -a -a -a -a -a -a -a -a -a -a -a -a -a -a -a -a -a "
+          ++ codes "-a -a\nend\n"),
       Some (record { line = 3; kind = kind.Limit }),
     ) ∷ (
       one_head ++ (codes
-          "0 1 intent 1 -a -a -a -a -a -a -a -a -a -a -a -a -a -a -a -a -a -a -a -a -a -a -a -a -a -a -a -a -a -a -a -a -a -a -a -a -a -a -a -a -a -a -a -a -a -a -a -a -a -a -a -a -a -a -a -a -a -a -a -a -a -a -a -a -a a\n"),
+          "0 1 intent 1 -a -a -a -a -a -a -a -a -a -a -a -a -a -a -a -a -a -a -a -a -a -a -a -a -a -a -a -a -a "
+          ++ codes "-a -a -a -a -a -a -a -a -a -a -a -a -a -a -a -a -a -a -a -a -a -a -a -a -a -a -a -a -a -a -a -a -a "
+          ++ codes "-a -a -a a\n"),
       Some (record { line = 3; kind = kind.Form }),
     ) ∷
     (one_head ++ (codes "0 0 write +=1\n"), Some (record { line = 3; kind = kind.Number })) ∷

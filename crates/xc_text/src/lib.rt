@@ -72,7 +72,9 @@ mod tests {
             (ONE, "end", Some((3, Form))),
             (
                 ONE,
-                "0 4611686018427387903 write +aaaaaaaaaaaaaaaaaaaaaaaaaaaaaaaa=vvvvvvvvvvvvvvvvvvvvvvvvvvvvvvvvvvvvvvvvvvvvvvvvvvvvvvvvvvvvvvvv\nend\n",
+                "0 4611686018427387903 write \
+                +aaaaaaaaaaaaaaaaaaaaaaaaaaaaaaaa=vvvvvvvvvvvvvvvvvvvvvvvvvvvvvvvvvvvvvvvvvvvvvvvvvvvvvvvvvvvvvvvv\n\
+                end\n",
                 None,
             ),
             (
@@ -87,12 +89,16 @@ mod tests {
             ),
             (
                 ONE,
-                "0 1 write -a -a -a -a -a -a -a -a -a -a -a -a -a -a -a -a -a -a -a -a -a -a -a -a -a -a -a -a -a -a -a -a -a -a -a -a -a -a -a -a -a -a -a -a -a -a -a -a -a -a -a -a -a -a -a -a -a -a -a -a -a -a -a -a\nend\n",
+                "0 1 write -a -a -a -a -a -a -a -a -a -a -a -a -a -a -a -a -a -a -a -a -a -a -a -a -a -a -a -a -a -a \
+                -a -a -a -a -a -a -a -a -a -a -a -a -a -a -a -a -a -a -a -a -a -a -a -a -a -a -a -a -a -a -a -a -a \
+                -a\nend\n",
                 None,
             ),
             (
                 ONE,
-                "0 1 write -a -a -a -a -a -a -a -a -a -a -a -a -a -a -a -a -a -a -a -a -a -a -a -a -a -a -a -a -a -a -a -a -a -a -a -a -a -a -a -a -a -a -a -a -a -a -a -a -a -a -a -a -a -a -a -a -a -a -a -a -a -a -a -a -a\nend\n",
+                "0 1 write -a -a -a -a -a -a -a -a -a -a -a -a -a -a -a -a -a -a -a -a -a -a -a -a -a -a -a -a -a -a \
+                -a -a -a -a -a -a -a -a -a -a -a -a -a -a -a -a -a -a -a -a -a -a -a -a -a -a -a -a -a -a -a -a -a -a \
+                -a\nend\n",
                 Some((3, Limit)),
             ),
             (
@@ -149,7 +155,9 @@ mod tests {
         let alloc = rt.alloc();
         for (lines, is_plain) in [
             (
-                "tablet 0 0 65535 root\ntablet 1 0 32767 child 0\ntablet 2 32768 65535 child 0\n0 10 write +aaa=1 -zzz +bbb=\n0 11 intent 5 +zzz=9\n0 11 intent 5 sub 3 -zzz\n0 12 abort 7\n0 13 safe 12\n0 14 split 32768 1 2\n2 18 apply 5 16 without 1 3 64\nend\n",
+                "tablet 0 0 65535 root\ntablet 1 0 32767 child 0\ntablet 2 32768 65535 child 0\n\
+                0 10 write +aaa=1 -zzz +bbb=\n0 11 intent 5 +zzz=9\n0 11 intent 5 sub 3 -zzz\n0 12 abort 7\n\
+                0 13 safe 12\n0 14 split 32768 1 2\n2 18 apply 5 16 without 1 3 64\nend\n",
                 true,
             ),
             (

@@ -4,11 +4,14 @@ use Rattle.xc_model.proofs.Common.{sym, ◌∙◌, arith, subst, append_assoc, a
 use Rattle.xc_model.proofs.Common.{take-append-drop, flat_map-append, Event, Put, Hold, Safe, waiting, events, record_events}
 use Rattle.xc_model.proofs.Common.{kind_events, puts, Kind, Record, Progress, place, last_safe_in, is_closed_in, AcceptedTablet}
 use Rattle.xc_model.proofs.Common.{Each-append, Each-weaker, Bool, false, cond, nat_tests, break_of, violations, first_violated, after}
-use Rattle.xc_model.proofs.Common.{accepted_from, fold, is_none, IsGrown}
+use Rattle.xc_model.proofs.Common.{accepted_from, fold, is_none, IsGrown, Logs, commit_of, straggles_at, straggles-append, Waiting}
+use Rattle.xc_model.proofs.Common.{map, if◌then◌else◌, list_any}
+use Rattle.xc_model.proofs.Common.{nat_le, ◌&&◌, ◌||◌, Written}
+use Rattle.std.proofs.lemmas.Bool.{or_parts}
 use Rattle.xc_record.specs.declared.record.Kind.TheVariants as log
-use Rattle.xc_model.{proofs.StableSort.Each, proofs.Elements.each-map}
-use Rattle.xc_model.proofs.Along.{IsAfter, Outcomes, ComesAfter, floor_by, records_along, applied_in, applied_along, Threads, LegalChain}
-use Rattle.xc_model.proofs.Along.{Stops, KindAgrees, Agrees, KindFree, NoStragglers}
+use Rattle.xc_model.{proofs.StableSort.Each, proofs.Elements.each-map, proofs.Elements.each-front, proofs.Elements.each-back}
+use Rattle.xc_model.proofs.Along.{IsAfter, ComesAfter, floor_by, records_along, applied_in, applied_along, Threads, LegalChain}
+use Rattle.xc_model.proofs.Along.{Stops, AgreesAt, NoStragglers}
 
 -- a path goes by the order rules, but for splits
 abbrev pub KindGoes : ℕ → ℕ → Kind → Type 0
@@ -130,60 +133,97 @@ covered t ps o (b ∷ xs) s h e l c = let starts : b.start.floor ≡ o.floor = a
     l.1
 
 -- Where the last safe record of value at least t stands: a ends before it, and what comes from it on commits after t.
-pub record Cut (outcomes : Outcomes) (t : ℕ) (k : List ℕ) (seen : List Record) : Type 0 where
+pub record Cut (logs : Logs) (t : ℕ) (k : List ℕ) (seen : List Record) : Type 0 where
   pub before : List Event
   pub rest : List Event
   pub is : events k seen ≡ before ++ rest
-  pub late : Each (ComesAfter outcomes t) rest
-  pub free : Each (λ w. IsAfter t (outcomes.commit w.txn)) (waiting before)
+  pub late : Each (ComesAfter logs t) rest
+  pub free : Each (λ w. IsAfter t (commit_of logs w.txn)) (waiting before)
 
 pub after-more : (t u : ℕ) (c : Option ℕ) → t ≤ u → IsAfter u c → IsAfter t c
 after-more t u None h k = tt
 after-more t u (Some c) h k = omega arith
 
-pub record-late : (outcomes : Outcomes) (t : ℕ) (k : List ℕ) (time : ℕ) (kind : Kind) → t < time → KindAgrees outcomes time kind
-    → Each (ComesAfter outcomes t) (kind_events k time kind)
-record-late outcomes t k time (log.Write ops) h g = each-map (ComesAfter outcomes t) (λ v. Put time v) (puts k ops) (λ v. h)
-record-late outcomes t k time (log.Intent sub n ops) h g =
-    each-map (ComesAfter outcomes t) (λ v. Hold n sub time v) (puts k ops) (λ v. after-more t time (outcomes.commit n) (omega arith) g)
-record-late outcomes t k time (log.Split at left right) h g = tt
-record-late outcomes t k time _ h g = (tt, tt)
+-- what holds where there is a commit
+pub by-commit : (o : Option ℕ) (P : Option ℕ → Type 0) → P None → ((c : ℕ) → o ≡ Some c → P (Some c)) → P o
+by-commit None P n s = n
+by-commit (Some c) P n s = s c refl
+
+holds-late : (logs : Logs) (t n sub time : ℕ) (vs : List Written) → t < time → Each (AgreesAt logs) (map (λ v. Hold n sub time v) vs)
+    → Each (ComesAfter logs t) (map (λ v. Hold n sub time v) vs)
+holds-late logs t n sub time [] h g = tt
+holds-late logs t n sub time (v ∷ vs) h g =
+    (after-more t time (commit_of logs n) (omega arith) g.0, holds-late logs t n sub time vs h g.1)
+
+pub record-late : (logs : Logs) (t : ℕ) (k : List ℕ) (time : ℕ) (kind : Kind) → t < time → Each (AgreesAt logs) (kind_events k time kind)
+    → Each (ComesAfter logs t) (kind_events k time kind)
+record-late logs t k time (log.Write ops) h g = each-map (ComesAfter logs t) (λ v. Put time v) (puts k ops) (λ v. h)
+record-late logs t k time (log.Intent sub n ops) h g = holds-late logs t n sub time (puts k ops) h g
+record-late logs t k time (log.Split at left right) h g = tt
+record-late logs t k time _ h g = (tt, tt)
 
 pub events-push : (k : List ℕ) (seen : List Record) (r : Record) → events k (seen ++ r ∷ []) ≡ events k seen ++ record_events k r
 events-push k seen r = flat_map-append (record_events k) seen (r ∷ []) ∙ ap (λ w. events k seen ++ w) (append-nil (record_events k r))
 
-cut-keep : (outcomes : Outcomes) (t : ℕ) (k : List ℕ) (seen : List Record) (r : Record) → t < r.time → Agrees outcomes r
-    → Cut outcomes t k seen → Cut outcomes t k (seen ++ r ∷ [])
-cut-keep outcomes t k seen r h g cut = record {
+cut-keep : (logs : Logs) (t : ℕ) (k : List ℕ) (seen : List Record) (r : Record) → t < r.time
+    → Each (AgreesAt logs) (record_events k r) → Cut logs t k seen → Cut logs t k (seen ++ r ∷ [])
+cut-keep logs t k seen r h g cut = record {
   before = cut.before;
   rest = cut.rest ++ record_events k r;
   is = events-push k seen r ∙ ap (λ w. w ++ record_events k r) cut.is ∙ append_assoc cut.before cut.rest (record_events k r);
-  late = Each-append (ComesAfter outcomes t) cut.rest (record_events k r) cut.late (record-late outcomes t k r.time r.kind h g);
+  late = Each-append (ComesAfter logs t) cut.rest (record_events k r) cut.late (record-late logs t k r.time r.kind h g);
   free = cut.free;
 }
 
-cut-step : (outcomes : Outcomes) (t : ℕ) (k : List ℕ) (f l : ℕ) (seen : List Record) (time : ℕ) (kind : Kind) → f ≤ l → l < time
-    → KindGoes f time kind → KindFree outcomes (waiting (events k seen)) kind → KindAgrees outcomes time kind
-    → (t ≤ f → Cut outcomes t k seen) → t ≤ floor_by f kind → Cut outcomes t k (seen ++ record { time = time; kind = kind } ∷ [])
-cut-step outcomes t k f l seen time (log.Safe v) h i g s a c b = record {
+-- what waits at a safe record where no straggler stands commits after its value
+waits-free : (logs : Logs) (v : ℕ) (hs : List Waiting)
+    → ((n c : ℕ) → commit_of logs n ≡ Some c → (nat_le c v && list_any (λ w. w.txn == n) hs) ≡ false)
+    → Each (λ w. IsAfter v (commit_of logs w.txn)) hs
+waits-free logs v [] f = tt
+waits-free logs v (w ∷ hs) f = (
+  by-commit (commit_of logs w.txn) (IsAfter v) tt (λ c e. let q = f w.txn c e in grind (arith, nat_tests)),
+  waits-free logs v hs (λ n c e. let q = f n c e in grind arith),
+)
+
+cut-step : (logs : Logs) (t : ℕ) (k : List ℕ) (f l : ℕ) (seen : List Record) (time : ℕ) (kind : Kind) → f ≤ l → l < time
+    → KindGoes f time kind → NoStragglers logs k seen (record { time = time; kind = kind } ∷ [])
+    → Each (AgreesAt logs) (kind_events k time kind) → (t ≤ f → Cut logs t k seen) → t ≤ floor_by f kind
+    → Cut logs t k (seen ++ record { time = time; kind = kind } ∷ [])
+cut-step logs t k f l seen time (log.Safe v) h i g s a c b = record {
   before = events k seen;
   rest = Safe v ∷ [];
   is = events-push k seen (record { time = time; kind = log.Safe v });
   late = (tt, tt);
-  free = Each-weaker (λ w. IsAfter v (outcomes.commit w.txn)) (λ w. IsAfter t (outcomes.commit w.txn))
-      (λ w. after-more t v (outcomes.commit w.txn) b) (waiting (events k seen)) s;
+  free = Each-weaker (λ w. IsAfter v (commit_of logs w.txn)) (λ w. IsAfter t (commit_of logs w.txn))
+      (λ w. after-more t v (commit_of logs w.txn) b) (waiting (events k seen))
+      (waits-free logs v (waiting (events k seen)) (λ n d e. only _ (s n d e)));
 }
-cut-step outcomes t k f l seen time kind h i g s a c b = cut-keep outcomes t k seen (record { time = time; kind = kind }) (omega arith) a
+  where
+    only : (b : Bool) → (if b then true else false) ≡ false → b ≡ false
+    only true e = cc
+    only false e = refl
+cut-step logs t k f l seen time kind h i g s a c b = cut-keep logs t k seen (record { time = time; kind = kind }) (omega arith) a
     (c b)
+
+-- none along both parts
+pub stragglers-parts : (logs : Logs) (k : List ℕ) (seen xs ys : List Record) → NoStragglers logs k seen (xs ++ ys)
+    → NoStragglers logs k seen xs × NoStragglers logs k (seen ++ xs) ys
+stragglers-parts logs k seen xs ys h =
+    ((λ n c e. (or_parts _ _ (parts n c e)).0), (λ n c e. (or_parts _ _ (parts n c e)).1))
+  where
+    parts : (n c : ℕ) → commit_of logs n ≡ Some c → (straggles_at n c k seen xs || straggles_at n c k (seen ++ xs) ys) ≡ false
+    parts n c e = sym (straggles-append n c k seen xs ys) ∙ h n c e
 
 pub floor-time : (f l time : ℕ) (kind : Kind) → f ≤ l → l < time → KindGoes f time kind → floor_by f kind ≤ time
 floor-time f l time (log.Safe v) h i g = g.1
 floor-time f l time _ h i g = omega arith
 
-pub cut-from : (outcomes : Outcomes) (t : ℕ) (k : List ℕ) (f l : ℕ) (seen xs : List Record) → f ≤ l → Goes f l xs
-    → NoStragglers outcomes k seen xs → Each (Agrees outcomes) xs → (t ≤ f → Cut outcomes t k seen) → t ≤ floor_after f xs
-    → Cut outcomes t k (seen ++ xs)
-cut-from outcomes t k f l seen [] h g s a c b = subst (Cut outcomes t k) (sym (append-nil seen)) (c b)
-cut-from outcomes t k f l seen (x ∷ xs) h g s a c b = subst (Cut outcomes t k) (append_assoc seen (x ∷ []) xs)
-    (cut-from outcomes t k (floor_by f x.kind) x.time (seen ++ x ∷ []) xs (floor-time f l x.time x.kind h g.0 g.1) g.2 s.1 a.1
-    (cut-step outcomes t k f l seen x.time x.kind h g.0 g.1 s.0 a.0 c) b)
+pub cut-from : (logs : Logs) (t : ℕ) (k : List ℕ) (f l : ℕ) (seen xs : List Record) → f ≤ l → Goes f l xs
+    → NoStragglers logs k seen xs → Each (AgreesAt logs) (events k xs) → (t ≤ f → Cut logs t k seen) → t ≤ floor_after f xs
+    → Cut logs t k (seen ++ xs)
+cut-from logs t k f l seen [] h g s a c b = subst (Cut logs t k) (sym (append-nil seen)) (c b)
+cut-from logs t k f l seen (x ∷ xs) h g s a c b = let free = stragglers-parts logs k seen (x ∷ []) xs s in
+    subst (Cut logs t k) (append_assoc seen (x ∷ []) xs)
+    (cut-from logs t k (floor_by f x.kind) x.time (seen ++ x ∷ []) xs (floor-time f l x.time x.kind h g.0 g.1) g.2 free.1
+    (each-back (AgreesAt logs) (record_events k x) (events k xs) a)
+    (cut-step logs t k f l seen x.time x.kind h g.0 g.1 free.0 (each-front (AgreesAt logs) (record_events k x) (events k xs) a) c) b)

@@ -8,36 +8,39 @@ use Rattle.xc_model.proofs.Common.{Kind, Header, Record, Tablet, Logs, hash_of, 
 use Rattle.xc_model.proofs.Common.{after as step_order, AcceptedTablet, accepted_tablets, accepted, record_events, place, order_at}
 use Rattle.xc_model.proofs.Common.{last_safe_in, is_closed_in, is_closed as closed_at, is_started, safe_time, StartsAfter, IsPlaces}
 use Rattle.xc_model.proofs.Common.{headers_of, kind_fits, split_fits, children, Numbered, IsGrown, accepted_tablets-grown, steps}
-use Rattle.xc_model.proofs.Common.{floor-take, safe_time-rises, Each-weaker}
+use Rattle.xc_model.proofs.Common.{floor-take, safe_time-rises, Each-weaker, child-is, FitsTablet, accepted-fit}
+use Rattle.std.specs.Prelude.{◌↔◌}
 use Rattle.std.proofs.lemmas.List.Sums.{fold-append}
-use Rattle.xc_record.specs.declared.headers.Next.TheVariants.{RootAt}
 use Rattle.std.proofs.lemmas.List.{drop-drop}
 use Rattle.xc_record.specs.declared.record.Kind.TheVariants as log
-use Rattle.xc_model.{proofs.FloorLaw.closed-kept, proofs.FromCases.numbered-parts, proofs.Tree.get-tablet, proofs.Tree.closed-of}
-use Rattle.xc_model.{proofs.StableSort.Each, proofs.StableSort.Exists, specs.Laws.DeliveriesKeepStanding, specs.Laws.BatchesKeepStanding}
-use Rattle.xc_model.proofs.Elements.{each-itself, each-back, exists-right, each-at, exists-map}
-use Rattle.xc_model.proofs.FromRules.{children-found, rules-suffice, kinds-fit, headers-fit, there-get}
-use Rattle.xc_model.proofs.SplitEnd.{IsOne, children-only, last-split, no-split-end}
-use Rattle.xc_model.proofs.Along.{KindNumbered, owns, floor_by}
+use Rattle.xc_model.{proofs.FloorLaw.closed-kept, proofs.DeliverRecord.record-numbered}
+use Rattle.xc_model.{proofs.StableSort.Each, specs.Laws.DeliveriesKeepStanding, specs.Laws.BatchesKeepStanding}
+use Rattle.xc_model.proofs.Elements.{each-back}
+use Rattle.xc_record.proofs.PathLaws.{numbered-mid}
+use Rattle.xc_model.proofs.SplitEnd.{last-split, no-split-end}
+use Rattle.xc_model.proofs.Along.{floor_by}
 use Rattle.xc_model.specs.Floors.{Floors, FloorFor, has_closed, starts, has_started, floors_after}
 use Rattle.xc_model.specs.Stands.{TargetTablet, in_range, kept_at, given_at, StandsFor, TakesIn, TakesAll, past}
 use Rattle.xc_model.proofs.DeliverRecord.{is-open, applied-is, applied-more, within-more, given-more}
 use Rattle.xc_model.proofs.Batches.{headers-kept, count-kept, others-kept, closed-by}
-use Rattle.xc_model.proofs.Parents.{get-id, heads, heads-logs, length-logs, UnderParent, get-under, each-numbered}
+use Rattle.xc_model.proofs.Parents.{get-id, heads, heads-logs, length-logs, UnderParent, get-under, each-numbered, each-get, each-tablet}
+use Rattle.xc_model.proofs.Parents.{header-get, closed-of, valid-headers}
 
 -- ---- lists
 
-numbered-mid : (n : ℕ) (before : List AcceptedTablet) (b : AcceptedTablet) (after : List AcceptedTablet)
-    → Numbered n (heads (before ++ b ∷ after)) → b.header.id ≡ n + length before
-numbered-mid n [] b after m = (let q = m.0 in omega arith)
-numbered-mid n (d ∷ before) b after m = let q : b.header.id ≡ n + 1 + length before = numbered-mid (n + 1) before b after m.1 in omega arith
+-- of numbered tablets only one has its number
+apart-after : (n i : ℕ) (bs : List AcceptedTablet) → i < n → Numbered n (heads bs) → Each (λ d. d.header.id ≢ i) bs
+apart-after n i [] l m = tt
+apart-after n i (d ∷ bs) l m =
+    ((λ e. let q = m.0 in let z : ⊥ = omega arith in z), apart-after (n + 1) i bs (omega arith) m.1)
 
-same-header : (hs : List Header) (h l : Header) → Numbered 0 hs → Exists (λ d. d ≡ h) hs → Exists (λ d. d ≡ l) hs → h.id ≡ l.id → h ≡ l
-same-header hs h l m i j e = same_Some h l (sym (there-get hs h m i) ∙ ap (slice_get hs) e ∙ there-get hs l m j)
-
-pub pick : {A : Type 0} (P : A → Type 0) (xs : List A) → Exists P xs → (a : A) × (Exists (λ b. b ≡ a) xs × P a)
-pick P [] i = absurd i
-pick P (b ∷ bs) i = ⊎_elim (λ h. (b, (inl refl, h))) (λ r. let deep = pick P bs r in (deep.0, (inr deep.1.0, deep.1.1))) i
+apart-from : (n : ℕ) (before : List AcceptedTablet) (b : AcceptedTablet) (after : List AcceptedTablet)
+    → Numbered n (heads (before ++ b ∷ after))
+    → Each (λ d. d.header.id ≢ b.header.id) before × Each (λ d. d.header.id ≢ b.header.id) after
+apart-from n [] b after m = (tt, apart-after (n + 1) b.header.id after (let q = m.0 in omega arith) m.1)
+apart-from n (d ∷ before) b after m = let rest = apart-from (n + 1) before b after m.1 in let q = m.0 in
+    let above : b.header.id ≡ n + 1 + length before = numbered-mid (n + 1) before b after m.1 in
+    (((λ e. let z : ⊥ = omega arith in z), rest.0), rest.1)
 
 split-kind : (k : Kind) → is_split k ≡ true → (a : ℕ) × ((left : ℕ) × ((right : ℕ) × (k ≡ log.Split a left right)))
 split-kind (log.Split a left right) e = (a, (left, (right, refl)))
@@ -110,15 +113,13 @@ safe-mine s _ f value l e h n = e
 module _ (logs : Logs) (u : ℕ) (x y : TargetTablet) (before after : List AcceptedTablet) (b : AcceptedTablet) (front rest : List Record)
     (r : Record) (st : StandsFor logs u x) (is : accepted_tablets logs ≡ before ++ b ∷ after)
     (recs : b.records ≡ front ++ r ∷ rest) (at : length front ≡ slice_index x.places b.header.id)
-    (up : is_started logs x.places b.header.parent ≡ true) (tk : TakesIn b.header.id r x y) where
+    (up : is_started logs x.places b.header.parent ≡ true) (tk : TakesIn b.header.id r x y)
+    (there : slice_get (accepted_tablets logs) b.header.id ≡ Some b) where
   numbered : Numbered 0 (heads (before ++ b ∷ after))
   numbered = subst (λ w. Numbered 0 (heads w)) is (each-numbered logs st.valid)
 
   apart : Each (λ d. d.header.id ≢ b.header.id) before × Each (λ d. d.header.id ≢ b.header.id) after
-  apart = let parts = numbered-parts 0 before b after numbered in (
-    Each-weaker (λ d. d.header.id < b.header.id) (λ d. d.header.id ≢ b.header.id) (λ d k e. let z : ⊥ = omega arith in z) before parts.0,
-    Each-weaker (λ d. b.header.id < d.header.id) (λ d. d.header.id ≢ b.header.id) (λ d k e. let z : ⊥ = omega arith in z) after parts.1,
-  )
+  apart = apart-from 0 before b after numbered
 
   count : length x.floors.headers ≡ length (before ++ b ∷ after)
   count = ap length (st.floors.headers ∙ sym (heads-logs logs)) ∙ length-map (accepted_tablets logs) (λ (d : AcceptedTablet). d.header)
@@ -144,18 +145,11 @@ module _ (logs : Logs) (u : ℕ) (x y : TargetTablet) (before after : List Accep
   was-open : is_closed_in x.places b ≡ false
   was-open = is-open x.places b front rest r recs at
 
-  there : Exists (λ d. d ≡ b) (accepted_tablets logs)
-  there = subst (Exists (λ d. d ≡ b)) (sym is) (exists-right (λ d. d ≡ b) before (b ∷ after) (inl refl))
-
   closed-b : closed_at logs x.places b.header.id ≡ false
-  closed-b = closed-of logs x.places b (each-numbered logs st.valid) there ∙ was-open
+  closed-b = closed-of logs x.places b.header.id b there ∙ was-open
 
-  get-b : slice_get (accepted_tablets logs) b.header.id ≡ Some b
-  get-b = get-tablet (accepted_tablets logs) b (each-numbered logs st.valid) there
-
-  is-b : (d : AcceptedTablet) → Exists (λ e. e ≡ d) (accepted_tablets logs) → d.header.id ≡ b.header.id → d ≡ b
-  is-b d i same = same_Some d b (sym (get-tablet (accepted_tablets logs) d (each-numbered logs st.valid) i)
-      ∙ ap (slice_get (accepted_tablets logs)) same ∙ get-b)
+  is-b : (d : AcceptedTablet) → slice_get (accepted_tablets logs) d.header.id ≡ Some d → d.header.id ≡ b.header.id → d ≡ b
+  is-b d i same = same_Some d b (sym i ∙ ap (slice_get (accepted_tablets logs)) same ∙ there)
 
   closed-elsewhere : (p : ℕ) → p ≢ b.header.id → closed_at logs y.places p ≡ closed_at logs x.places p
   unfolding closed_at
@@ -168,24 +162,23 @@ module _ (logs : Logs) (u : ℕ) (x y : TargetTablet) (before after : List Accep
           ap (λ n. (n == length d.records) && d.end.split) (place-other d.header.id (λ q. h (sym (get-id logs p d st.valid e) ∙ q)))
 
   header-b : slice_get x.floors.headers b.header.id ≡ Some b.header
-  header-b = subst (λ w. slice_get w b.header.id ≡ Some b.header) (heads-logs logs
-      ∙ sym st.floors.headers) (there-get (heads (accepted_tablets logs)) b.header (each-numbered logs st.valid)
-      (exists-map (λ (w : AcceptedTablet). w.header) (accepted_tablets logs) b there))
+  header-b = ap (λ w. slice_get w b.header.id) st.floors.headers ∙ header-get logs b.header.id b st.valid there
 
   effect : (k : List ℕ) → in_range x k ≡ true
-      → kept_at y k ≡ cond (owns (hash_of k) b.header) (steps (record_events k r) (kept_at x k)) (kept_at x k)
+      → kept_at y k ≡ cond (holds b.header (hash_of k)) (steps (record_events k r) (kept_at x k)) (kept_at x k)
   effect k q = tk.keys k q
       ∙ ap (λ o. if option_map_or (λ h. holds h (hash_of k)) o false then steps (record_events k r) (kept_at x k) else kept_at x k) header-b
 
-  kind-numbered : KindNumbered r.kind
-  kind-numbered = (each-back (λ r. KindNumbered r.kind) front (r ∷ rest) (subst (Each (λ r. KindNumbered r.kind)) recs
-      (each-at (λ e. Each (λ r. KindNumbered r.kind) e.records) (accepted_tablets logs) b (rules-suffice logs st.valid).numbered there))).0
+  fits-b : kind_fits b.header (children (headers_of logs.tablets) b.header.id) r.kind ≡ true
+  fits-b = let fitting : Record → Type 0 = λ r. kind_fits b.header (children (headers_of logs.tablets) b.header.id) r.kind ≡ true in
+      (each-back fitting front (r ∷ rest) (subst (Each fitting) recs
+      (each-get (FitsTablet (headers_of logs.tablets)) (accepted_tablets logs) b.header.id b (accepted-fit logs st.valid) there))).0
 
   given : (k : List ℕ)
-      → given_at logs u y.places k ≡ cond (owns (hash_of k) b.header) (steps (record_events k r) (given_at logs u x.places k))
+      → given_at logs u y.places k ≡ cond (holds b.header (hash_of k)) (steps (record_events k r) (given_at logs u x.places k))
       (given_at logs u x.places k)
-  given k = given-more logs x.places y.places u before after b front rest r st.valid st.places st.covered is recs at there kind-numbered
-      place-mine
+  given k = given-more logs x.places y.places u before after b front rest r st.valid st.places st.covered is recs at there
+      (λ k. record-numbered k r.time b.header (children (headers_of logs.tablets) b.header.id) r.kind fits-b) place-mine
       (Each-weaker (λ d. d.header.id ≢ b.header.id) (λ d. place y.places d ≡ place x.places d) (λ d n. place-other d.header.id n) before
       apart.0)
       (Each-weaker (λ d. d.header.id ≢ b.header.id) (λ d. place y.places d ≡ place x.places d) (λ d n. place-other d.header.id n) after
@@ -199,14 +192,14 @@ module _ (logs : Logs) (u : ℕ) (x y : TargetTablet) (before after : List Accep
   started-before (Some p) e =
       ⊎_elim (λ same. ap (closed_at logs x.places) same ∙ closed-b) (λ n. sym (closed-elsewhere p n) ∙ e) (cases_eq p b.header.id)
 
-  starts-new : (d : AcceptedTablet) → Exists (λ e. e ≡ d) (accepted_tablets logs) → StartsAfter logs x.places d
+  starts-new : (d : AcceptedTablet) → slice_get (accepted_tablets logs) d.header.id ≡ Some d → StartsAfter logs x.places d
       → StartsAfter logs y.places d
   starts-new d i s c = ⊎_elim
       (λ same. absurd (true≢false (sym (ap (λ (w : AcceptedTablet). is_started logs x.places w.header.parent) (is-b d i same) ∙ up)
       ∙ started-before d.header.parent c)))
       (λ n. place-other d.header.id n ∙ s (started-before d.header.parent c)) (cases_eq d.header.id b.header.id)
 
-  within-new : (d : AcceptedTablet) → Exists (λ e. e ≡ d) (accepted_tablets logs) → place x.places d ≤ length d.records
+  within-new : (d : AcceptedTablet) → slice_get (accepted_tablets logs) d.header.id ≡ Some d → place x.places d ≤ length d.records
       → place y.places d ≤ length d.records
   within-new d i w = ⊎_elim (λ same. subst (λ (w : AcceptedTablet). place y.places w ≤ length w.records) (sym (is-b d i same))
       (let a = place-mine in let c = within-more x.places b front rest r recs at in omega arith))
@@ -221,16 +214,16 @@ module _ (logs : Logs) (u : ℕ) (x y : TargetTablet) (before after : List Accep
   places-new : IsPlaces logs y.places
   places-new = record {
     count = ap length tk.places ∙ length-set x.places b.header.id (slice_index x.places b.header.id + 1) ∙ st.places.count;
-    within = each-itself (λ d. place y.places d ≤ length d.records) (accepted_tablets logs)
-        (λ d i. within-new d i (each-at (λ d. place x.places d ≤ length d.records) (accepted_tablets logs) d st.places.within i));
-    starts = each-itself (StartsAfter logs y.places) (accepted_tablets logs)
-        (λ d i. starts-new d i (each-at (StartsAfter logs x.places) (accepted_tablets logs) d st.places.starts i));
+    within = each-tablet logs st.valid (λ d. place y.places d ≤ length d.records) (λ d i. within-new d i
+        (each-get (λ d. place x.places d ≤ length d.records) (accepted_tablets logs) d.header.id d st.places.within i));
+    starts = each-tablet logs st.valid (StartsAfter logs y.places)
+        (λ d i. starts-new d i (each-get (StartsAfter logs x.places) (accepted_tablets logs) d.header.id d st.places.starts i));
   }
 
   -- ---- the tablets
 
   grown : IsGrown b
-  grown = each-at IsGrown (accepted_tablets logs) b (accepted_tablets-grown logs) there
+  grown = each-get IsGrown (accepted_tablets logs) b.header.id b (accepted_tablets-grown logs) there
 
   in-order : accepted_from b.start (front ++ r ∷ rest) ≡ front ++ r ∷ rest
   in-order = subst (λ w. accepted_from b.start w ≡ w) recs grown.in_order
@@ -261,7 +254,7 @@ module _ (logs : Logs) (u : ℕ) (x y : TargetTablet) (before after : List Accep
           (λ n. ap (λ o. o && b.end.split) n ∙ sym f) (cases_Bool (slice_index y.places b.header.id == length b.records))
 
   keeps-b : FloorFor logs x.places x.floors b
-  keeps-b = each-at (FloorFor logs x.places x.floors) (accepted_tablets logs) b st.floors.each there
+  keeps-b = each-get (FloorFor logs x.places x.floors) (accepted_tablets logs) b.header.id b st.floors.each there
 
   applied-front : take (slice_index x.places b.header.id) b.records ≡ front
   applied-front = applied-is x.places b front rest r recs at
@@ -280,46 +273,28 @@ module _ (logs : Logs) (u : ℕ) (x y : TargetTablet) (before after : List Accep
 
   -- ---- the children that a split names
 
-  headers : List Header
-  headers = headers_of logs.tablets
-
-  numbered-headers : Numbered 0 (headers_of logs.tablets)
-  numbered-headers = subst (Numbered 0) (heads-logs logs) (each-numbered logs st.valid)
-
-  header-there : (d : AcceptedTablet) → Exists (λ e. e ≡ d) (accepted_tablets logs) → Exists (λ h. h ≡ d.header) (headers_of logs.tablets)
-  header-there d i = subst (Exists (λ h. h ≡ d.header)) (heads-logs logs)
-      (exists-map (λ (w : AcceptedTablet). w.header) (accepted_tablets logs) d i)
-
-  fits-b : kind_fits b.header (children (headers_of logs.tablets) b.header.id) r.kind ≡ true
-  fits-b = let fitting : Record → Type 0 = λ r. kind_fits b.header (children (headers_of logs.tablets) b.header.id) r.kind ≡ true in
-      (each-back fitting front (r ∷ rest) (subst (Each fitting) recs
-      (each-at (λ e. Each (λ r. kind_fits e.header (children (headers_of logs.tablets) e.header.id) r.kind ≡ true) e.records)
-      (accepted_tablets logs) b (kinds-fit logs st.valid) there))).0
-
   named : (a left right : ℕ) → r.kind ≡ log.Split a left right → Named (headers_of logs.tablets) b.header.id left right
   named a left right e = named-by (headers_of logs.tablets) b.header a left right
       (subst (λ k. kind_fits b.header (children (headers_of logs.tablets) b.header.id) k ≡ true) e fits-b)
 
-  -- a tablet with the number of a child is a child
-  child-parent : (left right : ℕ) (n : Named (headers_of logs.tablets) b.header.id left right) (d : AcceptedTablet)
-      → Exists (λ e. e ≡ d) (accepted_tablets logs) → (d.header.id ≡ left) ⊎ (d.header.id ≡ right) → d.header.parent ≡ Some b.header.id
-  child-parent left right n d i e =
-      let c = children-found [] (RootAt 0) (headers_of logs.tablets) b.header.id n.l n.r tt (headers-fit logs st.valid) n.are in
-      ⊎_elim
-      (λ q. ap (λ (w : Header). w.parent)
-      (same-header (headers_of logs.tablets) d.header n.l numbered-headers (header-there d i) c.left_there (q ∙ n.is_left)) ∙ c.left)
-      (λ q. ap (λ (w : Header). w.parent)
-      (same-header (headers_of logs.tablets) d.header n.r numbered-headers (header-there d i) c.right_there (q ∙ n.is_right))
-      ∙ c.right) e
+  -- a tablet is a child of b exactly where it has the number of one
+  child-of : (left right : ℕ) (n : Named (headers_of logs.tablets) b.header.id left right) (d : AcceptedTablet)
+      → slice_get (accepted_tablets logs) d.header.id ≡ Some d
+      → (d.header.parent ≡ Some b.header.id) ↔ ((d.header.id ≡ left) ⊎ (d.header.id ≡ right))
+  child-of left right n d i = let c = child-is (headers_of logs.tablets) b.header.id d.header.id n.l n.r d.header
+      (valid-headers logs st.valid) n.are (header-get logs d.header.id d st.valid i) in (
+        (λ e. ⊎_elim (λ q. inl (q ∙ sym n.is_left)) (λ q. inr (q ∙ sym n.is_right)) (c.0 e)),
+        (λ e. c.1 (⊎_elim (λ q. inl (q ∙ n.is_left)) (λ q. inr (q ∙ n.is_right)) e)),
+      )
 
   not-own-child : b.header.parent ≡ Some b.header.id → ⊥
   not-own-child e =
-      let q : b.header.id < b.header.id = (get-under logs b.header.id b st.valid get-b b.header.id e).below in let z : ⊥ = omega arith in z
+      let q : b.header.id < b.header.id = (get-under logs b.header.id b st.valid there b.header.id e).below in let z : ⊥ = omega arith in z
 
   not-child : (a left right : ℕ) → r.kind ≡ log.Split a left right → (b.header.id ≢ left) × (b.header.id ≢ right)
   not-child a left right e = (
-    (λ q. not-own-child (child-parent left right (named a left right e) b there (inl q))),
-    (λ q. not-own-child (child-parent left right (named a left right e) b there (inr q))),
+    (λ q. not-own-child ((child-of left right (named a left right e) b there).1 (inl q))),
+    (λ q. not-own-child ((child-of left right (named a left right e) b there).1 (inr q))),
   )
 
   below-closed : b.header.id < length x.floors.closed
@@ -349,7 +324,7 @@ module _ (logs : Logs) (u : ℕ) (x y : TargetTablet) (before after : List Accep
   started-elsewhere (Some p) n = closed-elsewhere p (λ e. n (ap Some e))
 
   closed-now : closed_at logs y.places b.header.id ≡ is_split r.kind
-  closed-now = closed-of logs y.places b (each-numbered logs st.valid) there ∙ now-closed
+  closed-now = closed-of logs y.places b.header.id b there ∙ now-closed
 
   started-same : is_split r.kind ≡ false → (q : Option ℕ) → is_started logs y.places q ≡ is_started logs x.places q
   started-same f None = refl
@@ -360,11 +335,11 @@ module _ (logs : Logs) (u : ℕ) (x y : TargetTablet) (before after : List Accep
   safe-same d n = ap (λ p. (order_at d p).floor) (place-other d.header.id n)
 
   -- a child of b begins where b ends
-  child-floor : (d : AcceptedTablet) → Exists (λ e. e ≡ d) (accepted_tablets logs) → d.header.parent ≡ Some b.header.id
+  child-floor : (d : AcceptedTablet) → slice_get (accepted_tablets logs) d.header.id ≡ Some d → d.header.parent ≡ Some b.header.id
       → d.start.floor ≡ b.end.floor
   child-floor d i e = let under : UnderParent (accepted_tablets logs) b.header.id d =
-      get-under logs d.header.id d st.valid (get-tablet (accepted_tablets logs) d (each-numbered logs st.valid) i) b.header.id e in
-      sym under.floor ∙ ap (λ (w : AcceptedTablet). w.end.floor) (same_Some under.parent b (sym under.there ∙ get-b))
+      get-under logs d.header.id d st.valid i b.header.id e in
+      sym under.floor ∙ ap (λ (w : AcceptedTablet). w.end.floor) (same_Some under.parent b (sym under.there ∙ there))
 
   end-floor : is_split r.kind ≡ true → b.end.floor ≡ last_safe_in x.places b
   end-floor t = let last = last-split b.start front rest r in-order t in let kind = split-kind r.kind t in
@@ -372,30 +347,24 @@ module _ (logs : Logs) (u : ℕ) (x y : TargetTablet) (before after : List Accep
       ∙ fold-append step_order b.start front (r ∷ []))
       ∙ ap (floor_by (fold step_order b.start front).floor) kind.1.1.1 ∙ sym old-safe
 
-  first-safe : (d : AcceptedTablet) → Exists (λ e. e ≡ d) (accepted_tablets logs) → d.header.parent ≡ Some b.header.id
+  first-safe : (d : AcceptedTablet) → slice_get (accepted_tablets logs) d.header.id ≡ Some d → d.header.parent ≡ Some b.header.id
       → last_safe_in x.places d ≡ d.start.floor
   first-safe d i e = let zero : place x.places d ≡ 0 =
-      each-at (StartsAfter logs x.places) (accepted_tablets logs) d st.places.starts i (ap (is_started logs x.places) e ∙ closed-b) in
+      each-get (StartsAfter logs x.places) (accepted_tablets logs) d.header.id d st.places.starts i
+      (ap (is_started logs x.places) e ∙ closed-b) in
       ap (λ n. (order_at d n).floor) zero
 
   value-after-split : (a left right : ℕ) → r.kind ≡ log.Split a left right → (i : ℕ) → slice_index y.floors.safe i ≡ slice_index
       (slice_set (slice_set x.floors.safe left (slice_index x.floors.safe b.header.id)) right (slice_index x.floors.safe b.header.id)) i
   value-after-split a left right e i = now-value i ∙ ap (λ k. slice_index (floors_after b.header.id k x.floors).safe i) e
 
-  below-each : (d : AcceptedTablet) → Exists (λ e. e ≡ d) (accepted_tablets logs) → d.header.id < length x.floors.safe
+  below-each : (d : AcceptedTablet) → slice_get (accepted_tablets logs) d.header.id ≡ Some d → d.header.id < length x.floors.safe
   below-each d i = let q : length x.floors.safe ≡ length x.floors.headers = st.floors.safe in
       let w : d.header.id < length (accepted_tablets logs) =
-      slice_get_within (accepted_tablets logs) d.header.id d (get-tablet (accepted_tablets logs) d (each-numbered logs st.valid) i) in
+      slice_get_within (accepted_tablets logs) d.header.id d i in
       let c : length x.floors.headers ≡ length (accepted_tablets logs) = count ∙ ap length (sym is) in omega arith
 
-  one-of : (left right : ℕ) (n : Named (headers_of logs.tablets) b.header.id left right) (d : AcceptedTablet)
-      → Exists (λ e. e ≡ d) (accepted_tablets logs) → d.header.parent ≡ Some b.header.id → (d.header.id ≡ left) ⊎ (d.header.id ≡ right)
-  one-of left right n d i e = let each : Each (IsOne b.header.id n.l n.r) (headers_of logs.tablets) =
-      children-only [] (RootAt 0) (headers_of logs.tablets) b.header.id n.l n.r tt (headers-fit logs st.valid) n.are in
-      ⊎_elim (λ q. inl (q ∙ sym n.is_left)) (λ q. inr (q
-      ∙ sym n.is_right)) (each-at (IsOne b.header.id n.l n.r) (headers_of logs.tablets) d.header each (header-there d i) e)
-
-  safe-else : (d : AcceptedTablet) → Exists (λ e. e ≡ d) (accepted_tablets logs) → d.header.id ≢ b.header.id
+  safe-else : (d : AcceptedTablet) → slice_get (accepted_tablets logs) d.header.id ≡ Some d → d.header.id ≢ b.header.id
       → FloorFor logs x.places x.floors d → is_started logs y.places d.header.parent ≡ true
       → slice_index y.floors.safe d.header.id ≡ last_safe_in y.places d
   safe-else d i n k started = ⊎_elim split (λ f. now-value d.header.id ∙ safe-other b.header.id r.kind x.floors d.header.id f n
@@ -407,15 +376,15 @@ module _ (logs : Logs) (u : ℕ) (x y : TargetTablet) (before after : List Accep
           let set = value-after-split kind.0 left right kind.1.1.1 d.header.id in
           let value = slice_index x.floors.safe b.header.id in
           ⊎_elim
-          (λ e. set ∙ safe-child value left right x.floors.safe d.header.id (below-each d i) (one-of left right names d i e)
+          (λ e. set ∙ safe-child value left right x.floors.safe d.header.id (below-each d i) ((child-of left right names d i).0 e)
           ∙ keeps-b.safe up ∙ sym (end-floor t) ∙ sym (child-floor d i e) ∙ sym (first-safe d i e) ∙ sym (safe-same d n))
           (λ e. set
-          ∙ safe-apart value left right x.floors.safe d.header.id (λ q. e (child-parent left right names d i (inl q)))
-          (λ q. e (child-parent left right names d i (inr q))) ∙ k.safe (sym (started-elsewhere d.header.parent e) ∙ started)
+          ∙ safe-apart value left right x.floors.safe d.header.id (λ q. e ((child-of left right names d i).1 (inl q)))
+          (λ q. e ((child-of left right names d i).1 (inr q))) ∙ k.safe (sym (started-elsewhere d.header.parent e) ∙ started)
           ∙ sym (safe-same d n))
           (parent-is d.header.parent b.header.id)
 
-  keeps-else : (d : AcceptedTablet) → Exists (λ e. e ≡ d) (accepted_tablets logs) → d.header.id ≢ b.header.id
+  keeps-else : (d : AcceptedTablet) → slice_get (accepted_tablets logs) d.header.id ≡ Some d → d.header.id ≢ b.header.id
       → FloorFor logs x.places x.floors d → FloorFor logs y.places y.floors d
   keeps-else d i n k = record {
     closed = now-has d.header.id ∙ others-kept b.header.id d.header.id r.kind x.floors n ∙ k.closed
@@ -423,9 +392,9 @@ module _ (logs : Logs) (u : ℕ) (x y : TargetTablet) (before after : List Accep
     safe = λ started. safe-else d i n k started;
   }
 
-  keeps-each : (d : AcceptedTablet) → Exists (λ e. e ≡ d) (accepted_tablets logs) → FloorFor logs y.places y.floors d
+  keeps-each : (d : AcceptedTablet) → slice_get (accepted_tablets logs) d.header.id ≡ Some d → FloorFor logs y.places y.floors d
   keeps-each d i = ⊎_elim (λ e. subst (FloorFor logs y.places y.floors) (sym (is-b d i e)) keeps-mine)
-      (λ n. keeps-else d i n (each-at (FloorFor logs x.places x.floors) (accepted_tablets logs) d st.floors.each i))
+      (λ n. keeps-else d i n (each-get (FloorFor logs x.places x.floors) (accepted_tablets logs) d.header.id d st.floors.each i))
       (cases_eq d.header.id b.header.id)
 
   same-range : (k : List ℕ) → in_range y k ≡ in_range x k
@@ -447,10 +416,10 @@ module _ (logs : Logs) (u : ℕ) (x y : TargetTablet) (before after : List Accep
           ∙ ap length (st.floors.headers ∙ sym same-headers);
       safe = ap (λ (f : Floors). length f.safe) tk.floors ∙ safe-count b.header.id r.kind x.floors ∙ st.floors.safe
           ∙ ap length (st.floors.headers ∙ sym same-headers);
-      each = each-itself (FloorFor logs y.places y.floors) (accepted_tablets logs) keeps-each;
+      each = each-tablet logs st.valid (FloorFor logs y.places y.floors) keeps-each;
     };
     keys = λ k q. let inside = sym (same-range k) ∙ q in effect k inside
-        ∙ ap (λ w. cond (owns (hash_of k) b.header) (steps (record_events k r) w) w) (st.keys k inside) ∙ sym (given k);
+        ∙ ap (λ w. cond (holds b.header (hash_of k)) (steps (record_events k r) w) w) (st.keys k inside) ∙ sym (given k);
     within = tk.within;
   }
 
@@ -498,7 +467,7 @@ deliveries-keep logs x y u s r st started next tk =
     let records = take-front found.b.records (slice_index x.places s) r found.at in
     still-stands logs u x y tablets.0 tablets.1.0 found.b records.0 records.1.0 r st tablets.1.1.0 records.1.1.0 (records.1.1.1
     ∙ ap (slice_index x.places) (sym id)) (started-is logs u s x found.b st found.get started) (subst (λ (w : ℕ). TakesIn w r x y)
-    (sym id) tk)
+    (sym id) tk) (ap (slice_get (accepted_tablets logs)) id ∙ found.get)
 
 -- ---- batches
 

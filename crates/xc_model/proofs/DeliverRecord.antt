@@ -4,14 +4,16 @@ use Rattle.xc_model.proofs.Common.{refl, ap, sym, ◌∙◌, arith, subst, appen
 use Rattle.xc_model.proofs.Common.{length-append, filter-append, flat_map-append, and_left, ne_eqb, true≢false, Kind, Record, Logs, after}
 use Rattle.xc_model.proofs.Common.{AcceptedTablet, accepted_tablets, place, last_safe_in, is_closed_in, safe_time, IsPlaces, hash_of}
 use Rattle.xc_model.proofs.Common.{Put, Hold, events, record_events, kind_events, puts, steps, is_valid, IsGrown}
-use Rattle.xc_model.proofs.Common.{accepted_tablets-grown, Each-filter}
+use Rattle.xc_model.proofs.Common.{accepted_tablets-grown, Each-filter, Each-weaker, slice_get, Some, Option, Header, kind_fits, children}
+use Rattle.xc_model.proofs.Common.{holds, headers_of, FitsTablet, accepted-fit, and_parts}
 use Rattle.xc_record.specs.declared.record.Kind.TheVariants as log
-use Rattle.xc_model.{proofs.Flat.each-flat, proofs.Tree.legal-own, specs.Stands.given_at, proofs.FromRules.rules-suffice}
-use Rattle.xc_model.{proofs.StableSort.Each, proofs.StableSort.Exists, proofs.Elements.each-at, proofs.Elements.each-map}
+use Rattle.xc_model.{proofs.Flat.each-flat, proofs.Tree.legal-own, specs.Stands.given_at}
+use Rattle.xc_model.{proofs.StableSort.Each, proofs.Elements.each-map, proofs.Parents.each-get}
+use Rattle.std.proofs.lemmas.Bool.{leb-true}
 use Rattle.xc_model.proofs.ApplyPath.{AddsAfter, shown-append}
 use Rattle.xc_model.proofs.KeyRead.{under-safe, along-path, IsLow, each-low, goes-back, goes-front, floor-le-last}
 use Rattle.xc_model.proofs.Chain.{nothing-applied, events-push, floor_after, last_after, KindGoes, Goes, after-parts, grown-goes}
-use Rattle.xc_model.proofs.Along.{IsNumbered, shown, KindNumbered, owns, own, applied_in, applied_along, LegalChain}
+use Rattle.xc_model.proofs.Along.{IsNumbered, shown, own, applied_in, applied_along, LegalChain}
 
 -- ---- the tablets of a key's path
 
@@ -75,11 +77,13 @@ record-adds u k f l time (log.Apply n m without) a b c g = ((let q : f < m = g.0
 record-adds u k f l time (log.Split at left right) a b c g = tt
 record-adds u k f l time _ a b c g = (tt, tt)
 
-pub record-numbered : (k : List ℕ) (time : ℕ) (kind : Kind) → KindNumbered kind → Each IsNumbered (kind_events k time kind)
-record-numbered k time (log.Write ops) h = each-map IsNumbered (λ v. Put time v) (puts k ops) (λ v. tt)
-record-numbered k time (log.Intent sub n ops) h = each-map IsNumbered (λ v. Hold n sub time v) (puts k ops) (λ v. h)
-record-numbered k time (log.Split at left right) h = tt
-record-numbered k time _ h = (tt, tt)
+pub record-numbered : (k : List ℕ) (time : ℕ) (t : Header) (pair : Option (Header × Header)) (kind : Kind) → kind_fits t pair kind ≡ true
+    → Each IsNumbered (kind_events k time kind)
+record-numbered k time t pair (log.Write ops) f = each-map IsNumbered (λ v. Put time v) (puts k ops) (λ v. tt)
+record-numbered k time t pair (log.Intent sub n ops) f = each-map IsNumbered (λ v. Hold n sub time v) (puts k ops)
+    (λ _. let low : 1 ≤ n = leb-true _ _ (and_parts _ _ (and_parts _ _ f).0).0 in omega arith)
+record-numbered k time t pair (log.Split at left right) f = tt
+record-numbered k time t pair _ f = (tt, tt)
 
 each-take : {A : Type 0} (P : A → Type 0) (n : ℕ) (xs : List A) → Each P xs → Each P (take n xs)
 each-take P zero xs h = tt
@@ -89,22 +93,25 @@ each-take P (suc n) (x ∷ xs) h = (h.0, each-take P n xs h.1)
 numbered-upto : (logs : Logs) (ps k : List ℕ) → is_valid logs ≡ true
     → Each IsNumbered (events k (applied_along ps (filter (own (hash_of k)) (accepted_tablets logs))))
 numbered-upto logs ps k v = let bs = accepted_tablets logs in let xs = filter (own (hash_of k)) bs in
-    each-flat IsNumbered (record_events k) (λ r. KindNumbered r.kind) (λ r. record-numbered k r.time r.kind) (applied_along ps xs)
-    (each-flat (λ r. KindNumbered r.kind) (applied_in ps) (λ b. Each (λ r. KindNumbered r.kind) b.records)
-    (λ b w. each-take (λ r. KindNumbered r.kind) (place ps b) b.records w) xs
-    (Each-filter (λ b. Each (λ r. KindNumbered r.kind) b.records) (own (hash_of k)) bs (rules-suffice logs v).numbered))
+    let P : Record → Type 0 = λ r. Each IsNumbered (record_events k r) in let hs = headers_of logs.tablets in
+    each-flat IsNumbered (record_events k) P (λ r w. w) (applied_along ps xs)
+    (each-flat P (applied_in ps) (λ b. Each P b.records) (λ b w. each-take P (place ps b) b.records w) xs
+    (Each-filter (λ b. Each P b.records) (own (hash_of k)) bs (Each-weaker (FitsTablet hs) (λ b. Each P b.records)
+    (λ b f. Each-weaker (λ r. kind_fits b.header (children hs b.header.id) r.kind ≡ true) P
+    (λ r q. record-numbered k r.time b.header (children hs b.header.id) r.kind q) b.records f) bs (accepted-fit logs v))))
 
 -- what the record adds on a key commits after the cutoff
 next-adds : (logs : Logs) (ps : List ℕ) (u : ℕ) (k : List ℕ) (b : AcceptedTablet) (front rest : List Record) (r : Record)
-    → Exists (λ d. d ≡ b) (accepted_tablets logs) → b.records ≡ front ++ r ∷ rest → length front ≡ place ps b → u ≤ safe_time logs ps
-    → Each (AddsAfter u) (record_events k r)
+    → slice_get (accepted_tablets logs) b.header.id ≡ Some b → b.records ≡ front ++ r ∷ rest → length front ≡ place ps b
+    → u ≤ safe_time logs ps → Each (AddsAfter u) (record_events k r)
 next-adds logs ps u k b front rest r i is at c = let bs = accepted_tablets logs in
-    let g : IsGrown b = each-at IsGrown bs b (accepted_tablets-grown logs) i in
-    let low : b.start.floor ≤ b.start.last = (each-at IsLow bs b (each-low logs) i).start in
+    let g : IsGrown b = each-get IsGrown bs b.header.id b (accepted_tablets-grown logs) i in
+    let low : b.start.floor ≤ b.start.last = (each-get IsLow bs b.header.id b (each-low logs) i).start in
     let goes : Goes b.start.floor b.start.last (front ++ r ∷ rest) = subst (Goes b.start.floor b.start.last) is (grown-goes b g) in
     let next = goes-back b.start.floor b.start.last front (r ∷ rest) goes in
     let bound : u ≤ last_safe_in ps b =
-    ⊎_elim (λ e. absurd (true≢false (sym e ∙ is-open ps b front rest r is at))) (λ e. e) (each-at _ bs b (under-safe logs ps u c) i) in
+    ⊎_elim (λ e. absurd (true≢false (sym e ∙ is-open ps b front rest r is at))) (λ e. e)
+    (each-get _ bs b.header.id b (under-safe logs ps u c) i) in
     let f : u ≤ floor_after b.start.floor front =
     subst (λ (n : ℕ). u ≤ n) (ap (λ (w : List Record). (fold after b.start w).floor) (applied-is ps b front rest r is at)
     ∙ (after-parts b.start front).0) bound in
@@ -116,8 +123,8 @@ next-adds logs ps u k b front rest r i is at c = let bs = accepted_tablets logs 
 module _ (logs : Logs) (ps qs : List ℕ) (u : ℕ) (before after : List AcceptedTablet) (b : AcceptedTablet) (front rest : List Record)
     (r : Record) (valid : is_valid logs ≡ true) (legal : IsPlaces logs ps) (low : u ≤ safe_time logs ps)
     (all : accepted_tablets logs ≡ before ++ b ∷ after)
-    (is : b.records ≡ front ++ r ∷ rest) (at : length front ≡ place ps b) (there : Exists (λ d. d ≡ b) (accepted_tablets logs))
-    (numbered : KindNumbered r.kind)
+    (is : b.records ≡ front ++ r ∷ rest) (at : length front ≡ place ps b) (there : slice_get (accepted_tablets logs) b.header.id ≡ Some b)
+    (numbered : (k : List ℕ) → Each IsNumbered (record_events k r))
     (moved : place qs b ≡ place ps b + 1) (same-before : Each (λ d. place qs d ≡ place ps d) before)
     (same-after : Each (λ d. place qs d ≡ place ps d) after) where
   abbrev os : ℕ → List AcceptedTablet
@@ -126,10 +133,10 @@ module _ (logs : Logs) (ps qs : List ℕ) (u : ℕ) (before after : List Accepte
   abbrev ys : ℕ → List AcceptedTablet
   ys h = filter (own h) after
 
-  parts : (h : ℕ) → filter (own h) (accepted_tablets logs) ≡ os h ++ cond (owns h b.header) (b ∷ ys h) (ys h)
+  parts : (h : ℕ) → filter (own h) (accepted_tablets logs) ≡ os h ++ cond (holds b.header h) (b ∷ ys h) (ys h)
   parts h = ap (filter (own h)) all ∙ filter-append (own h) before (b ∷ after)
 
-  path-with : (h : ℕ) → owns h b.header ≡ true
+  path-with : (h : ℕ) → holds b.header h ≡ true
       → applied_along qs (filter (own h) (accepted_tablets logs)) ≡ applied_along ps (filter (own h) (accepted_tablets logs)) ++ r ∷ []
   path-with h o =
       let here : filter (own h) (accepted_tablets logs) ≡ os h ++ b ∷ ys h = parts h ∙ ap (λ c. os h ++ cond c (b ∷ ys h) (ys h)) o in
@@ -140,7 +147,7 @@ module _ (logs : Logs) (ps qs : List ℕ) (u : ℕ) (before after : List Accepte
       (zeros-after ps (os h) (ys h) b chain (is-open ps b front rest r is at))
       ∙ ap (λ w. applied_along ps w ++ r ∷ []) (sym here)
 
-  path-without : (h : ℕ) → owns h b.header ≡ false
+  path-without : (h : ℕ) → holds b.header h ≡ false
       → applied_along qs (filter (own h) (accepted_tablets logs)) ≡ applied_along ps (filter (own h) (accepted_tablets logs))
   path-without h o =
       let here : filter (own h) (accepted_tablets logs) ≡ os h ++ ys h = parts h ∙ ap (λ c. os h ++ cond c (b ∷ ys h) (ys h)) o in
@@ -155,15 +162,15 @@ module _ (logs : Logs) (ps qs : List ℕ) (u : ℕ) (before after : List Accepte
 
   -- at a key of b's range the events of the record come in, at any other nothing changes
   pub given-more : (k : List ℕ)
-      → given_at logs u qs k ≡ cond (owns (hash_of k) b.header) (steps (record_events k r) (given_at logs u ps k)) (given_at logs u ps k)
-  given-more k = go (owns (hash_of k) b.header) refl
+      → given_at logs u qs k ≡ cond (holds b.header (hash_of k)) (steps (record_events k r) (given_at logs u ps k)) (given_at logs u ps k)
+  given-more k = go (holds b.header (hash_of k)) refl
     where
-      go : (o : Bool) → owns (hash_of k) b.header ≡ o
+      go : (o : Bool) → holds b.header (hash_of k) ≡ o
           → given_at logs u qs k ≡ cond o (steps (record_events k r) (given_at logs u ps k)) (given_at logs u ps k)
       go true o = let up = applied_along ps (filter (own (hash_of k)) (accepted_tablets logs)) in
           ap (λ rs. shown u (events k rs)) (along-path logs qs k ∙ path-with (hash_of k) o)
           ∙ ap (shown u) (events-push k up r)
-          ∙ shown-append u (events k up) (record_events k r) (numbered-upto logs ps k valid) (record-numbered k r.time r.kind numbered)
+          ∙ shown-append u (events k up) (record_events k r) (numbered-upto logs ps k valid) (numbered k)
           (next-adds logs ps u k b front rest r there is at low)
           ∙ ap (λ rs. steps (record_events k r) (shown u (events k rs))) (sym (along-path logs ps k))
       go false o = ap (λ rs. shown u (events k rs)) (along-path logs qs k ∙ path-without (hash_of k) o ∙ sym (along-path logs ps k))

@@ -1,5 +1,7 @@
 -- Laws of what holds of each element of a list, and of some element.
 use Rattle.xc_model.proofs.Common.{◌≡◌, Bool, true, false, cond, List, [], ◌∷◌, ◌++◌, refl, sym, subst, inl, inr, ⊎_elim, filter, map, ap}
+use Rattle.xc_model.proofs.Common.{Option, Some, None, is_some, list_any, list_all, and_parts, slice_get, ℕ, zero, suc}
+use Rattle.std.proofs.lemmas.Bool.{or_from}
 use Rattle.xc_model.proofs.StableSort.{Each, Exists}
 
 pub exists-filter : {A : Type 0} (P Q : A → Type 0) (p : A → Bool) → ((x : A) → P x → (p x ≡ true) × Q x) → (xs : List A) → Exists P xs
@@ -22,15 +24,6 @@ each-filtered P p (x ∷ xs) f = go (each-filtered P p xs f) (p x) refl
 pub each-both : {A : Type 0} (P Q : A → Type 0) (xs : List A) → Each P xs → Each Q xs → Each (λ x. P x × Q x) xs
 each-both P Q [] h k = tt
 each-both P Q (x ∷ xs) h k = ((h.0, k.0), each-both P Q xs h.1 k.1)
-
--- each element is one of the list's
-pub each-itself : {A : Type 0} (P : A → Type 0) (xs : List A) → ((x : A) → Exists (λ y. y ≡ x) xs → P x) → Each P xs
-each-itself P [] f = tt
-each-itself P (x ∷ xs) f = (f x (inl refl), each-itself P xs (λ y i. f y (inr i)))
-
-pub exists-weaker : {A : Type 0} (P Q : A → Type 0) → ((x : A) → P x → Q x) → (xs : List A) → Exists P xs → Exists Q xs
-exists-weaker P Q f [] i = i
-exists-weaker P Q f (x ∷ xs) i = ⊎_elim (λ h. inl (f x h)) (λ r. inr (exists-weaker P Q f xs r)) i
 
 pub each-map : {A B : Type 0} (P : B → Type 0) (f : A → B) (xs : List A) → ((x : A) → P (f x)) → Each P (map f xs)
 each-map P f [] h = tt
@@ -63,3 +56,21 @@ each-front P (x ∷ xs) ys h = (h.0, each-front P xs ys h.1)
 pub each-back : {A : Type 0} (P : A → Type 0) (xs ys : List A) → Each P (xs ++ ys) → Each P ys
 each-back P [] ys h = h
 each-back P (x ∷ xs) ys h = each-back P xs ys h.1
+
+pub all-each : {A : Type 0} (p : A → Bool) (xs : List A) → list_all p xs ≡ true → Each (λ x. p x ≡ true) xs
+all-each p [] e = tt
+all-each p (x ∷ xs) e = let parts = and_parts (p x) (list_all p xs) e in (parts.0, all-each p xs parts.1)
+
+pub none-any : {A : Type 0} (p : A → Bool) (xs : List A) → Each (λ x. p x ≡ false) xs → list_any p xs ≡ false
+none-any p [] h = refl
+none-any p (x ∷ xs) h = or_from (p x) (list_any p xs) h.0 (none-any p xs h.1)
+
+-- what a test of an option finds
+pub some-of : {A : Type 0} (o : Option A) → is_some o ≡ true → (x : A) × (o ≡ Some x)
+some-of None e = cc
+some-of (Some x) e = (x, refl)
+
+pub exists-get : {A : Type 0} (P : A → Type 0) (xs : List A) (i : ℕ) (x : A) → slice_get xs i ≡ Some x → P x → Exists P xs
+exists-get P [] i x e h = cc
+exists-get P (y ∷ ys) zero x e h = let same : y ≡ x = cc in inl (subst P (sym same) h)
+exists-get P (y ∷ ys) (suc i) x e h = inr (exists-get P ys i x e h)

@@ -6,19 +6,19 @@ use Rattle.xc_model.proofs.Common.{◌∷◌, ◌++◌, Option, Some, None, arit
 use Rattle.xc_model.proofs.Common.{start_after, accepted_tablet_after, accepted_tablets_after, accepted_tablet_after-grown, Each-append}
 use Rattle.xc_model.proofs.Common.{◌<◌, Bool, false, cond, sym, subst, ◌==◌, filter-append, nat_tests, eqb-true, has, Event, Put, Hold}
 use Rattle.xc_model.proofs.Common.{Apply, Abort, Written, Waiting, Fate, Waits, Taken, RolledBack, Dropped, fate, fate_at, version_by}
-use Rattle.xc_model.proofs.Common.{waiting_by, versions_along, waiting, upto, map, append_assoc, flat_map-append, record_events}
-use Rattle.xc_model.proofs.Common.{kind_events, puts, last_of, Kind, Record}
+use Rattle.xc_model.proofs.Common.{waiting_by, versions_along, waiting, upto, append_assoc, flat_map-append, record_events}
+use Rattle.xc_model.proofs.Common.{last_of, Record, commit_of, undone, Agrees}
 use Rattle.xc_record.specs.Path.{holders}
-use Rattle.xc_record.specs.declared.record.Kind.TheVariants as log
-use Rattle.xc_model.{proofs.Flat.each-flat, proofs.StableSort.Each, proofs.Parents.each-get, proofs.FloorLaw.least-low}
+use Rattle.xc_model.{proofs.StableSort.Each, proofs.Parents.each-get, proofs.FloorLaw.least-low}
 use Rattle.xc_model.{proofs.Sorts.filter-sort, proofs.Sorts.in_order-sort, proofs.Elements.each-front, proofs.Elements.each-back}
 use Rattle.xc_model.proofs.ApplyPath.{newest-kept_from, version-orders}
 use Rattle.xc_model.proofs.Tree.{chained, stops, legal-own}
-use Rattle.xc_model.proofs.Along.{Outcomes, committed, ValidLogs, AgreeAll, own, path_of, applied_along, Agrees, commits_at, version_at}
-use Rattle.xc_model.proofs.Along.{AgreesAt, IsAfter, ComesAfter, origin, floor_by, records_along, Threads, LegalChain, Stops, KindAgrees}
+use Rattle.xc_model.proofs.FromCases.{path-free, path-agrees}
+use Rattle.xc_model.proofs.Along.{committed, own, path_of, applied_along, commits_at, version_at}
+use Rattle.xc_model.proofs.Along.{AgreesAt, IsAfter, ComesAfter, origin, floor_by, records_along, Threads, LegalChain, Stops}
 use Rattle.xc_model.proofs.Along.{NoStragglers}
 use Rattle.xc_model.proofs.Chain.{floor_after, last_after, grown-goes, grown-end, Goes, path-goes, floor-time, path-front, covered, Cut}
-use Rattle.xc_model.proofs.Chain.{cut-from, record-late}
+use Rattle.xc_model.proofs.Chain.{cut-from, record-late, stragglers-parts}
 
 -- Where an operation's fate is decided, so is its commit: that of its transaction where it is taken, and none where it is rolled back or
 -- dropped.
@@ -27,10 +27,10 @@ Decides o Waits = Unit {0}
 Decides o (Taken c) = o ≡ Some c
 Decides o _ = o ≡ None
 
-applied-decides : (outcomes : Outcomes) (n sub c : ℕ) (without : List ℕ) → outcomes.commit n ≡ Some c → outcomes.undone n ≡ without
-    → Decides (commits_at outcomes n sub) (fate_at sub c without)
-applied-decides outcomes n sub c without e f = subst (λ w. Decides (commits_at outcomes n sub) (fate_at sub c w)) f
-    (elim (has sub (outcomes.undone n)) as (λ b. Decides (cond b None (outcomes.commit n)) (cond b RolledBack (Taken c)))
+applied-decides : (logs : Logs) (n sub c : ℕ) (without : List ℕ) → commit_of logs n ≡ Some c → undone logs n ≡ without
+    → Decides (commits_at logs n sub) (fate_at sub c without)
+applied-decides logs n sub c without e f = subst (λ w. Decides (commits_at logs n sub) (fate_at sub c w)) f
+    (elim (has sub (undone logs n)) as (λ b. Decides (cond b None (commit_of logs n)) (cond b RolledBack (Taken c)))
     [ true ↦ refl | false ↦ e ])
 
 aborted-decides : (b : Bool) (o : Option ℕ) → o ≡ None → cond b None o ≡ None
@@ -41,17 +41,17 @@ decides-by : (o : Option ℕ) (b : Bool) (f g : Fate) → (b ≡ true → Decide
 decides-by o true f g h k = h refl
 decides-by o false f g h k = k
 
-pub fate-decides : (outcomes : Outcomes) (n sub : ℕ) (es : List Event) → Each (AgreesAt outcomes) es
-    → Decides (commits_at outcomes n sub) (fate n sub es)
-fate-decides outcomes n sub [] a = tt
-fate-decides outcomes n sub (Apply m c without ∷ es) a =
+pub fate-decides : (logs : Logs) (n sub : ℕ) (es : List Event) → Each (AgreesAt logs) es
+    → Decides (commits_at logs n sub) (fate n sub es)
+fate-decides logs n sub [] a = tt
+fate-decides logs n sub (Apply m c without ∷ es) a =
     decides-by _ (m == n) (fate_at sub c without) (fate n sub es) (λ e. let same : m ≡ n = eqb-true m n e in
-    applied-decides outcomes n sub c without (subst (λ w. outcomes.commit w ≡ Some c) same a.0.0)
-    (subst (λ w. outcomes.undone w ≡ without) same a.0.1)) (fate-decides outcomes n sub es a.1)
-fate-decides outcomes n sub (Abort m ∷ es) a =
-    decides-by _ (m == n) Dropped (fate n sub es) (λ e. aborted-decides (has sub (outcomes.undone n)) (outcomes.commit n)
-    (subst (λ w. outcomes.commit w ≡ None) (eqb-true m n e) a.0)) (fate-decides outcomes n sub es a.1)
-fate-decides outcomes n sub (_ ∷ es) a = fate-decides outcomes n sub es a.1
+    applied-decides logs n sub c without (subst (λ w. commit_of logs w ≡ Some c) same a.0.0)
+    (subst (λ w. undone logs w ≡ without) same a.0.1)) (fate-decides logs n sub es a.1)
+fate-decides logs n sub (Abort m ∷ es) a =
+    decides-by _ (m == n) Dropped (fate n sub es) (λ e. aborted-decides (has sub (undone logs n)) (commit_of logs n)
+    (subst (λ w. commit_of logs w ≡ None) (eqb-true m n e) a.0)) (fate-decides logs n sub es a.1)
+fate-decides logs n sub (_ ∷ es) a = fate-decides logs n sub es a.1
 
 -- what waits through more events waited before them
 pub waits-front : (n sub : ℕ) (es fs : List Event) → fate n sub (es ++ fs) ≡ Waits → fate n sub es ≡ Waits
@@ -66,35 +66,35 @@ late-version t None n v h = refl
 late-version t (Some c) n v h = grind (arith, nat_tests)
 
 -- an operation commits after t where its transaction does
-pub late-commit : (outcomes : Outcomes) (t n sub : ℕ) → IsAfter t (outcomes.commit n) → IsAfter t (commits_at outcomes n sub)
-late-commit outcomes t n sub h =
-    elim (has sub (outcomes.undone n)) as (λ b. IsAfter t (cond b None (outcomes.commit n))) [ true ↦ tt | false ↦ h ]
+pub late-commit : (logs : Logs) (t n sub : ℕ) → IsAfter t (commit_of logs n) → IsAfter t (commits_at logs n sub)
+late-commit logs t n sub h =
+    elim (has sub (undone logs n)) as (λ b. IsAfter t (cond b None (commit_of logs n))) [ true ↦ tt | false ↦ h ]
 
 -- after the last safe record nothing commits up to t
-pub none-committed : (outcomes : Outcomes) (t : ℕ) (es : List Event) → Each (ComesAfter outcomes t) es
-    → filter (upto t) (committed outcomes es) ≡ []
-none-committed outcomes t [] h = refl
-none-committed outcomes t (Put time v ∷ es) h = grind (arith, nat_tests, none-committed outcomes t es h.1)
-none-committed outcomes t (Hold n sub time v ∷ es) h =
-    filter-append (upto t) (version_at (commits_at outcomes n sub) n v) (committed outcomes es)
-    ∙ ap (λ w. w ++ filter (upto t) (committed outcomes es))
-    (late-version t (commits_at outcomes n sub) n v (late-commit outcomes t n sub h.0)) ∙ none-committed outcomes t es h.1
-none-committed outcomes t (_ ∷ es) h = none-committed outcomes t es h.1
+pub none-committed : (logs : Logs) (t : ℕ) (es : List Event) → Each (ComesAfter logs t) es
+    → filter (upto t) (committed logs es) ≡ []
+none-committed logs t [] h = refl
+none-committed logs t (Put time v ∷ es) h = grind (arith, nat_tests, none-committed logs t es h.1)
+none-committed logs t (Hold n sub time v ∷ es) h =
+    filter-append (upto t) (version_at (commits_at logs n sub) n v) (committed logs es)
+    ∙ ap (λ w. w ++ filter (upto t) (committed logs es))
+    (late-version t (commits_at logs n sub) n v (late-commit logs t n sub h.0)) ∙ none-committed logs t es h.1
+none-committed logs t (_ ∷ es) h = none-committed logs t es h.1
 
 -- an operation that commits after t is not taken up to t
 pub late-taken : (t n : ℕ) (v : Written) (o : Option ℕ) (f : Fate) → Decides o f → IsAfter t o → filter (upto t) (version_by f n v) ≡ []
 late-taken t n v o (Taken c) d h = let after : t < c = subst (IsAfter t) d h in grind (arith, nat_tests)
 late-taken t n v o _ d h = refl
 
-pub none-taken : (outcomes : Outcomes) (t : ℕ) (es : List Event) → Each (AgreesAt outcomes) es → Each (ComesAfter outcomes t) es
+pub none-taken : (logs : Logs) (t : ℕ) (es : List Event) → Each (AgreesAt logs) es → Each (ComesAfter logs t) es
     → filter (upto t) (versions_along es) ≡ []
-none-taken outcomes t [] a h = refl
-none-taken outcomes t (Put time v ∷ es) a h = grind (arith, nat_tests, none-taken outcomes t es a.1 h.1)
-none-taken outcomes t (Hold n sub time v ∷ es) a h = filter-append (upto t) (version_by (fate n sub es) n v) (versions_along es)
+none-taken logs t [] a h = refl
+none-taken logs t (Put time v ∷ es) a h = grind (arith, nat_tests, none-taken logs t es a.1 h.1)
+none-taken logs t (Hold n sub time v ∷ es) a h = filter-append (upto t) (version_by (fate n sub es) n v) (versions_along es)
     ∙ ap (λ w. w ++ filter (upto t) (versions_along es))
-    (late-taken t n v (commits_at outcomes n sub) (fate n sub es) (fate-decides outcomes n sub es a.1) (late-commit outcomes t n sub h.0))
-    ∙ none-taken outcomes t es a.1 h.1
-none-taken outcomes t (_ ∷ es) a h = none-taken outcomes t es a.1 h.1
+    (late-taken t n v (commits_at logs n sub) (fate n sub es) (fate-decides logs n sub es a.1) (late-commit logs t n sub h.0))
+    ∙ none-taken logs t es a.1 h.1
+none-taken logs t (_ ∷ es) a h = none-taken logs t es a.1 h.1
 
 -- an operation before the last safe record: it was taken at its commit, it has none, or it commits after t
 pub one-read : (t n : ℕ) (v : Written) (o : Option ℕ) (f : Fate) → Decides o f → (f ≡ Waits → IsAfter t o)
@@ -103,30 +103,30 @@ one-read t n v o Waits d w = sym (late-version t o n v (w refl))
 one-read t n v o _ d w = ap (λ o. filter (upto t) (version_at o n v)) (sym d)
 
 -- what waits in the front is after t, as no straggler stands at the safe record
-pub first-waits : (outcomes : Outcomes) (t n sub : ℕ) (v : Written) (f : Fate) (rest : List Waiting)
-    → Each (λ w. IsAfter t (outcomes.commit w.txn)) (waiting_by f n sub v ++ rest)
-    → (f ≡ Waits → IsAfter t (outcomes.commit n)) × Each (λ w. IsAfter t (outcomes.commit w.txn)) rest
-first-waits outcomes t n sub v Waits rest h = ((λ _. h.0), h.1)
-first-waits outcomes t n sub v _ rest h = ((λ e. grind arith), h)
+pub first-waits : (logs : Logs) (t n sub : ℕ) (v : Written) (f : Fate) (rest : List Waiting)
+    → Each (λ w. IsAfter t (commit_of logs w.txn)) (waiting_by f n sub v ++ rest)
+    → (f ≡ Waits → IsAfter t (commit_of logs n)) × Each (λ w. IsAfter t (commit_of logs w.txn)) rest
+first-waits logs t n sub v Waits rest h = ((λ _. h.0), h.1)
+first-waits logs t n sub v _ rest h = ((λ e. grind arith), h)
 
 -- Up to t, the versions of a path up to a place are the committed operations of the whole path:
 -- a ends before the last safe record of value at least t, b is the rest up to the place, later is what comes after.
-pub read-path : (outcomes : Outcomes) (t : ℕ) (a b later : List Event) → Each (AgreesAt outcomes) (a ++ b) → Each (ComesAfter outcomes t) b
-    → Each (ComesAfter outcomes t) (b ++ later) → Each (λ w. IsAfter t (outcomes.commit w.txn)) (waiting a)
-    → filter (upto t) (versions_along (a ++ b)) ≡ filter (upto t) (committed outcomes (a ++ (b ++ later)))
-read-path outcomes t [] b later g h k w = none-taken outcomes t b g h ∙ sym (none-committed outcomes t (b ++ later) k)
-read-path outcomes t (Put time v ∷ a) b later g h k w =
+pub read-path : (logs : Logs) (t : ℕ) (a b later : List Event) → Each (AgreesAt logs) (a ++ b) → Each (ComesAfter logs t) b
+    → Each (ComesAfter logs t) (b ++ later) → Each (λ w. IsAfter t (commit_of logs w.txn)) (waiting a)
+    → filter (upto t) (versions_along (a ++ b)) ≡ filter (upto t) (committed logs (a ++ (b ++ later)))
+read-path logs t [] b later g h k w = none-taken logs t b g h ∙ sym (none-committed logs t (b ++ later) k)
+read-path logs t (Put time v ∷ a) b later g h k w =
     ap (λ r. cond (upto t (record { commit = time; txn = 0; value = v })) (record { commit = time; txn = 0; value = v } ∷ r) r)
-    (read-path outcomes t a b later g.1 h k w)
-read-path outcomes t (Hold n sub time v ∷ a) b later g h k w = let split = first-waits outcomes t n sub v (fate n sub a) (waiting a) w in
-    let o = commits_at outcomes n sub in
+    (read-path logs t a b later g.1 h k w)
+read-path logs t (Hold n sub time v ∷ a) b later g h k w = let split = first-waits logs t n sub v (fate n sub a) (waiting a) w in
+    let o = commits_at logs n sub in
     filter-append (upto t) (version_by (fate n sub (a ++ b)) n v) (versions_along (a ++ b))
     ∙ ap (λ r. r ++ filter (upto t) (versions_along (a ++ b)))
-    (one-read t n v o (fate n sub (a ++ b)) (fate-decides outcomes n sub (a ++ b) g.1)
-    (λ e. late-commit outcomes t n sub (split.0 (waits-front n sub a b e))))
-    ∙ ap (λ r. filter (upto t) (version_at o n v) ++ r) (read-path outcomes t a b later g.1 h k split.1)
-    ∙ sym (filter-append (upto t) (version_at o n v) (committed outcomes (a ++ (b ++ later))))
-read-path outcomes t (_ ∷ a) b later g h k w = read-path outcomes t a b later g.1 h k w
+    (one-read t n v o (fate n sub (a ++ b)) (fate-decides logs n sub (a ++ b) g.1)
+    (λ e. late-commit logs t n sub (split.0 (waits-front n sub a b e))))
+    ∙ ap (λ r. filter (upto t) (version_at o n v) ++ r) (read-path logs t a b later g.1 h k split.1)
+    ∙ sym (filter-append (upto t) (version_at o n v) (committed logs (a ++ (b ++ later))))
+read-path logs t (_ ∷ a) b later g h k w = read-path logs t a b later g.1 h k w
 
 -- ---- up to the safe time, the versions of a key at legal places are the committed operations of its whole path
 
@@ -138,82 +138,56 @@ pub goes-back : (f l : ℕ) (xs ys : List Record) → Goes f l (xs ++ ys) → Go
 goes-back f l [] ys g = g
 goes-back f l (x ∷ xs) ys g = goes-back (floor_by f x.kind) x.time xs ys g.2
 
-pub stragglers-front : (outcomes : Outcomes) (k : List ℕ) (seen xs ys : List Record) → NoStragglers outcomes k seen (xs ++ ys)
-    → NoStragglers outcomes k seen xs
-stragglers-front outcomes k seen [] ys h = tt
-stragglers-front outcomes k seen (x ∷ xs) ys h = (h.0, stragglers-front outcomes k (seen ++ x ∷ []) xs ys h.1)
-
 pub floor-le-last : (f l : ℕ) (xs : List Record) → f ≤ l → Goes f l xs → floor_after f xs ≤ last_after l xs
 floor-le-last f l [] h g = h
 floor-le-last f l (x ∷ xs) h g = floor-le-last (floor_by f x.kind) x.time xs (floor-time f l x.time x.kind h g.0 g.1) g.2
 
-pub later-late : (outcomes : Outcomes) (t : ℕ) (k : List ℕ) (f l : ℕ) (xs : List Record) → t ≤ l → Goes f l xs → Each (Agrees outcomes) xs
-    → Each (ComesAfter outcomes t) (events k xs)
-later-late outcomes t k f l [] h g a = tt
-later-late outcomes t k f l (x ∷ xs) h g a = let first : t < x.time = let p = g.0 in omega arith in
-    Each-append (ComesAfter outcomes t) (record_events k x) (events k xs) (record-late outcomes t k x.time x.kind first a.0)
-    (later-late outcomes t k (floor_by f x.kind) x.time xs (omega arith) g.2 a.1)
+pub later-late : (logs : Logs) (t : ℕ) (k : List ℕ) (f l : ℕ) (xs : List Record) → t ≤ l → Goes f l xs
+    → Each (AgreesAt logs) (events k xs) → Each (ComesAfter logs t) (events k xs)
+later-late logs t k f l [] h g a = tt
+later-late logs t k f l (x ∷ xs) h g a = let first : t < x.time = let p = g.0 in omega arith in
+    Each-append (ComesAfter logs t) (record_events k x) (events k xs)
+    (record-late logs t k x.time x.kind first (each-front (AgreesAt logs) (record_events k x) (events k xs) a))
+    (later-late logs t k (floor_by f x.kind) x.time xs (omega arith) g.2
+    (each-back (AgreesAt logs) (record_events k x) (events k xs) a))
 
-puts-agree : (outcomes : Outcomes) (time : ℕ) (vs : List Written) → Each (AgreesAt outcomes) (map (λ v. Put time v) vs)
-puts-agree outcomes time [] = tt
-puts-agree outcomes time (v ∷ vs) = (tt, puts-agree outcomes time vs)
-
-holds-agree : (outcomes : Outcomes) (n sub time : ℕ) (vs : List Written) → Each (AgreesAt outcomes) (map (λ v. Hold n sub time v) vs)
-holds-agree outcomes n sub time [] = tt
-holds-agree outcomes n sub time (v ∷ vs) = (tt, holds-agree outcomes n sub time vs)
-
-kind-agrees : (outcomes : Outcomes) (k : List ℕ) (time : ℕ) (kind : Kind) → KindAgrees outcomes time kind
-    → Each (AgreesAt outcomes) (kind_events k time kind)
-kind-agrees outcomes k time (log.Write ops) h = puts-agree outcomes time (puts k ops)
-kind-agrees outcomes k time (log.Intent sub n ops) h = holds-agree outcomes n sub time (puts k ops)
-kind-agrees outcomes k time (log.Safe v) h = (tt, tt)
-kind-agrees outcomes k time (log.Split at left right) h = tt
-kind-agrees outcomes k time _ h = (h, tt)
-
-pub events-agree : (outcomes : Outcomes) (k : List ℕ) (xs : List Record) → Each (Agrees outcomes) xs
-    → Each (AgreesAt outcomes) (events k xs)
-events-agree outcomes k [] h = tt
-events-agree outcomes k (x ∷ xs) h =
-    Each-append (AgreesAt outcomes) (record_events k x) (events k xs) (kind-agrees outcomes k x.time x.kind h.0)
-    (events-agree outcomes k xs h.1)
-
-pub key-versions : (outcomes : Outcomes) (k : List ℕ) (t : ℕ) (ps : List ℕ) (xs : List AcceptedTablet) → Threads origin xs
-    → Stops origin xs → LegalChain ps xs → NoStragglers outcomes k [] (records_along xs) → Each (Agrees outcomes) (records_along xs)
+pub key-versions : (logs : Logs) (k : List ℕ) (t : ℕ) (ps : List ℕ) (xs : List AcceptedTablet) → Threads origin xs
+    → Stops origin xs → LegalChain ps xs → NoStragglers logs k [] (records_along xs) → Each (AgreesAt logs) (events k (records_along xs))
     → Each (λ b. (is_closed_in ps b ≡ true) ⊎ (t ≤ last_safe_in ps b)) xs
-    → filter (upto t) (versions_along (events k (applied_along ps xs))) ≡ filter (upto t) (committed outcomes (events k (records_along xs)))
-key-versions outcomes k t ps xs h e l s a c = let up = applied_along ps xs in let front = path-front ps xs l in let later = front.0 in
+    → filter (upto t) (versions_along (events k (applied_along ps xs))) ≡ filter (upto t) (committed logs (events k (records_along xs)))
+key-versions logs k t ps xs h e l s a c = let up = applied_along ps xs in let front = path-front ps xs l in let later = front.0 in
     let goes : Goes 0 0 (up ++ later) = subst (Goes 0 0) front.1 (path-goes origin xs h) in
-    let free : NoStragglers outcomes k [] (up ++ later) = subst (NoStragglers outcomes k []) front.1 s in
-    let agree : Each (Agrees outcomes) (up ++ later) = subst (Each (Agrees outcomes)) front.1 a in
+    let free : NoStragglers logs k [] (up ++ later) = subst (NoStragglers logs k []) front.1 s in
+    let agree : Each (AgreesAt logs) (events k up ++ events k later) =
+    subst (Each (AgreesAt logs)) (ap (events k) front.1 ∙ flat_map-append (record_events k) up later) a in
+    let agree-up = each-front (AgreesAt logs) (events k up) (events k later) agree in
     let bound : t ≤ floor_after 0 up = covered t ps origin xs refl h e l c in
     let goes-up : Goes 0 0 up = goes-front 0 0 up later goes in
-    let cut : Cut outcomes t k up =
-    cut-from outcomes t k 0 0 [] up (omega arith) goes-up (stragglers-front outcomes k [] up later free)
-    (each-front (Agrees outcomes) up later agree)
+    let cut : Cut logs t k up =
+    cut-from logs t k 0 0 [] up (omega arith) goes-up (stragglers-parts logs k [] up later free).0 agree-up
     (λ _. record { before = []; rest = []; is = refl; late = tt; free = tt }) bound in
     let within : t ≤ last_after 0 up =
     let f : floor_after 0 up ≤ last_after 0 up = floor-le-last 0 0 up (omega arith) goes-up in omega arith in
-    let after = later-late outcomes t k (floor_after 0 up) (last_after 0 up) later within (goes-back 0 0 up later goes)
-    (each-back (Agrees outcomes) up later agree) in
-    let agreed : Each (AgreesAt outcomes) (cut.before ++ cut.rest) =
-    subst (Each (AgreesAt outcomes)) cut.is (events-agree outcomes k up (each-front (Agrees outcomes) up later agree)) in
-    let here = read-path outcomes t cut.before cut.rest (events k later) agreed cut.late
-    (Each-append (ComesAfter outcomes t) cut.rest (events k later) cut.late after) cut.free in
+    let after = later-late logs t k (floor_after 0 up) (last_after 0 up) later within (goes-back 0 0 up later goes)
+    (each-back (AgreesAt logs) (events k up) (events k later) agree) in
+    let agreed : Each (AgreesAt logs) (cut.before ++ cut.rest) = subst (Each (AgreesAt logs)) cut.is agree-up in
+    let here = read-path logs t cut.before cut.rest (events k later) agreed cut.late
+    (Each-append (ComesAfter logs t) cut.rest (events k later) cut.late after) cut.free in
     ap (λ w. filter (upto t) (versions_along w)) cut.is ∙ here
-    ∙ ap (λ w. filter (upto t) (committed outcomes w)) (sym (append_assoc cut.before cut.rest (events k later))
+    ∙ ap (λ w. filter (upto t) (committed logs w)) (sym (append_assoc cut.before cut.rest (events k later))
     ∙ ap (λ w. w ++ events k later) (sym cut.is) ∙ sym (flat_map-append (record_events k) up later) ∙ ap (events k) (sym front.1))
 
 -- and so is what a tablet with a cutoff shows
-pub key-read : (outcomes : Outcomes) (k : List ℕ) (u t : ℕ) (ps : List ℕ) (xs : List AcceptedTablet) → Threads origin xs → Stops origin xs
-    → LegalChain ps xs → NoStragglers outcomes k [] (records_along xs) → Each (Agrees outcomes) (records_along xs)
+pub key-read : (logs : Logs) (k : List ℕ) (u t : ℕ) (ps : List ℕ) (xs : List AcceptedTablet) → Threads origin xs → Stops origin xs
+    → LegalChain ps xs → NoStragglers logs k [] (records_along xs) → Each (AgreesAt logs) (events k (records_along xs))
     → Each (λ b. (is_closed_in ps b ≡ true) ⊎ (t ≤ last_safe_in ps b)) xs → u ≤ t
     → newest t (kept_from u (versions (events k (applied_along ps xs)))) ≡ newest t
-    (sort_by version_cmp (committed outcomes (events k (records_along xs))))
-key-read outcomes k u t ps xs h e l s a c b = let vs = versions_along (events k (applied_along ps xs)) in
+    (sort_by version_cmp (committed logs (events k (records_along xs))))
+key-read logs k u t ps xs h e l s a c b = let vs = versions_along (events k (applied_along ps xs)) in
     newest-kept_from u t (sort_by version_cmp vs) b (in_order-sort version_cmp version-orders vs)
     ∙ ap (λ w. last_of w) (filter-sort version_cmp version-orders (upto t) vs
-    ∙ ap (sort_by version_cmp) (key-versions outcomes k t ps xs h e l s a c)
-    ∙ sym (filter-sort version_cmp version-orders (upto t) (committed outcomes (events k (records_along xs)))))
+    ∙ ap (sort_by version_cmp) (key-versions logs k t ps xs h e l s a c)
+    ∙ sym (filter-sort version_cmp version-orders (upto t) (committed logs (events k (records_along xs)))))
 
 -- ---- where a tablet begins and ends, the floor is at most the time of the last record
 
@@ -264,15 +238,11 @@ pub along-path : (logs : Logs) (ps k : List ℕ) → path_to logs ps k ≡ appli
 unfolding path_to holders
 along-path logs ps k = refl
 
-pub reads-rows : (logs : Logs) (outcomes : Outcomes) (ps k : List ℕ) (u t : ℕ) → is_valid logs ≡ true → ValidLogs (accepted_tablets logs)
-    → AgreeAll outcomes (accepted_tablets logs) → IsPlaces logs ps → u ≤ t → t ≤ safe_time logs ps
-    → newest t (kept_from u (versions (events k (path_to logs ps k)))) ≡ newest t
-    (sort_by version_cmp (committed outcomes (events k (path_of (hash_of k) (accepted_tablets logs)))))
-reads-rows logs outcomes ps k u t valid v a l b c = let bs = accepted_tablets logs in let h = hash_of k in let xs = filter (own h) bs in
-    let agree : Each (Agrees outcomes) (path_of h bs) =
-    each-flat (Agrees outcomes) (λ (e : AcceptedTablet). e.records) (λ e. Each (Agrees outcomes) e.records) (λ e w. w) xs
-    (Each-filter (λ e. Each (Agrees outcomes) e.records) (own h) bs a.each) in
+pub reads-rows : (logs : Logs) (ps k : List ℕ) (u t : ℕ) → is_valid logs ≡ true → Agrees logs → IsPlaces logs ps → u ≤ t
+    → t ≤ safe_time logs ps → newest t (kept_from u (versions (events k (path_to logs ps k)))) ≡ newest t
+    (sort_by version_cmp (committed logs (events k (path_of (hash_of k) (accepted_tablets logs)))))
+reads-rows logs ps k u t valid a l b c = let bs = accepted_tablets logs in let h = hash_of k in let xs = filter (own h) bs in
     let bound = Each-filter (λ b. (is_closed_in ps b ≡ true) ⊎ (t ≤ last_safe_in ps b)) (own h) bs (under-safe logs ps t c) in
     ap (λ rs. newest t (kept_from u (versions (events k rs)))) (along-path logs ps k)
-    ∙ key-read outcomes k u t ps xs (chained logs h valid).threads (stops logs h valid (v.covers k)) (legal-own logs ps h valid l)
-    (a.stragglers k) agree bound b
+    ∙ key-read logs k u t ps xs (chained logs h valid).threads (stops logs k valid) (legal-own logs ps h valid l)
+    (path-free logs k valid a) (path-agrees logs k a) bound b

@@ -1,37 +1,22 @@
 -- The accepted tablets of well-formed logs: each has its number, and each child begins where its parent ends.
 --     heads bs      their headers
 --     Under bs b      b has no parent, or its parent is among bs under its number, and b begins at the parent's end
-use Rattle.xc_model.proofs.Common.{◌≡◌, ℕ, zero, suc, ◌<◌, true, false, ◌&&◌, List, [], ◌∷◌, ◌++◌, length, map, Option, Some, None, refl}
-use Rattle.xc_model.proofs.Common.{ap, sym, ◌∙◌, subst, arith, zero-add, append_assoc, append-nil, and_parts, eqb-true, length-map}
+use Rattle.xc_model.proofs.Common.{◌≡◌, ℕ, ◌<◌, true, false, ◌&&◌, List, [], ◌∷◌, ◌++◌, length, Option, Some, None, refl}
+use Rattle.xc_model.proofs.Common.{ap, sym, ◌∙◌, subst, arith, and_parts, eqb-true, length-map}
 use Rattle.xc_model.proofs.Common.{map-append, slice_get_within, slice_get-map, none-some, slice_get, option_map, if◌then◌else◌}
 use Rattle.xc_model.proofs.Common.{option_map_or, Header, Tablet, Logs, Next, accepted_from, fits, fit_from, next_after, headers_fit}
-use Rattle.xc_model.proofs.Common.{are_headers, AcceptedTablet, root_start, child_start, start_after, reached_after, accepted_tablet_after}
+use Rattle.xc_model.proofs.Common.{AcceptedTablet, root_start, child_start, start_after, reached_after, accepted_tablet_after}
 use Rattle.xc_model.proofs.Common.{accepted_tablets_after, accepted_tablets, is_closed_in, is_closed, is_valid, headers_of, Each}
-use Rattle.xc_model.proofs.Common.{Each-append, Each-weaker, line, Numbered, Numbered-at, Fits, Fits-none, Fits-snoc, FitsAll}
+use Rattle.xc_model.proofs.Common.{Each-append, Each-weaker, line, Numbered, Fits, Fits-none, Fits-snoc}
 use Rattle.xc_model.proofs.Common.{headers_fit-all, parent_stands}
 use Rattle.xc_record.specs.declared.headers.Next.TheVariants.{RootAt}
 use Rattle.xc_record.proofs.HeaderLaws.{Line}
-
--- ---- elements by their index
-
-pub each-get : {A : Type 0} (P : A → Type 0) (xs : List A) (i : ℕ) (x : A) → Each P xs → slice_get xs i ≡ Some x → P x
-each-get P [] i x h e = cc
-each-get P (y ∷ ys) zero x h e = let q : y ≡ x = cc in subst P q h.0
-each-get P (y ∷ ys) (suc i) x h e = each-get P ys i x h.1 e
-
-pub each-from : {A : Type 0} (P : A → Type 0) (xs : List A) → ((i : ℕ) (x : A) → slice_get xs i ≡ Some x → P x) → Each P xs
-each-from P [] h = tt
-each-from P (y ∷ ys) h = (h 0 y refl, each-from P ys (λ i x e. h (suc i) x e))
-
-pub get-append : {A : Type 0} (xs ys : List A) (i : ℕ) (x : A) → slice_get xs i ≡ Some x → slice_get (xs ++ ys) i ≡ Some x
-get-append [] ys i x e = cc
-get-append (y ∷ xs) ys zero x e = e
-get-append (y ∷ xs) ys (suc i) x e = get-append xs ys i x e
+pub use Rattle.xc_record.proofs.ListLaws.{each-get, each-from, slice_get-append as get-append}
+pub use Rattle.xc_record.proofs.AcceptedLaws.{heads, headers-after}
+pub use Rattle.xc_record.proofs.ValidLaws.{valid-headers}
+pub use Rattle.xc_record.proofs.FirstCase.{number-is as get-id}
 
 -- ---- what a tablet has of its parent
-
-abbrev pub heads : List AcceptedTablet → List Header
-heads bs = map (λ b. b.header) bs
 
 pub record UnderParent (bs : List AcceptedTablet) (p : ℕ) (b : AcceptedTablet) : Type 0 where
   pub parent : AcceptedTablet
@@ -110,30 +95,26 @@ roots-from bs (t ∷ ts) h = roots-from (bs ++ accepted_tablet_after bs t ∷ []
 
 -- ---- the accepted tablets of logs
 
-heads-from : (bs : List AcceptedTablet) (ts : List Tablet) → heads (accepted_tablets_after bs ts) ≡ heads bs ++ headers_of ts
-heads-from bs [] = sym (append-nil (heads bs))
-heads-from bs (t ∷ ts) = heads-from (bs ++ accepted_tablet_after bs t ∷ []) ts ∙ ap (λ w. w ++ headers_of ts) (heads-push bs t)
-    ∙ append_assoc (heads bs) (t.header ∷ []) (headers_of ts)
-
 pub heads-logs : (logs : Logs) → heads (accepted_tablets logs) ≡ headers_of logs.tablets
 unfolding accepted_tablets
-heads-logs logs = heads-from [] logs.tablets
+heads-logs logs = headers-after [] logs.tablets
 
 pub length-logs : (logs : Logs) → length (accepted_tablets logs) ≡ length logs.tablets
 length-logs logs = sym (length-map (accepted_tablets logs) (λ (b : AcceptedTablet). b.header)) ∙ ap length (heads-logs logs)
     ∙ length-map logs.tablets (λ (t : Tablet). t.header)
 
-pub valid-headers : (logs : Logs) → is_valid logs ≡ true → headers_fit (headers_of logs.tablets) ≡ true
-unfolding is_valid are_headers
-valid-headers logs v = (and_parts _ _ (and_parts _ _ v).0).1
+-- an accepted tablet's header stands under its number
+pub header-get : (logs : Logs) (i : ℕ) (b : AcceptedTablet) → is_valid logs ≡ true → slice_get (accepted_tablets logs) i ≡ Some b
+    → slice_get (headers_of logs.tablets) b.header.id ≡ Some b.header
+header-get logs i b v e = ap (slice_get (headers_of logs.tablets)) (get-id logs i b v e) ∙ ap (λ w. slice_get w i) (sym (heads-logs logs))
+    ∙ slice_get-map (λ (b : AcceptedTablet). b.header) (accepted_tablets logs) i
+    ∙ ap (option_map (λ (b : AcceptedTablet). b.header)) e
 
-pub get-id : (logs : Logs) (i : ℕ) (b : AcceptedTablet) → is_valid logs ≡ true → slice_get (accepted_tablets logs) i ≡ Some b
-    → b.header.id ≡ i
-get-id logs i b v e = let all : FitsAll (headers_of logs.tablets) = headers_fit-all (headers_of logs.tablets) (valid-headers logs v) in
-    let there : slice_get (headers_of logs.tablets) i ≡ Some b.header =
-    ap (λ w. slice_get w i) (sym (heads-logs logs)) ∙ slice_get-map (λ (b : AcceptedTablet). b.header) (accepted_tablets logs) i
-    ∙ ap (option_map (λ (b : AcceptedTablet). b.header)) e in
-    Numbered-at 0 (headers_of logs.tablets) i b.header all.1.numbered there ∙ zero-add i
+-- what holds of each tablet that stands under its number
+pub each-tablet : (logs : Logs) → is_valid logs ≡ true → (P : AcceptedTablet → Type 0)
+    → ((b : AcceptedTablet) → slice_get (accepted_tablets logs) b.header.id ≡ Some b → P b) → Each P (accepted_tablets logs)
+each-tablet logs v P f = each-from P (accepted_tablets logs)
+    (λ i b e. f b (ap (slice_get (accepted_tablets logs)) (get-id logs i b v e) ∙ e))
 
 pub each-under : (logs : Logs) → is_valid logs ≡ true → Each (Under (accepted_tablets logs)) (accepted_tablets logs)
 unfolding accepted_tablets headers_fit

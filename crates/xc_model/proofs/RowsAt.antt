@@ -2,49 +2,52 @@
 use Rattle.xc_model.proofs.Common.{◌≡◌, ◌==◌, ℕ, ◌<◌, ◌≤◌, Bool, true, false, cond, not, List, [], ◌∷◌, ◌++◌, map, Option, Some, None, refl}
 use Rattle.xc_model.proofs.Common.{ap, sym, ◌∙◌, arith, append-nil, filter, flat_map, option_map_or, Ordering, is_gt, nat_cmp, nat_tests}
 use Rattle.xc_model.proofs.Common.{flat_map-append, Kind, Op, Record, Logs, hash_of, AcceptedTablet, accepted_tablets, has, sort_by}
-use Rattle.xc_model.proofs.Common.{Provisional, provisional_cmp, intent_ops, sub_of, intents_in, intents, provisional_ops, txn_ops, undone}
+use Rattle.xc_model.proofs.Common.{Provisional, provisional_cmp, intent_ops, sub_of, intents_in, intents, txn_ops, undone}
 use Rattle.xc_model.proofs.Common.{Written, puts, Numbered, Each-append, Each-weaker, ◌≢◌, ◌||◌, append_assoc, inl, inr, ⊎_elim, nat_le}
-use Rattle.xc_model.proofs.Common.{nat_lt, filter_map, cons_option, ordering_then, cases_eq, eq-eqb, ne_eqb, or_left, or_right}
-use Rattle.xc_model.proofs.Common.{filter-append, insert_number, distinct, first_some, or_else, Commit, commit_cmp, applies, applied_txn}
+use Rattle.xc_model.proofs.Common.{filter_map, ordering_then, cases_eq, eq-eqb, ne_eqb, or_left, or_right}
+use Rattle.xc_model.proofs.Common.{filter-append, distinct, Commit, commit_cmp, applied_txn}
 use Rattle.xc_model.proofs.Common.{commit_of, applied, write_ops, writes_in, write_commits, txn_commits, commits, Event, Put, Hold, Version}
 use Rattle.xc_model.proofs.Common.{version_cmp, events, record_events, kind_events, upto, newest, last_of, value_of, ops_to, row}
-use Rattle.xc_model.proofs.Common.{after_puts, row-puts, commit-applied, Each-filter}
+use Rattle.xc_model.proofs.Common.{after_puts, row-puts, commit-applied, is_valid, kind_fits, children, headers_of, Header}
+use Rattle.xc_model.proofs.Common.{FitsTablet, accepted-fit}
+use Rattle.xc_model.proofs.Common.{holds, puts-away, applied-commits, commit-number, and_parts}
+use Rattle.std.proofs.lemmas.Bool.{leb-true}
 use Rattle.xc_record.proofs.NumberLaws.{Rising, distinct-rising}
 use Rattle.xc_record.specs.declared.record.Kind.TheVariants as log
-use Rattle.xc_model.{proofs.Chain.Goes, proofs.Parents.heads, proofs.Elements.each-map}
-use Rattle.xc_model.proofs.ApplyPath.{filter-all, version-orders}
+use Rattle.xc_model.{proofs.Chain.Goes, proofs.Chain.path-goes, proofs.Tree.chained, proofs.Parents.heads, proofs.Parents.each-numbered}
+use Rattle.xc_model.{proofs.Elements.each-map, proofs.Elements.some-of, proofs.ApplyPath.version-orders}
 use Rattle.xc_model.proofs.StableSort.{Each, Before, Orders, InOrder}
-use Rattle.xc_model.proofs.Along.{KindAway, KindNumbered, floor_by, owns, path_of, Outcomes, commits_at, version_at, committed}
+use Rattle.xc_model.proofs.Along.{floor_by, own, origin, path_of, commits_at, version_at, committed}
 use Rattle.xc_model.proofs.Flat.{flat-flat, flat-all, flat-filter, flat-none, map-flat, puts-flat, flat-same, filter-flat, each-flat}
 use Rattle.xc_model.proofs.Flat.{each-all}
 use Rattle.xc_model.proofs.Sorts.{flat-sort, sort-in_order, Agreeing, sort-finer, ties-rising, sort-grouped, Distinct, IsIn, Ties}
 use Rattle.xc_model.proofs.Sorts.{ties-append, ties-same}
 
--- what a key's rows rest on
-pub record Sound (es : List AcceptedTablet) (k : List ℕ) : Type 0 where
-  pub away : Each (λ e. owns (hash_of k) e.header ≡ false → Each (λ r. KindAway k r.kind) e.records) es
-  pub numbered : Each (λ e. Each (λ r. KindNumbered r.kind) e.records) es
-  pub goes : Goes 0 0 (path_of (hash_of k) es)
-
--- tablets that don't own the key say nothing of it
-pub over-path : {B : Type 0} (g : Record → List B) (h : ℕ) (es : List AcceptedTablet)
-    → Each (λ e. owns h e.header ≡ false → flat_map g e.records ≡ []) es
-    → flat_map (λ e. flat_map g e.records) es ≡ flat_map g (path_of h es)
-over-path g h [] q = refl
-over-path g h (e ∷ es) q = go (over-path g h es q.1) (owns h e.header) refl
+-- what tablets say of a key is what its path does, as tablets that don't hold it say nothing of it
+over-path : {B : Type 0} (f g : Record → List B) (h : ℕ) (es : List AcceptedTablet)
+    → Each (λ e. (holds e.header h ≡ false → flat_map f e.records ≡ []) × (flat_map f e.records ≡ flat_map g e.records)) es
+    → flat_map (λ e. flat_map f e.records) es ≡ flat_map g (path_of h es)
+over-path f g h [] q = refl
+over-path f g h (e ∷ es) q = go (over-path f g h es q.1) (holds e.header h) refl
   where
-    go : flat_map (λ e. flat_map g e.records) es ≡ flat_map g (path_of h es) → (b : Bool) → owns h e.header ≡ b
-        → flat_map g e.records ++ flat_map (λ e. flat_map g e.records) es ≡ flat_map g
-        (flat_map (λ w. w.records) (cond b (e ∷ filter (λ w. owns h w.header) es) (filter (λ w. owns h w.header) es)))
-    go ih true c = ap (λ w. flat_map g e.records ++ w) ih ∙ sym (flat_map-append g e.records (path_of h es))
-    go ih false c = ap (λ w. w ++ flat_map (λ (e : AcceptedTablet). flat_map g e.records) es) (q.0 c) ∙ ih
+    go : flat_map (λ e. flat_map f e.records) es ≡ flat_map g (path_of h es) → (b : Bool) → holds e.header h ≡ b
+        → flat_map f e.records ++ flat_map (λ e. flat_map f e.records) es ≡ flat_map g
+        (flat_map (λ w. w.records) (cond b (e ∷ filter (λ w. holds w.header h) es) (filter (λ w. holds w.header h) es)))
+    go ih true c = ap (λ w. flat_map f e.records ++ w) ih ∙ ap (λ w. w ++ flat_map g (path_of h es)) q.0.1
+        ∙ sym (flat_map-append g e.records (path_of h es))
+    go ih false c = ap (λ w. w ++ flat_map (λ (e : AcceptedTablet). flat_map f e.records) es) (q.0.0 c) ∙ ih
 
-pub away-none : {B : Type 0} (g : Record → List B) (k : List ℕ) (es : List AcceptedTablet) → Sound es k
-    → ((r : Record) → KindAway k r.kind → g r ≡ []) → flat_map (λ e. flat_map g e.records) es ≡ flat_map g (path_of (hash_of k) es)
-away-none g k es s f = over-path g (hash_of k) es
-    (Each-weaker (λ e. owns (hash_of k) e.header ≡ false → Each (λ r. KindAway k r.kind) e.records)
-    (λ e. owns (hash_of k) e.header ≡ false → flat_map g e.records ≡ [])
-    (λ e h c. flat-none g (λ r. KindAway k r.kind) f e.records (h c)) es s.away)
+fit-path : {B : Type 0} (f g : Record → List B) (k : List ℕ) (logs : Logs) → is_valid logs ≡ true
+    → ((t : Header) (pair : Option (Header × Header)) (r : Record) → holds t (hash_of k) ≡ false → kind_fits t pair r.kind ≡ true
+    → f r ≡ []) → ((t : Header) (pair : Option (Header × Header)) (r : Record) → kind_fits t pair r.kind ≡ true → f r ≡ g r)
+    → flat_map (λ e. flat_map f e.records) (accepted_tablets logs) ≡ flat_map g (path_of (hash_of k) (accepted_tablets logs))
+fit-path f g k logs v away same = let hs = headers_of logs.tablets in
+    over-path f g (hash_of k) (accepted_tablets logs)
+    (Each-weaker (FitsTablet hs)
+    (λ e. (holds e.header (hash_of k) ≡ false → flat_map f e.records ≡ []) × (flat_map f e.records ≡ flat_map g e.records)) (λ e w. (
+      (λ c. flat-none f (λ r. kind_fits e.header (children hs e.header.id) r.kind ≡ true) (λ r q. away e.header _ r c q) e.records w),
+      flat-same f g (λ r. kind_fits e.header (children hs e.header.id) r.kind ≡ true) (λ r q. same e.header _ r q) e.records w,
+    )) (accepted_tablets logs) (accepted-fit logs v))
 
 -- of a transaction's operations, but for those of some subtransactions, on a key: what a record says
 abbrev pub kind_lefts : List ℕ → ℕ → List ℕ → Kind → List Written
@@ -101,14 +104,15 @@ records-timed k without n s (r ∷ rs) = flat_map-append (intent_timed k without
     ∙ ap (λ w. w ++ flat_map (intent_timed k without) (intents_in n s rs)) (kind-timed k without n s r.time r.kind)
     ∙ ap (λ w. record_timed k without n r ++ w) (records-timed k without n s rs)
 
-lefts-away : (k without : List ℕ) (n : ℕ) (kind : Kind) → KindAway k kind → kind_lefts k n without kind ≡ []
-lefts-away k without n (log.Write ops) h = refl
-lefts-away k without n (log.Intent sub m ops) h = elim (m == n) as (λ b. cond b (puts k (cond (not (has sub without)) ops [])) [] ≡ []) [
-  | true ↦ elim (has sub without) as (λ b. puts k (cond (not b) ops []) ≡ []) [ true ↦ refl | false ↦ h ]
-  | false ↦ refl
-]
-lefts-away k without n (log.Apply m c others) h = refl
-lefts-away k without n _ h = refl
+lefts-away : (k without : List ℕ) (n : ℕ) (t : Header) (pair : Option (Header × Header)) (kind : Kind) → holds t (hash_of k) ≡ false
+    → kind_fits t pair kind ≡ true → kind_lefts k n without kind ≡ []
+lefts-away k without n t pair (log.Intent sub m ops) c f =
+    elim (m == n) as (λ b. cond b (puts k (cond (not (has sub without)) ops [])) [] ≡ []) [
+      | true ↦ elim (has sub without) as (λ b. puts k (cond (not b) ops []) ≡ [])
+          [ true ↦ refl | false ↦ puts-away k t ops c (and_parts _ _ (and_parts _ _ f).1).1 ]
+      | false ↦ refl
+    ]
+lefts-away k without n t pair _ c f = refl
 
 abbrev timed_cmp : Timed → Timed → Ordering
 timed_cmp x y = nat_cmp x.time y.time
@@ -182,22 +186,19 @@ by-time n bs m = sort-finer provisional_cmp time_cmp time-finer (intents_of n bs
 
 -- ---- the law
 
--- the operations of the intents, but for those of some subtransactions
-abbrev pub ops_without : Logs → ℕ → List ℕ → List Op
-ops_without logs n without = flat_map (λ i. i.ops) (filter (is_kept without) (intents logs n))
-
-pub lefts-without : (logs : Logs) (k without : List ℕ) (n : ℕ) → Numbered 0 (heads (accepted_tablets logs))
-    → Sound (accepted_tablets logs) k
-    → puts k (ops_without logs n without) ≡ flat_map (λ r. kind_lefts k n without r.kind) (path_of (hash_of k) (accepted_tablets logs))
-unfolding intents
-lefts-without logs k without n m s = let es = accepted_tablets logs in let p = path_of (hash_of k) es in let xs = intents_of n es in
+-- the operations of a transaction that were not rolled back, at a key
+pub txn-lefts : (logs : Logs) (k : List ℕ) (n : ℕ) → is_valid logs ≡ true → puts k (txn_ops logs n) ≡ flat_map
+    (λ r. kind_lefts k n (undone logs n) r.kind) (path_of (hash_of k) (accepted_tablets logs))
+unfolding txn_ops intents
+txn-lefts logs k n v = let es = accepted_tablets logs in let p = path_of (hash_of k) es in let xs = intents_of n es in
+    let without = undone logs n in
     let g = record_timed k without n in
     let whole : flat_map (intent_timed k without) xs ≡ flat_map g p =
     flat-flat (λ (b : AcceptedTablet). intents_in n b.header.id b.records) (intent_timed k without) es
     ∙ flat-all (λ (b : AcceptedTablet). flat_map (intent_timed k without) (intents_in n b.header.id b.records)) (λ b. flat_map g b.records)
     (λ b. records-timed k without n b.header.id b.records) es
-    ∙ away-none g k es s (λ r w. ap (timed r.time) (lefts-away k without n r.kind w)) in
-    ap (λ w. puts k (flat_map (λ (i : Provisional). i.ops) (filter (is_kept without) w))) (by-time n es m)
+    ∙ fit-path g g k logs v (λ t pair r c w. ap (timed r.time) (lefts-away k without n t pair r.kind c w)) (λ t pair r w. refl) in
+    ap (λ w. puts k (flat_map (λ (i : Provisional). i.ops) (filter (is_kept without) w))) (by-time n es (each-numbered logs v))
     ∙ ap (puts k) (flat-filter (λ (i : Provisional). i.ops) (is_kept without) (sort_by time_cmp xs))
     ∙ puts-flat k (kept_ops without) (sort_by time_cmp xs)
     ∙ flat-all (λ (i : Provisional). puts k (kept_ops without i)) (λ i. map (λ y. y.value) (intent_timed k without i))
@@ -207,47 +208,33 @@ lefts-without logs k without n m s = let es = accepted_tablets logs in let p = p
     (flat-sort nat_cmp number-orders (λ (i : Provisional). i.time) (λ (y : Timed). y.time) (intent_timed k without)
     (λ i. timed-at i.time (puts k (kept_ops without i)))
     (record { total = λ x y h. number-total x.time y.time h; trans = λ x y z h q. number-trans x.time y.time z.time h q }) xs
-    ∙ ap (sort_by timed_cmp) whole ∙ sort-in_order timed_cmp (flat_map g p) (timed-in_order k without n 0 0 p s.goes).0)
+    ∙ ap (sort_by timed_cmp) whole ∙ sort-in_order timed_cmp (flat_map g p) (timed-in_order k without n 0 0 p (path-order logs k v)).0)
     ∙ map-flat (λ (y : Timed). y.value) g p
     ∙ flat-all (λ r. map (λ (y : Timed). y.value) (g r)) (λ r. kind_lefts k n without r.kind)
     (λ r. timed-values r.time (kind_lefts k n without r.kind)) p
-
--- those that were not rolled back
-pub txn-lefts : (logs : Logs) (k : List ℕ) (n : ℕ) → Numbered 0 (heads (accepted_tablets logs)) → Sound (accepted_tablets logs) k
-    → puts k (txn_ops logs n) ≡ flat_map (λ r. kind_lefts k n (undone logs n) r.kind) (path_of (hash_of k) (accepted_tablets logs))
-unfolding txn_ops
-txn-lefts logs k n m s = lefts-without logs k (undone logs n) n m s
-
--- all of them
-pub provisional-lefts : (logs : Logs) (k : List ℕ) (n : ℕ) → Numbered 0 (heads (accepted_tablets logs)) → Sound (accepted_tablets logs) k
-    → puts k (provisional_ops logs n) ≡ flat_map (λ r. kind_lefts k n [] r.kind) (path_of (hash_of k) (accepted_tablets logs))
-unfolding provisional_ops
-provisional-lefts logs k n m s =
-    ap (λ w. puts k (flat_map (λ (i : Provisional). i.ops) w)) (sym (filter-all (intents logs n))) ∙ lefts-without logs k [] n m s
+  where
+    path-order : (logs : Logs) (k : List ℕ) → is_valid logs ≡ true → Goes 0 0 (path_of (hash_of k) (accepted_tablets logs))
+    path-order logs k v = path-goes origin (filter (own (hash_of k)) (accepted_tablets logs)) (chained logs (hash_of k) v).threads
 
 -- ---- the row at a key is what the newest committed operation of its path leaves there
 
--- what the logs make of each transaction
-abbrev pub outcomes_of : Logs → Outcomes
-outcomes_of logs = record { commit = commit_of logs; undone = undone logs }
-
 -- ---- `committed` goes record by record
 
-pub committed-append : (outcomes : Outcomes) (es fs : List Event)
-    → committed outcomes (es ++ fs) ≡ committed outcomes es ++ committed outcomes fs
-committed-append outcomes [] fs = refl
-committed-append outcomes (Put time v ∷ es) fs =
-    ap (λ w. record { commit = time; txn = 0; value = v } ∷ w) (committed-append outcomes es fs)
-committed-append outcomes (Hold n sub time v ∷ es) fs =
-    ap (λ w. version_at (commits_at outcomes n sub) n v ++ w) (committed-append outcomes es fs)
-    ∙ sym (append_assoc (version_at (commits_at outcomes n sub) n v) (committed outcomes es) (committed outcomes fs))
-committed-append outcomes (_ ∷ es) fs = committed-append outcomes es fs
+pub committed-append : (logs : Logs) (es fs : List Event)
+    → committed logs (es ++ fs) ≡ committed logs es ++ committed logs fs
+committed-append logs [] fs = refl
+committed-append logs (Put time v ∷ es) fs =
+    ap (λ w. record { commit = time; txn = 0; value = v } ∷ w) (committed-append logs es fs)
+committed-append logs (Hold n sub time v ∷ es) fs =
+    ap (λ w. version_at (commits_at logs n sub) n v ++ w) (committed-append logs es fs)
+    ∙ sym (append_assoc (version_at (commits_at logs n sub) n v) (committed logs es) (committed logs fs))
+committed-append logs (_ ∷ es) fs = committed-append logs es fs
 
-pub committed-records : (outcomes : Outcomes) (k : List ℕ) (rs : List Record)
-    → committed outcomes (events k rs) ≡ flat_map (λ r. committed outcomes (record_events k r)) rs
-committed-records outcomes k [] = refl
-committed-records outcomes k (r ∷ rs) = committed-append outcomes (record_events k r) (events k rs)
-    ∙ ap (λ w. committed outcomes (record_events k r) ++ w) (committed-records outcomes k rs)
+pub committed-records : (logs : Logs) (k : List ℕ) (rs : List Record)
+    → committed logs (events k rs) ≡ flat_map (λ r. committed logs (record_events k r)) rs
+committed-records logs k [] = refl
+committed-records logs k (r ∷ rs) = committed-append logs (record_events k r) (events k rs)
+    ∙ ap (λ w. committed logs (record_events k r) ++ w) (committed-records logs k rs)
 
 abbrev version_made : ℕ → ℕ → Written → Version
 version_made c n v = record { commit = c; txn = n; value = v }
@@ -261,43 +248,45 @@ has_number n x = n == x.txn
 
 -- ---- writes
 
-puts-zero : (outcomes : Outcomes) (time : ℕ) (vs : List Written)
-    → map (λ v. version_made time 0 v) vs ≡ filter (has_number 0) (committed outcomes (map (λ v. Put time v) vs))
-puts-zero outcomes time [] = refl
-puts-zero outcomes time (v ∷ vs) = ap (λ w. version_made time 0 v ∷ w) (puts-zero outcomes time vs)
+puts-zero : (logs : Logs) (time : ℕ) (vs : List Written)
+    → map (λ v. version_made time 0 v) vs ≡ filter (has_number 0) (committed logs (map (λ v. Put time v) vs))
+puts-zero logs time [] = refl
+puts-zero logs time (v ∷ vs) = ap (λ w. version_made time 0 v ∷ w) (puts-zero logs time vs)
 
-puts-other : (outcomes : Outcomes) (n time : ℕ) (vs : List Written) → 0 < n
-    → filter (has_number n) (committed outcomes (map (λ v. Put time v) vs)) ≡ []
-puts-other outcomes n time [] h = refl
-puts-other outcomes n time (v ∷ vs) h = grind (arith, nat_tests, puts-other outcomes n time vs h)
+puts-other : (logs : Logs) (n time : ℕ) (vs : List Written) → 0 < n
+    → filter (has_number n) (committed logs (map (λ v. Put time v) vs)) ≡ []
+puts-other logs n time [] h = refl
+puts-other logs n time (v ∷ vs) h = grind (arith, nat_tests, puts-other logs n time vs h)
 
 version-other : (n m : ℕ) (o : Option ℕ) (v : Written) → n ≢ m → filter (has_number n) (version_at o m v) ≡ []
 version-other n m None v h = refl
 version-other n m (Some c) v h = grind (arith, nat_tests)
 
-holds-other : (outcomes : Outcomes) (n m sub time : ℕ) (vs : List Written) → n ≢ m
-    → filter (has_number n) (committed outcomes (map (λ v. Hold m sub time v) vs)) ≡ []
-holds-other outcomes n m sub time [] h = refl
-holds-other outcomes n m sub time (v ∷ vs) h = let o = commits_at outcomes m sub in
-    let rest = committed outcomes (map (λ v. Hold m sub time v) vs) in
+holds-other : (logs : Logs) (n m sub time : ℕ) (vs : List Written) → n ≢ m
+    → filter (has_number n) (committed logs (map (λ v. Hold m sub time v) vs)) ≡ []
+holds-other logs n m sub time [] h = refl
+holds-other logs n m sub time (v ∷ vs) h = let o = commits_at logs m sub in
+    let rest = committed logs (map (λ v. Hold m sub time v) vs) in
     filter-append (has_number n) (version_at o m v) rest ∙ ap (λ w. w ++ filter (has_number n) rest) (version-other n m o v h)
-    ∙ holds-other outcomes n m sub time vs h
+    ∙ holds-other logs n m sub time vs h
 
 abbrev kind_puts : List ℕ → Kind → List Written
 kind_puts k (log.Write ops) = puts k ops
 kind_puts k _ = []
 
-kind-writes : (outcomes : Outcomes) (k : List ℕ) (time : ℕ) (kind : Kind) → KindNumbered kind
-    → map (λ v. version_made time 0 v) (kind_puts k kind) ≡ filter (has_number 0) (committed outcomes (kind_events k time kind))
-kind-writes outcomes k time (log.Write ops) h = puts-zero outcomes time (puts k ops)
-kind-writes outcomes k time (log.Intent sub n ops) h =
-    sym (holds-other outcomes 0 n sub time (puts k ops) (λ q. let z : ⊥ = omega arith in z))
-kind-writes outcomes k time (log.Apply n c without) h = refl
-kind-writes outcomes k time _ h = refl
+kind-writes : (logs : Logs) (k : List ℕ) (time : ℕ) (t : Header) (pair : Option (Header × Header)) (kind : Kind)
+    → kind_fits t pair kind ≡ true → map (λ v. version_made time 0 v) (kind_puts k kind) ≡ filter (has_number 0)
+    (committed logs (kind_events k time kind))
+kind-writes logs k time t pair (log.Write ops) h = puts-zero logs time (puts k ops)
+kind-writes logs k time t pair (log.Intent sub n ops) h =
+    sym (holds-other logs 0 n sub time (puts k ops) (λ q. let z : 1 ≤ n = leb-true _ _ (and_parts _ _ (and_parts _ _ h).0).0 in
+    let y : ⊥ = omega arith in y))
+kind-writes logs k time t pair _ h = refl
 
-writes-away : (k : List ℕ) (kind : Kind) → KindAway k kind → kind_puts k kind ≡ []
-writes-away k (log.Write ops) h = h
-writes-away k _ h = refl
+writes-away : (k : List ℕ) (t : Header) (pair : Option (Header × Header)) (kind : Kind) → holds t (hash_of k) ≡ false
+    → kind_fits t pair kind ≡ true → kind_puts k kind ≡ []
+writes-away k t pair (log.Write ops) c f = puts-away k t ops c f
+writes-away k t pair _ c f = refl
 
 abbrev write_of : ℕ → ℕ → Kind → List Commit
 write_of s time kind = option_map_or (λ ops. record { time = time; txn = 0; tablet = s; ops = ops } ∷ []) (write_ops kind) []
@@ -316,165 +305,90 @@ records-write k s (r ∷ rs) = flat_map-append (versions_of k) (write_of s r.tim
     ∙ ap (λ w. w ++ flat_map (versions_of k) (writes_in s rs)) (kind-write k s r.time r.kind)
     ∙ ap (λ w. record_versions k r ++ w) (records-write k s rs)
 
-path-numbered : (h : ℕ) (es : List AcceptedTablet) → Each (λ e. Each (λ r. KindNumbered r.kind) e.records) es
-    → Each (λ r. KindNumbered r.kind) (path_of h es)
-path-numbered h es n = each-flat (λ r. KindNumbered r.kind) (λ e. e.records) (λ e. Each (λ r. KindNumbered r.kind) e.records) (λ e w. w)
-    (filter (λ e. owns h e.header) es) (Each-filter (λ e. Each (λ r. KindNumbered r.kind) e.records) (λ e. owns h e.header) es n)
-
-writes-at : (logs : Logs) (outcomes : Outcomes) (k : List ℕ) → Sound (accepted_tablets logs) k
+writes-at : (logs : Logs) (k : List ℕ) → is_valid logs ≡ true
     → flat_map (versions_of k) (write_commits logs) ≡ filter (has_number 0)
-    (committed outcomes (events k (path_of (hash_of k) (accepted_tablets logs))))
+    (committed logs (events k (path_of (hash_of k) (accepted_tablets logs))))
 unfolding write_commits
-writes-at logs outcomes k s = let es = accepted_tablets logs in let p = path_of (hash_of k) es in
+writes-at logs k v = let es = accepted_tablets logs in let p = path_of (hash_of k) es in
     flat-flat (λ (b : AcceptedTablet). writes_in b.header.id b.records) (versions_of k) es
     ∙ flat-all (λ (b : AcceptedTablet). flat_map (versions_of k) (writes_in b.header.id b.records))
     (λ b. flat_map (record_versions k) b.records) (λ b. records-write k b.header.id b.records) es
-    ∙ away-none (record_versions k) k es s (λ r w. ap (map (λ v. version_made r.time 0 v)) (writes-away k r.kind w))
-    ∙ flat-same (record_versions k) (λ r. filter (has_number 0) (committed outcomes (record_events k r))) (λ r. KindNumbered r.kind)
-    (λ r. kind-writes outcomes k r.time r.kind) p (path-numbered (hash_of k) es s.numbered)
-    ∙ sym (filter-flat (has_number 0) (λ r. committed outcomes (record_events k r)) p)
-    ∙ ap (filter (has_number 0)) (sym (committed-records outcomes k p))
+    ∙ fit-path (record_versions k) (λ r. filter (has_number 0) (committed logs (record_events k r))) k logs v
+    (λ t pair r c w. ap (map (λ v. version_made r.time 0 v)) (writes-away k t pair r.kind c w))
+    (λ t pair r w. kind-writes logs k r.time t pair r.kind w)
+    ∙ sym (filter-flat (has_number 0) (λ r. committed logs (record_events k r)) p)
+    ∙ ap (filter (has_number 0)) (sym (committed-records logs k p))
 
 -- ---- transactions
 
 version-same : (n c : ℕ) (o : Option ℕ) (v : Written) → o ≡ Some c → filter (has_number n) (version_at o n v) ≡ version_made c n v ∷ []
 version-same n c o v e = ap (λ w. filter (has_number n) (version_at w n v)) e ∙ grind (arith, nat_tests)
 
-holds-same : (outcomes : Outcomes) (n c sub time : ℕ) (vs : List Written) → commits_at outcomes n sub ≡ Some c
-    → filter (has_number n) (committed outcomes (map (λ v. Hold n sub time v) vs)) ≡ map (λ v. version_made c n v) vs
-holds-same outcomes n c sub time [] e = refl
-holds-same outcomes n c sub time (v ∷ vs) e = let o = commits_at outcomes n sub in
-    let rest = committed outcomes (map (λ v. Hold n sub time v) vs) in
+holds-same : (logs : Logs) (n c sub time : ℕ) (vs : List Written) → commits_at logs n sub ≡ Some c
+    → filter (has_number n) (committed logs (map (λ v. Hold n sub time v) vs)) ≡ map (λ v. version_made c n v) vs
+holds-same logs n c sub time [] e = refl
+holds-same logs n c sub time (v ∷ vs) e = let o = commits_at logs n sub in
+    let rest = committed logs (map (λ v. Hold n sub time v) vs) in
     filter-append (has_number n) (version_at o n v) rest ∙ ap (λ w. w ++ filter (has_number n) rest) (version-same n c o v e)
-    ∙ ap (λ w. version_made c n v ∷ w) (holds-same outcomes n c sub time vs e)
+    ∙ ap (λ w. version_made c n v ∷ w) (holds-same logs n c sub time vs e)
 
-holds-none : (outcomes : Outcomes) (n sub time : ℕ) (vs : List Written) → commits_at outcomes n sub ≡ None
-    → committed outcomes (map (λ v. Hold n sub time v) vs) ≡ []
-holds-none outcomes n sub time [] e = refl
-holds-none outcomes n sub time (v ∷ vs) e =
-    ap (λ o. version_at o n v ++ committed outcomes (map (λ v. Hold n sub time v) vs)) e ∙ holds-none outcomes n sub time vs e
+holds-none : (logs : Logs) (n sub time : ℕ) (vs : List Written) → commits_at logs n sub ≡ None
+    → committed logs (map (λ v. Hold n sub time v) vs) ≡ []
+holds-none logs n sub time [] e = refl
+holds-none logs n sub time (v ∷ vs) e =
+    ap (λ o. version_at o n v ++ committed logs (map (λ v. Hold n sub time v) vs)) e ∙ holds-none logs n sub time vs e
 
 -- what was rolled back is left out on both sides
-intent-holds : (outcomes : Outcomes) (k : List ℕ) (n c sub time : ℕ) (ops : List Op) → outcomes.commit n ≡ Some c
-    → map (λ v. version_made c n v) (puts k (cond (not (has sub (outcomes.undone n))) ops [])) ≡ filter (has_number n)
-    (committed outcomes (map (λ v. Hold n sub time v) (puts k ops)))
-intent-holds outcomes k n c sub time ops h = at (has sub (outcomes.undone n)) refl
+intent-holds : (logs : Logs) (k : List ℕ) (n c sub time : ℕ) (ops : List Op) → commit_of logs n ≡ Some c
+    → map (λ v. version_made c n v) (puts k (cond (not (has sub (undone logs n))) ops [])) ≡ filter (has_number n)
+    (committed logs (map (λ v. Hold n sub time v) (puts k ops)))
+intent-holds logs k n c sub time ops h = at (has sub (undone logs n)) refl
   where
-    at : (b : Bool) → has sub (outcomes.undone n) ≡ b → map (λ v. version_made c n v) (puts k (cond (not b) ops [])) ≡ filter (has_number n)
-        (committed outcomes (map (λ v. Hold n sub time v) (puts k ops)))
-    at true e = sym (ap (filter (has_number n)) (holds-none outcomes n sub time (puts k ops) (ap (λ b. cond b None (outcomes.commit n)) e)))
-    at false e = sym (holds-same outcomes n c sub time (puts k ops) (ap (λ b. cond b None (outcomes.commit n)) e ∙ h))
+    at : (b : Bool) → has sub (undone logs n) ≡ b → map (λ v. version_made c n v) (puts k (cond (not b) ops [])) ≡ filter (has_number n)
+        (committed logs (map (λ v. Hold n sub time v) (puts k ops)))
+    at true e = sym (ap (filter (has_number n)) (holds-none logs n sub time (puts k ops) (ap (λ b. cond b None (commit_of logs n)) e)))
+    at false e = sym (holds-same logs n c sub time (puts k ops) (ap (λ b. cond b None (commit_of logs n)) e ∙ h))
 
-kind-holds : (outcomes : Outcomes) (k : List ℕ) (n c time : ℕ) (kind : Kind) → 0 < n → outcomes.commit n ≡ Some c
-    → map (λ v. version_made c n v) (kind_lefts k n (outcomes.undone n) kind) ≡ filter (has_number n)
-    (committed outcomes (kind_events k time kind))
-kind-holds outcomes k n c time (log.Write ops) p h = sym (puts-other outcomes n time (puts k ops) p)
-kind-holds outcomes k n c time (log.Intent sub m ops) p h = let left = puts k (cond (not (has sub (outcomes.undone n))) ops []) in ⊎_elim
-    (λ e. ap (λ b. map (λ v. version_made c n v) (cond b left [])) (eq-eqb m n (sym e)) ∙ intent-holds outcomes k n c sub time ops h
-    ∙ ap (λ w. filter (has_number n) (committed outcomes (map (λ v. Hold w sub time v) (puts k ops)))) e)
+kind-holds : (logs : Logs) (k : List ℕ) (n c time : ℕ) (kind : Kind) → 0 < n → commit_of logs n ≡ Some c
+    → map (λ v. version_made c n v) (kind_lefts k n (undone logs n) kind) ≡ filter (has_number n)
+    (committed logs (kind_events k time kind))
+kind-holds logs k n c time (log.Write ops) p h = sym (puts-other logs n time (puts k ops) p)
+kind-holds logs k n c time (log.Intent sub m ops) p h = let left = puts k (cond (not (has sub (undone logs n))) ops []) in ⊎_elim
+    (λ e. ap (λ b. map (λ v. version_made c n v) (cond b left [])) (eq-eqb m n (sym e)) ∙ intent-holds logs k n c sub time ops h
+    ∙ ap (λ w. filter (has_number n) (committed logs (map (λ v. Hold w sub time v) (puts k ops)))) e)
     (λ e. ap (λ b. map (λ v. version_made c n v) (cond b left [])) (ne_eqb m n (λ q. e (sym q)))
-    ∙ sym (holds-other outcomes n m sub time (puts k ops) e))
+    ∙ sym (holds-other logs n m sub time (puts k ops) e))
     (cases_eq n m)
-kind-holds outcomes k n c time (log.Apply m d without) p h = refl
-kind-holds outcomes k n c time _ p h = refl
+kind-holds logs k n c time (log.Apply m d without) p h = refl
+kind-holds logs k n c time _ p h = refl
 
 abbrev commit_by : Option ℕ → ℕ → List Op → List Commit
 commit_by o n ops = option_map_or (λ c. record { time = c; txn = n; tablet = 0; ops = ops } ∷ []) o []
 
-txn-at : (logs : Logs) (k : List ℕ) (n c : ℕ) → Numbered 0 (heads (accepted_tablets logs)) → Sound (accepted_tablets logs) k → 0 < n
-    → commit_of logs n ≡ Some c
+txn-at : (logs : Logs) (k : List ℕ) (n c : ℕ) → is_valid logs ≡ true → commit_of logs n ≡ Some c
     → flat_map (versions_of k) (commit_by (commit_of logs n) n (txn_ops logs n)) ≡ filter (has_number n)
-    (committed (outcomes_of logs) (events k (path_of (hash_of k) (accepted_tablets logs))))
-txn-at logs k n c m s h e = let p = path_of (hash_of k) (accepted_tablets logs) in let outcomes = outcomes_of logs in
+    (committed logs (events k (path_of (hash_of k) (accepted_tablets logs))))
+txn-at logs k n c v e = let p = path_of (hash_of k) (accepted_tablets logs) in
     ap (λ o. flat_map (versions_of k) (commit_by o n (txn_ops logs n))) e
     ∙ append-nil (map (λ v. version_made c n v) (puts k (txn_ops logs n)))
-    ∙ ap (map (λ v. version_made c n v)) (txn-lefts logs k n m s)
+    ∙ ap (map (λ v. version_made c n v)) (txn-lefts logs k n v)
     ∙ map-flat (λ v. version_made c n v) (λ r. kind_lefts k n (undone logs n) r.kind) p
     ∙ flat-all (λ r. map (λ v. version_made c n v) (kind_lefts k n (undone logs n) r.kind))
-    (λ r. filter (has_number n) (committed outcomes (record_events k r))) (λ r. kind-holds outcomes k n c r.time r.kind h e) p
-    ∙ sym (filter-flat (has_number n) (λ r. committed outcomes (record_events k r)) p)
-    ∙ ap (filter (has_number n)) (sym (committed-records outcomes k p))
+    (λ r. filter (has_number n) (committed logs (record_events k r)))
+    (λ r. kind-holds logs k n c r.time r.kind (commit-number logs n c v e) e) p
+    ∙ sym (filter-flat (has_number n) (λ r. committed logs (record_events k r)) p)
+    ∙ ap (filter (has_number n)) (sym (committed-records logs k p))
 
--- ---- the transactions with an apply: each has a number from 1 on and a commit
+-- ---- the transactions with an apply, each once
 
-abbrev pub KnownIn : List AcceptedTablet → ℕ → Type 0
-KnownIn es n = (0 < n) × ((c : ℕ) × (first_some (λ b. first_some (λ r. applies n r.kind) b.records) es ≡ Some c))
-
-abbrev KnownHere : List Record → ℕ → Type 0
-KnownHere rs n = (0 < n) × ((c : ℕ) × (first_some (λ r. applies n r.kind) rs ≡ Some c))
-
-or-some : (o p : Option ℕ) (c : ℕ) → p ≡ Some c → (d : ℕ) × (or_else o p ≡ Some d)
-or-some None p c e = (c, e)
-or-some (Some d) p c e = (d, refl)
-
-some-or : (o p : Option ℕ) (c : ℕ) → o ≡ Some c → or_else o p ≡ Some c
-some-or o p c e = ap (λ w. or_else w p) e
-
-here-more : (r : Record) (rs : List Record) (n : ℕ) → KnownHere rs n → KnownHere (r ∷ rs) n
-here-more r rs n k = (k.0, or-some (applies n r.kind) (first_some (λ r. applies n r.kind) rs) k.1.0 k.1.1)
-
-here-records : (rs : List Record) → Each (λ r. KindNumbered r.kind) rs → Each (KnownHere rs) (filter_map (λ r. applied_txn r.kind) rs)
-here-records [] h = tt
-here-records (r ∷ rs) h =
-    go (Each-weaker (KnownHere rs) (KnownHere (r ∷ rs)) (here-more r rs) (filter_map (λ r. applied_txn r.kind) rs) (here-records rs h.1))
-    r.kind refl h.0
-  where
-    go : Each (KnownHere (r ∷ rs)) (filter_map (λ r. applied_txn r.kind) rs) → (kind : Kind) → r.kind ≡ kind → KindNumbered kind
-        → Each (KnownHere (r ∷ rs)) (cons_option (applied_txn kind) (filter_map (λ r. applied_txn r.kind) rs))
-    go rest (log.Write ops) e k = rest
-    go rest (log.Intent sub n ops) e k = rest
-    go rest (log.Apply n c without) e k = (
-      (
-        k,
-        (
-          c,
-          some-or (applies n r.kind) (first_some (λ r. applies n r.kind) rs) c (ap (applies n) e
-              ∙ ap (λ b. cond b (Some c) None) (eq-eqb n n refl)),
-        ),
-      ),
-      rest,
-    )
-    go rest (log.Abort n) e k = rest
-    go rest _ e k = rest
-
-in-tablets : (es : List AcceptedTablet) → Each (λ e. Each (λ r. KindNumbered r.kind) e.records) es
-    → Each (KnownIn es) (flat_map (λ b. filter_map (λ r. applied_txn r.kind) b.records) es)
-in-tablets [] h = tt
-in-tablets (b ∷ es) h = let rest = flat_map (λ (b : AcceptedTablet). filter_map (λ r. applied_txn r.kind) b.records) es in
-    let later : ℕ → Option ℕ = λ n. first_some (λ (b : AcceptedTablet). first_some (λ r. applies n r.kind) b.records) es in
-    Each-append (KnownIn (b ∷ es)) (filter_map (λ r. applied_txn r.kind) b.records) rest
-    (Each-weaker (KnownHere b.records) (KnownIn (b ∷ es))
-    (λ n k. (k.0, (k.1.0, some-or (first_some (λ r. applies n r.kind) b.records) (later n) k.1.0 k.1.1)))
-    (filter_map (λ r. applied_txn r.kind) b.records) (here-records b.records h.0))
-    (Each-weaker (KnownIn es) (KnownIn (b ∷ es))
-    (λ n k. (k.0, or-some (first_some (λ r. applies n r.kind) b.records) (later n) k.1.0 k.1.1)) rest (in-tablets es h.1))
-
-each-insert : (P : ℕ → Type 0) (n : ℕ) (ns : List ℕ) → P n → Each P ns → Each P (insert_number n ns)
-each-insert P n [] p h = (p, tt)
-each-insert P n (m ∷ ms) p h = elim (nat_lt n m) as (λ b. Each P (cond b (n ∷ m ∷ ms) (cond (n == m) (m ∷ ms) (m ∷ insert_number n ms)))) [
-  | true ↦ (p, h)
-  | false ↦ elim (n == m) as (λ b. Each P (cond b (m ∷ ms) (m ∷ insert_number n ms)))
-      [ true ↦ h | false ↦ (h.0, each-insert P n ms p h.1) ]
-]
-
-each-distinct : (P : ℕ → Type 0) (ns : List ℕ) → Each P ns → Each P (distinct ns)
-each-distinct P [] h = tt
-each-distinct P (n ∷ ns) h = each-insert P n (distinct ns) h.0 (each-distinct P ns h.1)
-
-abbrev pub Known : Logs → ℕ → Type 0
-Known logs n = (0 < n) × ((c : ℕ) × (commit_of logs n ≡ Some c))
-
-pub numbers-known : (logs : Logs) → Each (λ e. Each (λ r. KindNumbered r.kind) e.records) (accepted_tablets logs)
-    → Each (Known logs) (applied logs)
-unfolding applied commit_of
-numbers-known logs h =
-    each-distinct (KnownIn (accepted_tablets logs)) (flat_map (λ b. filter_map (λ r. applied_txn r.kind) b.records) (accepted_tablets logs))
-    (in-tablets (accepted_tablets logs) h)
-
--- each once
 each-has : (P : ℕ → Type 0) (ns : List ℕ) → ((m : ℕ) → has m ns ≡ true → P m) → Each P ns
 each-has P [] h = tt
 each-has P (n ∷ ns) h = (h n (or_left (n == n) (has n ns) (eq-eqb n n refl)), each-has P ns (λ m e. h m (or_right (n == m) (has m ns) e)))
+
+-- each has a commit
+each-applied : (logs : Logs) → Each (λ n. (c : ℕ) × (commit_of logs n ≡ Some c)) (applied logs)
+each-applied logs = each-has (λ n. (c : ℕ) × (commit_of logs n ≡ Some c)) (applied logs)
+    (λ n e. some-of (commit_of logs n) (sym (applied-commits logs n) ∙ e))
 
 rising-distinct : (ns : List ℕ) → Rising ns → Distinct ns
 rising-distinct [] r = tt
@@ -492,7 +406,7 @@ has-in n [] h = cc
 has-in n (m ∷ ns) h = ⊎_elim (λ e. inl e) (λ d. inr (has-in n ns (sym (ap (λ b. b || has n ns) (ne_eqb m n d)) ∙ h))) (cases_eq m n)
 
 version-in : (logs : Logs) (n sub : ℕ) (v : Written)
-    → Each (λ x. IsIn x.txn (0 ∷ applied logs)) (version_at (commits_at (outcomes_of logs) n sub) n v)
+    → Each (λ x. IsIn x.txn (0 ∷ applied logs)) (version_at (commits_at logs n sub) n v)
 version-in logs n sub v = go (has sub (undone logs n)) (commit_of logs n) refl
   where
     go : (b : Bool) (o : Option ℕ) → commit_of logs n ≡ o → Each (λ x. IsIn x.txn (0 ∷ applied logs)) (version_at (cond b None o) n v)
@@ -500,12 +414,12 @@ version-in logs n sub v = go (has sub (undone logs n)) (commit_of logs n) refl
     go false None e = tt
     go false (Some c) e = (inr (has-in n (applied logs) (commit-applied logs n c e)), tt)
 
-committed-in : (logs : Logs) (es : List Event) → Each (λ x. IsIn x.txn (0 ∷ applied logs)) (committed (outcomes_of logs) es)
+committed-in : (logs : Logs) (es : List Event) → Each (λ x. IsIn x.txn (0 ∷ applied logs)) (committed logs es)
 committed-in logs [] = tt
 committed-in logs (Put time v ∷ es) = (inl refl, committed-in logs es)
 committed-in logs (Hold n sub time v ∷ es) =
-    Each-append (λ x. IsIn x.txn (0 ∷ applied logs)) (version_at (commits_at (outcomes_of logs) n sub) n v)
-    (committed (outcomes_of logs) es) (version-in logs n sub v) (committed-in logs es)
+    Each-append (λ x. IsIn x.txn (0 ∷ applied logs)) (version_at (commits_at logs n sub) n v)
+    (committed logs es) (version-in logs n sub v) (committed-in logs es)
 committed-in logs (_ ∷ es) = committed-in logs es
 
 -- ---- commits by time and number alone
@@ -548,21 +462,20 @@ commit-tablet : (o : Option ℕ) (n : ℕ) (ops : List Op) → Each (λ (x : Com
 commit-tablet None n ops = tt
 commit-tablet (Some c) n ops = (refl, tt)
 
-commit-number : (o : Option ℕ) (n : ℕ) (ops : List Op) → 0 < n → Each (λ (x : Commit). 0 < x.txn) (commit_by o n ops)
-commit-number None n ops h = tt
-commit-number (Some c) n ops h = (h, tt)
+commit-above : (o : Option ℕ) (n : ℕ) (ops : List Op) → 0 < n → Each (λ (x : Commit). 0 < x.txn) (commit_by o n ops)
+commit-above None n ops h = tt
+commit-above (Some c) n ops h = (h, tt)
 
-all-tied : (logs : Logs) → Numbered 0 (heads (accepted_tablets logs)) → Each (Known logs) (applied logs)
-    → Ties commit_cmp commit_pair (write_commits logs ++ txn_commits logs)
+all-tied : (logs : Logs) → is_valid logs ≡ true → Ties commit_cmp commit_pair (write_commits logs ++ txn_commits logs)
 unfolding write_commits txn_commits
-all-tied logs m known = let bs = accepted_tablets logs in let f : ℕ → List Commit = λ n. commit_by (commit_of logs n) n (txn_ops logs n) in
+all-tied logs v = let bs = accepted_tablets logs in let f : ℕ → List Commit = λ n. commit_by (commit_of logs n) n (txn_ops logs n) in
     let g : AcceptedTablet → List Commit = λ b. writes_in b.header.id b.records in
     let zero : Each (λ (y : Commit). y.tablet ≡ 0) (flat_map f (applied logs)) =
     each-flat (λ (y : Commit). y.tablet ≡ 0) f (λ n. Unit {0}) (λ n _. commit-tablet (commit_of logs n) n (txn_ops logs n))
     (applied logs) (each-all (λ n. Unit {0}) (λ n. tt) (applied logs)) in
     let positive : Each (λ (y : Commit). 0 < y.txn) (flat_map f (applied logs)) =
-    each-flat (λ (y : Commit). 0 < y.txn) f (Known logs) (λ n h. commit-number (commit_of logs n) n (txn_ops logs n) h.0) (applied logs)
-    known in
+    each-flat (λ (y : Commit). 0 < y.txn) f (λ n. (c : ℕ) × (commit_of logs n ≡ Some c))
+    (λ n h. commit-above (commit_of logs n) n (txn_ops logs n) (commit-number logs n h.0 v h.1)) (applied logs) (each-applied logs) in
     let none : Each (λ (y : Commit). y.txn ≡ 0) (flat_map g bs) =
     each-flat (λ (y : Commit). y.txn ≡ 0) g (λ b. Unit {0})
     (λ b _. Each-weaker (λ (y : Commit). (y.tablet ≡ b.header.id) × (y.txn ≡ 0)) (λ (y : Commit). y.txn ≡ 0) (λ y h. h.1)
@@ -570,7 +483,7 @@ all-tied logs m known = let bs = accepted_tablets logs in let f : ℕ → List C
     ties-append commit_cmp commit_pair (flat_map g bs) (flat_map f (applied logs))
     (ties-rising commit_cmp commit_pair (λ (y : Commit). y.tablet) tablet-agrees g
     (λ b. Each-weaker (λ (y : Commit). (y.tablet ≡ b.header.id) × (y.txn ≡ 0)) (λ (y : Commit). y.tablet ≡ b.header.id) (λ y h. h.0)
-    (writes_in b.header.id b.records) (own-writes b.header.id b.records)) 0 bs m)
+    (writes_in b.header.id b.records) (own-writes b.header.id b.records)) 0 bs (each-numbered logs v))
     (ties-same commit_cmp commit_pair (λ (y : Commit). y.tablet) tablet-agrees 0 (flat_map f (applied logs)) zero)
     (Each-weaker (λ (y : Commit). y.txn ≡ 0) (λ y. Each (Agreeing commit_cmp commit_pair y) (flat_map f (applied logs)))
     (λ y h. Each-weaker (λ (z : Commit). 0 < z.txn) (Agreeing commit_cmp commit_pair y) (λ z k. write-first y z h k)
@@ -586,24 +499,23 @@ made-keys : (c n : ℕ) (vs : List Written)
 made-keys c n vs =
     each-map (λ (x : Version). ◌≡◌ {A = ℕ × ℕ} (x.commit, x.txn) (c, n)) (λ v. version_made c n v) vs (λ v. refl)
 
-txns-at : (logs : Logs) (k : List ℕ) → Numbered 0 (heads (accepted_tablets logs)) → Sound (accepted_tablets logs) k
+txns-at : (logs : Logs) (k : List ℕ) → is_valid logs ≡ true
     → flat_map (versions_of k) (txn_commits logs) ≡ flat_map
-    (λ n. filter (has_number n) (committed (outcomes_of logs) (events k (path_of (hash_of k) (accepted_tablets logs))))) (applied logs)
+    (λ n. filter (has_number n) (committed logs (events k (path_of (hash_of k) (accepted_tablets logs))))) (applied logs)
 unfolding txn_commits
-txns-at logs k m s = flat-flat (λ n. commit_by (commit_of logs n) n (txn_ops logs n)) (versions_of k) (applied logs)
+txns-at logs k v = flat-flat (λ n. commit_by (commit_of logs n) n (txn_ops logs n)) (versions_of k) (applied logs)
     ∙ flat-same (λ n. flat_map (versions_of k) (commit_by (commit_of logs n) n (txn_ops logs n)))
-    (λ n. filter (has_number n) (committed (outcomes_of logs) (events k (path_of (hash_of k) (accepted_tablets logs))))) (Known logs)
-    (λ n h. txn-at logs k n h.1.0 m s h.0 h.1.1) (applied logs) (numbers-known logs s.numbered)
+    (λ n. filter (has_number n) (committed logs (events k (path_of (hash_of k) (accepted_tablets logs)))))
+    (λ n. (c : ℕ) × (commit_of logs n ≡ Some c)) (λ n h. txn-at logs k n h.0 v h.1) (applied logs) (each-applied logs)
 
 -- the operations on a key in the list of commits are its path's committed operations, in order
-pub commits-at : (logs : Logs) (k : List ℕ) → Numbered 0 (heads (accepted_tablets logs)) → Sound (accepted_tablets logs) k
+pub commits-at : (logs : Logs) (k : List ℕ) → is_valid logs ≡ true
     → flat_map (versions_of k) (commits logs) ≡ sort_by version_cmp
-    (committed (outcomes_of logs) (events k (path_of (hash_of k) (accepted_tablets logs))))
+    (committed logs (events k (path_of (hash_of k) (accepted_tablets logs))))
 unfolding commits
-commits-at logs k m s = let evs = events k (path_of (hash_of k) (accepted_tablets logs)) in let x = committed (outcomes_of logs) evs in
+commits-at logs k v = let evs = events k (path_of (hash_of k) (accepted_tablets logs)) in let x = committed logs evs in
     let all = write_commits logs ++ txn_commits logs in
-    let known = numbers-known logs s.numbered in
-    ap (flat_map (versions_of k)) (sort-finer commit_cmp commit_pair pair-finer all (all-tied logs m known))
+    ap (flat_map (versions_of k)) (sort-finer commit_cmp commit_pair pair-finer all (all-tied logs v))
     ∙ flat-sort pair_cmp pair-orders (λ (c : Commit). (c.time, c.txn)) (λ (v : Version). (v.commit, v.txn)) (versions_of k)
     (λ c. made-keys c.time c.txn (puts k c.ops))
     (record {
@@ -613,10 +525,11 @@ commits-at logs k m s = let evs = events k (path_of (hash_of k) (accepted_tablet
     }) all
     ∙ ap (sort_by version_cmp)
     (flat_map-append (versions_of k) (write_commits logs) (txn_commits logs)
-    ∙ ap (λ w. w ++ flat_map (versions_of k) (txn_commits logs)) (writes-at logs (outcomes_of logs) k s)
-    ∙ ap (λ w. filter (has_number 0) x ++ w) (txns-at logs k m s))
+    ∙ ap (λ w. w ++ flat_map (versions_of k) (txn_commits logs)) (writes-at logs k v)
+    ∙ ap (λ w. filter (has_number 0) x ++ w) (txns-at logs k v))
     ∙ sort-grouped version_cmp version-orders (λ (v : Version). v.txn) apart (0 ∷ applied logs) x (
-      Each-weaker (Known logs) (λ n. n ≢ 0) (λ n h q. let z : ⊥ = (let p : 0 < n = h.0 in omega arith) in z) (applied logs) known,
+      Each-weaker (λ n. (c : ℕ) × (commit_of logs n ≡ Some c)) (λ n. n ≢ 0)
+          (λ n h q. let p : 0 < n = commit-number logs n h.0 v h.1 in let z : ⊥ = omega arith in z) (applied logs) (each-applied logs),
       applied-once logs,
     )
     (committed-in logs evs)
@@ -649,14 +562,14 @@ after-last [] = refl
 after-last (v ∷ []) = refl
 after-last (v ∷ (w ∷ vs)) = after-last (w ∷ vs)
 
-pub row-newest : (logs : Logs) (t : ℕ) (k : List ℕ) → Numbered 0 (heads (accepted_tablets logs)) → Sound (accepted_tablets logs) k
+pub row-newest : (logs : Logs) (t : ℕ) (k : List ℕ) → is_valid logs ≡ true
     → row logs t k ≡ value_of
-    (newest t (sort_by version_cmp (committed (outcomes_of logs) (events k (path_of (hash_of k) (accepted_tablets logs))))))
+    (newest t (sort_by version_cmp (committed logs (events k (path_of (hash_of k) (accepted_tablets logs))))))
 unfolding ops_to
-row-newest logs t k m s = let cs = filter (λ (c : Commit). nat_le c.time t) (commits logs) in row-puts logs t k ∙ ap (after_puts None)
+row-newest logs t k v = let cs = filter (λ (c : Commit). nat_le c.time t) (commits logs) in row-puts logs t k ∙ ap (after_puts None)
     (puts-flat k (λ (c : Commit). c.ops) cs
     ∙ flat-all (λ (c : Commit). puts k c.ops) (λ c. map (λ v. v.value) (versions_of k c))
     (λ c. sym (made-values c.time c.txn (puts k c.ops))) cs
     ∙ sym (map-flat (λ (v : Version). v.value) (versions_of k) cs))
     ∙ after-last (flat_map (versions_of k) cs)
-    ∙ ap (λ vs. value_of (last_of vs)) (sym (commits-upto t k (commits logs)) ∙ ap (filter (upto t)) (commits-at logs k m s))
+    ∙ ap (λ vs. value_of (last_of vs)) (sym (commits-upto t k (commits logs)) ∙ ap (filter (upto t)) (commits-at logs k v))

@@ -5,7 +5,7 @@ use Rattle.xc_model.proofs.Common.{slice_index, slice_set, bytes_eq, if◌then�
 use Rattle.xc_model.proofs.Common.{record_events, is_valid, headers_of, Kept, KeyVersion, KeyWaiting, steps, list_all, and_parts, ◌&&◌, map}
 use Rattle.xc_record.specs.declared.record.Kind.TheVariants.{Write, Intent, Apply, Safe, Split}
 use Rattle.xc_record.proofs.WorkedLogs.{computed, at, sets, removes, a, z, with_both_children as logs}
-use Rattle.xc_model.{proofs.FromRules.all-each, specs.Floors.floors_after, proofs.KeepLaws.new-stands, proofs.Batches.batches-grow}
+use Rattle.xc_model.{proofs.Elements.all-each, specs.Floors.floors_after, proofs.KeepLaws.new-stands, proofs.Batches.batches-grow}
 use Rattle.xc_model.specs.Stands.{TargetTablet, in_range, kept_at, StandsFor, new_tablet, owned_by, TakesIn, TakesAll}
 use Rattle.xc_model.proofs.DeliverLaw.{deliveries-keep, batches-keep}
 

@@ -6,6 +6,7 @@ use Rattle.std.specs.Option.{option_map_or}
 use Rattle.std.proofs.lemmas.List.{map-append}
 use Rattle.xc_record.specs.Valid.{headers_of}
 pub use Rattle.std.specs.List.{AllByRecursion as Each}
+use Rattle.xc_record.specs.declared.record.Header.{Header}
 use Rattle.xc_record.specs.declared.record.Record.{Record}
 use Rattle.xc_record.specs.declared.record.Tablet.{Tablet}
 use Rattle.xc_record.specs.declared.record.Logs.{Logs}
@@ -42,14 +43,17 @@ pub accepted_tablets-grown : (logs : Logs) → Each IsGrown (accepted_tablets lo
 unfolding accepted_tablets
 accepted_tablets-grown logs = accepted_tablets_after-grown [] logs.tablets tt
 
+abbrev pub heads : List AcceptedTablet → List Header
+heads bs = map (λ b. b.header) bs
+
 -- the accepted tablets have the tablets' headers
 pub headers-after : (before : List AcceptedTablet) (ts : List Tablet)
-    → map (λ b. b.header) (accepted_tablets_after before ts) ≡ map (λ b. b.header) before ++ headers_of ts
-headers-after before [] = sym (append-nil (map (λ b. b.header) before))
+    → heads (accepted_tablets_after before ts) ≡ heads before ++ headers_of ts
+headers-after before [] = sym (append-nil (heads before))
 headers-after before (t ∷ ts) =
     headers-after (before ++ accepted_tablet_after before t ∷ []) ts
     ∙ ap (λ hs. hs ++ headers_of ts) (map-append (λ (b : AcceptedTablet). b.header) before (accepted_tablet_after before t ∷ []))
-    ∙ append_assoc (map (λ b. b.header) before) (t.header ∷ []) (headers_of ts)
+    ∙ append_assoc (heads before) (t.header ∷ []) (headers_of ts)
 
 -- ---- the accepted records of a tablet of the logs
 

@@ -2,7 +2,7 @@
 -- kind.
 use Rattle.std.proofs.Common.{◌≡◌, ℕ, zero, suc, ◌+◌, ◌<◌, ◌≤◌, Bool, true, false, ◌||◌, List, [], ◌∷◌, map, length, refl, ap, sym, ◌∙◌}
 use Rattle.std.proofs.Common.{subst, arith, zero-add, inl, inr}
-use Rattle.std.proofs.lemmas.Bool.{eqb-true, and_parts, cases_eq, cases_lt, true≢false}
+use Rattle.std.proofs.lemmas.Bool.{eqb-true, and_parts, cases_eq, cases_lt, true≢false, false_from_ne_true}
 use Rattle.std.proofs.lemmas.Option.{same_Some, none-some}
 use Rattle.std.specs.Prelude.{Option, Some, None, ◌==◌, ◌↔◌, option_map, slice_get, if◌then◌else◌, flat_map}
 use Rattle.std.specs.List.{filter_map}
@@ -15,12 +15,13 @@ use Rattle.xc_record.specs.Headers.{are_headers, headers_fit}
 use Rattle.xc_record.specs.Valid.{headers_of, is_valid}
 use Rattle.xc_record.specs.Commits.{commit_of, undone, applied_txn, applied}
 use Rattle.xc_record.specs.Agreement.{Disagreement, commit_differs, rollback_differs, late_intent, aborted, straggler, first_kind, kind_at}
-use Rattle.xc_record.specs.Agreement.{disagreement_on, disagreement, rank, Stands, IsCase, IsFirstCase}
+use Rattle.xc_record.specs.Agreement.{disagreement_on, disagreement, rank, HasNoCase, Agrees, Stands, IsCase, IsFirstCase}
 use Rattle.xc_record.specs.Lists.{first_some, or_else, has}
 use Rattle.xc_record.proofs.HeaderLaws.{Numbered, Numbered-at, headers_fit-all}
 use Rattle.xc_record.proofs.NumberLaws.{Rising, distinct-rising}
 use Rattle.xc_record.proofs.AcceptedLaws.{headers-after}
 use Rattle.xc_record.proofs.AgreementLaws.{commit-applied}
+use Rattle.xc_record.proofs.ListLaws.{each-get, each-from}
 use Rattle.xc_record.proofs.StragglerKeys.{straggler-found}
 
 -- ---- the first kind
@@ -364,3 +365,42 @@ no-case logs v = (none-stands-anywhere logs, λ none. back none (disagreement lo
     back : ((d : Disagreement) → IsCase logs d → ⊥) → (o : Option Disagreement) → disagreement logs ≡ o → o ≡ None
     back none None e = refl
     back none (Some d) e = absurd (none d (is-first logs d v (found logs d e)).stands)
+
+-- ---- agreement
+
+no-clash : (logs : Logs) (n c : ℕ) (b : AcceptedTablet) (kind : AgreeKind) → HasNoCase logs n c b → Stands logs n c b kind → ⊥
+no-clash logs n c b CommitDiffers h s = true≢false (sym s ∙ h.same_commit)
+no-clash logs n c b RollbackDiffers h s = true≢false (sym s ∙ h.same_rollback)
+no-clash logs n c b LateIntent h s = true≢false (sym s ∙ h.early_intents)
+no-clash logs n c b Aborted h s = true≢false (sym s ∙ h.no_abort)
+no-clash logs n c b Straggler h s = true≢false (sym s.1.straggles ∙ h.no_straggler s.0 s.1.within)
+
+-- logs agree exactly where no disagreement is found
+pub agree-exactly : (logs : Logs) → (disagreement logs ≡ None) ↔ Agrees logs
+agree-exactly logs = (
+  λ none. record { no_case = λ n c q. each-from (HasNoCase logs n c) (accepted_tablets logs) (clear none n c q) },
+  λ a. back a (disagreement logs) refl,
+)
+  where
+    clear : disagreement logs ≡ None → (n c : ℕ) → commit_of logs n ≡ Some c → (i : ℕ) (b : AcceptedTablet)
+        → slice_get (accepted_tablets logs) i ≡ Some b → HasNoCase logs n c b
+    clear none n c q i b there =
+        let out : (kind : AgreeKind) → Stands logs n c b kind → ⊥ =
+        λ kind s. none-stands-anywhere logs none (record { txn = n; tablet = i; kind = kind })
+        (record { commit = c; at = b; commits = q; there = there; stands = s }) in
+        record {
+          same_commit = false_from_ne_true _ (out CommitDiffers);
+          same_rollback = false_from_ne_true _ (out RollbackDiffers);
+          early_intents = false_from_ne_true _ (out LateIntent);
+          no_abort = false_from_ne_true _ (out Aborted);
+          no_straggler = λ k w. false_from_ne_true _ (λ s. out Straggler (k, record { within = w; straggles = s }));
+        }
+
+    back : Agrees logs → (o : Option Disagreement) → disagreement logs ≡ o → o ≡ None
+    back a None e = refl
+    back a (Some d) e =
+        let x = found logs d e in
+        absurd
+        (no-clash logs d.txn x.commit x.at.tablet x.at.kind
+        (each-get (HasNoCase logs d.txn x.commit) (accepted_tablets logs) x.at.place x.at.tablet (a.no_case d.txn x.commit x.commits)
+        x.at.there) (kind-stands logs d.txn x.commit x.at.place x.at.tablet x.at.kind x.at.there x.at.found))

@@ -14,7 +14,7 @@ use Rattle.xc_record.specs.declared.headers.Next.TheVariants.{RootAt, LeftChild,
 use Rattle.xc_record.specs.Hash.{holds}
 use Rattle.xc_record.specs.Headers.{hi_of, after_child, root_fits, is_child_of, fits, next_after, fit_from, headers_fit, parent_fits}
 use Rattle.xc_record.specs.Headers.{splits_off, child_fits}
-use Rattle.xc_record.proofs.ListLaws.{Each, Each-append, Each-weaker}
+use Rattle.xc_record.proofs.ListLaws.{Each, Each-append, Each-weaker, slice_get-append}
 
 -- the first has the parent q, and each other one has the one before as its parent
 abbrev pub Line : Option ℕ → List Header → Type 0
@@ -84,11 +84,6 @@ ends_line q (h ∷ hs) hash (suc i) b l e s n =
       | true ↦ λ l. ends_line (Some h.id) hs hash i b l.1 e s n.1
       | false ↦ λ l. ends_line q hs hash i b l e s n.1
     ] l
-
-pub slice_get-append : (hs ts : List Header) (i : ℕ) (b : Header) → slice_get hs i ≡ Some b → slice_get (hs ++ ts) i ≡ Some b
-slice_get-append [] ts i b e = cc
-slice_get-append (h ∷ hs) ts zero b e = e
-slice_get-append (h ∷ hs) ts (suc i) b e = slice_get-append hs ts i b e
 
 -- the line of a header more, where it holds the hash only after the line's end
 line-snoc : (q : Option ℕ) (hs : List Header) (hash : ℕ) (t : Header) → Line q (line hash hs)

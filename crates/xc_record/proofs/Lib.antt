@@ -12,6 +12,9 @@ pub mod SafeLaws
 pub mod HeaderLists
 pub mod HeaderLaws
 pub mod RangeLaws
+pub mod ChildLaws
+pub mod ValidLaws
+pub mod PathLaws
 pub mod RowLaws
 pub mod IntentLaws
 pub mod StragglerKeys

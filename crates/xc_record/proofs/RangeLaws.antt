@@ -14,7 +14,8 @@ use Rattle.xc_record.specs.Headers.{is_child_of, hi_of, fits, parent_fits, child
 use Rattle.xc_record.specs.Headers.{headers_fit, with_next, children}
 use Rattle.xc_record.specs.Bounds.{are_bounds, rises_from, starts_at_0, ranges, ranges_from, Follows, SharesOut}
 use Rattle.xc_record.specs.RangeLaws.{range, roots, holders, RangesHoldOnce, BoundsShareOut, RootsShareOut, OneRootHolds, ChildrenShareOut}
-use Rattle.xc_record.proofs.HeaderLaws.{Line, line, FitsAll, headers_fit-all, SplitsOff, splits_off-parts, slice_get-append}
+use Rattle.xc_record.proofs.HeaderLaws.{Line, line, FitsAll, headers_fit-all, SplitsOff, splits_off-parts}
+use Rattle.xc_record.proofs.ListLaws.{slice_get-append}
 
 -- ---- ranges that follow one another
 
@@ -93,7 +94,7 @@ no-root-fits LeftChild h p = refl
 no-root-fits (RightChild parent lo hi) h p = refl
 
 -- what may stand at h
-fits-parent : (before : List Header) (next : Next) (h : Header) → fits before next h ≡ true → parent_fits before next h h.parent ≡ true
+pub fits-parent : (before : List Header) (next : Next) (h : Header) → fits before next h ≡ true → parent_fits before next h h.parent ≡ true
 fits-parent before next h e = (and_parts _ _ (and_parts _ _ e).1).1
 
 fits-wide : (before : List Header) (next : Next) (h : Header) → fits before next h ≡ true → h.lo ≤ h.hi
@@ -194,12 +195,12 @@ one-root-holds hs hash i j a b e there found p q s t =
 -- ---- children
 
 -- what stands next is no right child of id
-abbrev IsApart : ℕ → Next → Type 0
+abbrev pub IsApart : ℕ → Next → Type 0
 IsApart id (RootAt lo) = Unit {0}
 IsApart id LeftChild = Unit {0}
 IsApart id (RightChild parent lo hi) = id ≡ parent → ⊥
 
-apart-after : (before : List Header) (next : Next) (id : ℕ) (h : Header) (q : Option ℕ) → h.parent ≡ q → is_child_of id h ≡ false
+pub apart-after : (before : List Header) (next : Next) (id : ℕ) (h : Header) (q : Option ℕ) → h.parent ≡ q → is_child_of id h ≡ false
     → IsApart id (next_after before next h q)
 apart-after before next id h None e n = tt
 apart-after before (RootAt lo) id h (Some p) e n = λ same. absurd (true≢false (sym (named same) ∙ n))
@@ -212,7 +213,7 @@ apart-after before LeftChild id h (Some p) e n = λ same. absurd (true≢false (
     named same = ap (λ q. option_map_or (λ parent. parent == id) q false) e ∙ grind (arith, nat_tests)
 apart-after before (RightChild parent lo hi) id h (Some p) e n = tt
 
-child-named : (id : ℕ) (h : Header) → is_child_of id h ≡ true → h.parent ≡ Some id
+pub child-named : (id : ℕ) (h : Header) → is_child_of id h ≡ true → h.parent ≡ Some id
 child-named id h e = go h.parent refl
   where
     go : (q : Option ℕ) → h.parent ≡ q → h.parent ≡ Some id
@@ -220,11 +221,11 @@ child-named id h e = go h.parent refl
     go (Some p) f = f ∙ ap Some (eqb-true _ _ (sym (ap (λ q. option_map_or (λ parent. parent == id) q false) f) ∙ e))
 
 -- a left child comes first, and the right one right after it
-record LeftAt (before : List Header) (next : Next) (id : ℕ) (h : Header) : Type 0 where
-  off : SplitsOff before id h
-  after : after_child before id next h ≡ RightChild id (h.hi + 1) (hi_of before id)
+pub record LeftAt (before : List Header) (next : Next) (id : ℕ) (h : Header) : Type 0 where
+  pub off : SplitsOff before id h
+  pub after : after_child before id next h ≡ RightChild id (h.hi + 1) (hi_of before id)
 
-left-at : (before : List Header) (next : Next) (id : ℕ) (h : Header) → IsApart id next → child_fits before id next h ≡ true
+pub left-at : (before : List Header) (next : Next) (id : ℕ) (h : Header) → IsApart id next → child_fits before id next h ≡ true
     → LeftAt before next id h
 left-at before (RootAt lo) id h a e = record { off = splits_off-parts before id h (and_parts _ _ e).1; after = refl }
 left-at before LeftChild id h a e = record { off = splits_off-parts before id h e; after = refl }
@@ -246,7 +247,7 @@ right-after before id lo hi left right (h ∷ hs) e w =
         let s = and_parts _ _ (and_parts _ _ f).1 in
         (eqb-true _ _ s.0, (eqb-true _ _ s.1, fits-wide before (RightChild id lo hi) h (and_parts _ _ e).0))
 
-first-of : (h left right : Header) (hs : List Header) → with_next h hs ≡ Some (left, right) → h ≡ left
+pub first-of : (h left right : Header) (hs : List Header) → with_next h hs ≡ Some (left, right) → h ≡ left
 first-of h left right [] w = cc
 first-of h left right (r ∷ hs) w = ap (λ (pair : Header × Header). pair.0) (same_Some (h, r) (left, right) w)
 

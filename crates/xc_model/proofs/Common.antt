@@ -20,13 +20,13 @@ pub use Rattle.std.specs.{Ordering.nat_cmp, Ordering.is_lt, Ordering.ordering_th
 pub use Rattle.xc_record.proofs.AcceptedLaws.{IsGrown, accepted_tablets-grown, accepted_tablet_after-grown}
 pub use Rattle.xc_record.proofs.HeaderLaws.{Numbered, line, Numbered-at, Fits, Fits-none, Fits-snoc, FitsAll, headers_fit-all}
 pub use Rattle.xc_record.proofs.HeaderLaws.{parent_stands, line_end}
-pub use Rattle.xc_record.proofs.RangeLaws.{ranges-hold-once, bounds-share-out, roots-share-out, one-root-holds, children-share-out}
+pub use Rattle.xc_record.proofs.RangeLaws.{ranges-hold-once, bounds-share-out, roots-share-out, one-root-holds}
 pub use Rattle.xc_record.proofs.RowLaws.{after_puts, find-rows_after, rows_after-sorted, rows-sorted, row-puts}
 pub use Rattle.xc_record.proofs.AgreementLaws.{commit-any, applied-commits, commit-applied, has_apply}
 pub use Rattle.xc_record.proofs.ListLaws.{Each-append, Each-weaker, each-get, each-from}
 pub use Rattle.xc_record.proofs.ValidLaws.{FitsTablet, valid-headers, accepted-fit, puts-away, split-children, commit-number}
 pub use Rattle.xc_record.proofs.PathLaws.{path_of, straggles-append, straggles-along}
-pub use Rattle.xc_record.proofs.ChildLaws.{child-there, child-is}
+pub use Rattle.xc_record.proofs.ChildLaws.{children-share-out, child-there, child-is}
 pub use Rattle.xc_record.proofs.{ListLaws.Each-filter, ListLaws.Each, SafeLaws.floor-take, SafeLaws.safe_time-rises}
 pub use Rattle.xc_record.specs.Accepted.{AcceptedTablet, accepted, accepted_tablets_after, accepted_tablet_after, accepted_tablet_from}
 pub use Rattle.xc_record.specs.Accepted.{start_after, reached_after, root_start, child_start, accepted_tablet, records, halt_from, halt_of}

@@ -13,8 +13,7 @@ use Rattle.xc_record.specs.declared.headers.Next.TheVariants.{RootAt}
 use Rattle.xc_record.proofs.HeaderLaws.{Line}
 pub use Rattle.xc_record.proofs.ListLaws.{each-get, each-from, slice_get-append as get-append}
 pub use Rattle.xc_record.proofs.AcceptedLaws.{heads, headers-after}
-pub use Rattle.xc_record.proofs.ValidLaws.{valid-headers}
-pub use Rattle.xc_record.proofs.FirstCase.{number-is as get-id}
+pub use Rattle.xc_record.proofs.ValidLaws.{valid-headers, header-at, number-is as get-id}
 
 -- ---- what a tablet has of its parent
 
@@ -106,9 +105,7 @@ length-logs logs = sym (length-map (accepted_tablets logs) (λ (b : AcceptedTabl
 -- an accepted tablet's header stands under its number
 pub header-get : (logs : Logs) (i : ℕ) (b : AcceptedTablet) → is_valid logs ≡ true → slice_get (accepted_tablets logs) i ≡ Some b
     → slice_get (headers_of logs.tablets) b.header.id ≡ Some b.header
-header-get logs i b v e = ap (slice_get (headers_of logs.tablets)) (get-id logs i b v e) ∙ ap (λ w. slice_get w i) (sym (heads-logs logs))
-    ∙ slice_get-map (λ (b : AcceptedTablet). b.header) (accepted_tablets logs) i
-    ∙ ap (option_map (λ (b : AcceptedTablet). b.header)) e
+header-get logs i b v e = ap (slice_get (headers_of logs.tablets)) (get-id logs i b v e) ∙ header-at logs i b e
 
 -- what holds of each tablet that stands under its number
 pub each-tablet : (logs : Logs) → is_valid logs ≡ true → (P : AcceptedTablet → Type 0)

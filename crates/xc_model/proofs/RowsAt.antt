@@ -3,9 +3,9 @@ use Rattle.xc_model.proofs.Common.{◌≡◌, ◌==◌, ℕ, ◌<◌, ◌≤◌,
 use Rattle.xc_model.proofs.Common.{ap, sym, ◌∙◌, arith, append-nil, filter, flat_map, option_map_or, Ordering, is_gt, nat_cmp, nat_tests}
 use Rattle.xc_model.proofs.Common.{flat_map-append, Kind, Op, Record, Logs, hash_of, AcceptedTablet, accepted_tablets, has, sort_by}
 use Rattle.xc_model.proofs.Common.{Provisional, provisional_cmp, intent_ops, sub_of, intents_in, intents, txn_ops, undone}
-use Rattle.xc_model.proofs.Common.{Written, puts, Numbered, Each-append, Each-weaker, ◌≢◌, ◌||◌, append_assoc, inl, inr, ⊎_elim, nat_le}
+use Rattle.xc_model.proofs.Common.{Written, puts, Numbered, Each-append, Each-weaker, ◌≢◌, append_assoc, ⊎_elim, nat_le}
 use Rattle.xc_model.proofs.Common.{filter_map, ordering_then, cases_eq, eq-eqb, ne_eqb, or_left, or_right}
-use Rattle.xc_model.proofs.Common.{filter-append, distinct, Commit, commit_cmp, applied_txn}
+use Rattle.xc_model.proofs.Common.{filter-append, Commit, commit_cmp, applied_txn}
 use Rattle.xc_model.proofs.Common.{commit_of, applied, write_ops, writes_in, write_commits, txn_commits, commits, Event, Put, Hold, Version}
 use Rattle.xc_model.proofs.Common.{version_cmp, events, record_events, kind_events, upto, newest, last_of, value_of, ops_to, row}
 use Rattle.xc_model.proofs.Common.{after_puts, row-puts, commit-applied, is_valid, kind_fits, children, headers_of, Header}
@@ -20,7 +20,7 @@ use Rattle.xc_model.proofs.StableSort.{Each, Before, Orders, InOrder}
 use Rattle.xc_model.proofs.Along.{floor_by, own, origin, path_of, commits_at, version_at, committed}
 use Rattle.xc_model.proofs.Flat.{flat-flat, flat-all, flat-filter, flat-none, map-flat, puts-flat, flat-same, filter-flat, each-flat}
 use Rattle.xc_model.proofs.Flat.{each-all}
-use Rattle.xc_model.proofs.Sorts.{flat-sort, sort-in_order, Agreeing, sort-finer, ties-rising, sort-grouped, Distinct, IsIn, Ties}
+use Rattle.xc_model.proofs.Sorts.{flat-sort, sort-in_order, Agreeing, sort-finer, ties-rising, sort-grouped, Ties}
 use Rattle.xc_model.proofs.Sorts.{ties-append, ties-same}
 
 -- what tablets say of a key is what its path does, as tablets that don't hold it say nothing of it
@@ -390,35 +390,29 @@ each-applied : (logs : Logs) → Each (λ n. (c : ℕ) × (commit_of logs n ≡ 
 each-applied logs = each-has (λ n. (c : ℕ) × (commit_of logs n ≡ Some c)) (applied logs)
     (λ n e. some-of (commit_of logs n) (sym (applied-commits logs n) ∙ e))
 
-rising-distinct : (ns : List ℕ) → Rising ns → Distinct ns
-rising-distinct [] r = tt
-rising-distinct (n ∷ ns) r =
-    (each-has (λ m. m ≢ n) ns (λ m e k. let q : n < m = r.0 m e in let z : ⊥ = omega arith in z), rising-distinct ns r.1)
-
-applied-once : (logs : Logs) → Distinct (applied logs)
+-- the numbers of writes and of transactions rise
+applied-rise : (logs : Logs) → is_valid logs ≡ true → Rising (0 ∷ applied logs)
 unfolding applied
-applied-once logs =
-    let ns = flat_map (λ (b : AcceptedTablet). filter_map (λ r. applied_txn r.kind) b.records) (accepted_tablets logs) in rising-distinct
-    (distinct ns) (distinct-rising ns)
-
-has-in : (n : ℕ) (ns : List ℕ) → has n ns ≡ true → IsIn n ns
-has-in n [] h = cc
-has-in n (m ∷ ns) h = ⊎_elim (λ e. inl e) (λ d. inr (has-in n ns (sym (ap (λ b. b || has n ns) (ne_eqb m n d)) ∙ h))) (cases_eq m n)
+applied-rise logs v = (
+  (λ n e. let c = some-of (commit_of logs n) (sym (applied-commits logs n) ∙ e) in commit-number logs n c.0 v c.1),
+  distinct-rising (flat_map (λ (b : AcceptedTablet). filter_map (λ r. applied_txn r.kind) b.records) (accepted_tablets logs)),
+)
 
 version-in : (logs : Logs) (n sub : ℕ) (v : Written)
-    → Each (λ x. IsIn x.txn (0 ∷ applied logs)) (version_at (commits_at logs n sub) n v)
+    → Each (λ x. has x.txn (0 ∷ applied logs) ≡ true) (version_at (commits_at logs n sub) n v)
 version-in logs n sub v = go (has sub (undone logs n)) (commit_of logs n) refl
   where
-    go : (b : Bool) (o : Option ℕ) → commit_of logs n ≡ o → Each (λ x. IsIn x.txn (0 ∷ applied logs)) (version_at (cond b None o) n v)
+    go : (b : Bool) (o : Option ℕ) → commit_of logs n ≡ o
+        → Each (λ x. has x.txn (0 ∷ applied logs) ≡ true) (version_at (cond b None o) n v)
     go true o e = tt
     go false None e = tt
-    go false (Some c) e = (inr (has-in n (applied logs) (commit-applied logs n c e)), tt)
+    go false (Some c) e = (or_right (0 == n) (has n (applied logs)) (commit-applied logs n c e), tt)
 
-committed-in : (logs : Logs) (es : List Event) → Each (λ x. IsIn x.txn (0 ∷ applied logs)) (committed logs es)
+committed-in : (logs : Logs) (es : List Event) → Each (λ x. has x.txn (0 ∷ applied logs) ≡ true) (committed logs es)
 committed-in logs [] = tt
-committed-in logs (Put time v ∷ es) = (inl refl, committed-in logs es)
+committed-in logs (Put time v ∷ es) = (refl, committed-in logs es)
 committed-in logs (Hold n sub time v ∷ es) =
-    Each-append (λ x. IsIn x.txn (0 ∷ applied logs)) (version_at (commits_at logs n sub) n v)
+    Each-append (λ x. has x.txn (0 ∷ applied logs) ≡ true) (version_at (commits_at logs n sub) n v)
     (committed logs es) (version-in logs n sub v) (committed-in logs es)
 committed-in logs (_ ∷ es) = committed-in logs es
 
@@ -527,11 +521,7 @@ commits-at logs k v = let evs = events k (path_of (hash_of k) (accepted_tablets 
     (flat_map-append (versions_of k) (write_commits logs) (txn_commits logs)
     ∙ ap (λ w. w ++ flat_map (versions_of k) (txn_commits logs)) (writes-at logs k v)
     ∙ ap (λ w. filter (has_number 0) x ++ w) (txns-at logs k v))
-    ∙ sort-grouped version_cmp version-orders (λ (v : Version). v.txn) apart (0 ∷ applied logs) x (
-      Each-weaker (λ n. (c : ℕ) × (commit_of logs n ≡ Some c)) (λ n. n ≢ 0)
-          (λ n h q. let p : 0 < n = commit-number logs n h.0 v h.1 in let z : ⊥ = omega arith in z) (applied logs) (each-applied logs),
-      applied-once logs,
-    )
+    ∙ sort-grouped version_cmp version-orders (λ (v : Version). v.txn) apart (0 ∷ applied logs) x (applied-rise logs v)
     (committed-in logs evs)
 
 -- ---- the row

@@ -1,7 +1,10 @@
 -- Laws of sorts by an order, in which elements that tie stay as they stood.
 use Rattle.xc_model.proofs.Common.{◌≡◌, ℕ, ◌+◌, ◌≤◌, false, List, [], ◌∷◌, ◌++◌, refl, ap, ◌∙◌, arith, flat_map, Ordering, is_gt}
 use Rattle.xc_model.proofs.Common.{AcceptedTablet, insert_by, sort_by, Numbered, Each-append, Each-weaker, ◌≢◌, ◌==◌, Bool, true, cond, sym}
-use Rattle.xc_model.proofs.Common.{◌⊎◌, ⊎_elim, filter, nat_tests, cases_Bool, cases_eq, eqb-true, eq-eqb, ne_eqb, put_after, Each-filter}
+use Rattle.xc_model.proofs.Common.{⊎_elim, filter, cases_Bool, cases_eq, eqb-true, eq-eqb, ne_eqb, put_after, Each-filter}
+use Rattle.xc_model.proofs.Common.{has, ◌<◌, ◌||◌, false_from_ne_true}
+use Rattle.std.proofs.lemmas.Bool.{or_parts}
+use Rattle.xc_record.proofs.NumberLaws.{Rising}
 use Rattle.xc_model.{proofs.Parents.heads, proofs.Elements.each-filtered}
 use Rattle.xc_model.proofs.StableSort.{Each, Before, Orders, InOrder}
 
@@ -185,16 +188,6 @@ module _ {A B K : Type 0} (cmp : K → K → Ordering) (o : Orders cmp) (a_key :
   flat-sort oa (x ∷ xs) = flat-insert x (sort_by cmp_a xs) (in_order-sort cmp_a oa xs) ∙ ap (insert_all cmp_b (f x)) (flat-sort oa xs)
       ∙ sym (sort-append cmp_b (f x) (flat_map f xs))
 
--- no number twice
-abbrev pub Distinct : List ℕ → Type 0
-Distinct [] = Unit {0}
-Distinct (n ∷ ns) = Each (λ m. m ≢ n) ns × Distinct ns
-
--- one of ns
-abbrev pub IsIn : ℕ → List ℕ → Type 0
-IsIn m [] = ⊥
-IsIn m (n ∷ ns) = (n ≡ m) ⊎ IsIn m ns
-
 -- the elements with the first number, then those with the second, and so on
 abbrev pub grouped : {A : Type 0} → (A → ℕ) → List ℕ → List A → List A
 grouped number ns xs = flat_map (λ n. filter (λ y. n == number y) xs) ns
@@ -208,23 +201,25 @@ module _ {A : Type 0} (cmp : A → A → Ordering) (o : Orders cmp) (number : A 
   insert-past x (g ∷ fs) zs h =
       ap (insert_by cmp g) (insert-past x fs zs h.1) ∙ sym (put-swap cmp o x g (insert_all cmp fs zs) (apart x g h.0))
 
-  not-in : (x : A) (ns : List ℕ) (xs : List A) → Each (λ m. m ≢ number x) ns → grouped number ns (x ∷ xs) ≡ grouped number ns xs
+  not-in : (x : A) (ns : List ℕ) (xs : List A) → has (number x) ns ≡ false → grouped number ns (x ∷ xs) ≡ grouped number ns xs
   not-in x [] xs h = refl
-  not-in x (n ∷ ns) xs h = grind (arith, nat_tests, h.0, not-in x ns xs h.1)
+  not-in x (n ∷ ns) xs h = let parts = or_parts (n == number x) (has (number x) ns) h in
+      ap (λ b. cond b (x ∷ filter (λ y. n == number y) xs) (filter (λ y. n == number y) xs) ++ grouped number ns (x ∷ xs)) parts.0
+      ∙ ap (λ w. filter (λ y. n == number y) xs ++ w) (not-in x ns xs parts.1)
 
   numbered : (n : ℕ) (x : A) (xs : List A) → n ≢ number x → Each (λ y. number x ≢ number y) (filter (λ y. n == number y) xs)
   numbered n x ys h = each-filtered (λ y. number x ≢ number y) (λ y. n == number y) ys (λ y e q. h (eqb-true n (number y) e ∙ sym q))
 
-  group-insert : (x : A) (ns : List ℕ) (xs : List A) → Distinct ns → IsIn (number x) ns
+  group-insert : (x : A) (ns : List ℕ) (xs : List A) → Rising ns → has (number x) ns ≡ true
       → sort_by cmp (grouped number ns (x ∷ xs)) ≡ insert_by cmp x (sort_by cmp (grouped number ns xs))
-  group-insert x [] xs d i = absurd i
+  group-insert x [] xs d i = cc
   group-insert x (n ∷ ns) xs d i = ⊎_elim (λ e. let here : (n == number x) ≡ true = eq-eqb n (number x) e in
       ap (λ b. sort_by cmp (cond b (x ∷ filter (λ y. n == number y) xs) (filter (λ y. n == number y) xs) ++ grouped number ns (x ∷ xs)))
       here
       ∙ ap (λ w. insert_by cmp x (sort_by cmp (filter (λ y. n == number y) xs ++ w)))
-      (not-in x ns xs (Each-weaker (λ m. m ≢ n) (λ m. m ≢ number x) (λ m k q. k (q ∙ sym e)) ns d.0)))
-      (λ e. let other : IsIn (number x) ns = ⊎_elim (λ q. absurd (e q)) (λ r. r) i in
-      let out : (n == number x) ≡ false = ne_eqb n (number x) e in
+      (not-in x ns xs (false_from_ne_true _ (λ t. let q : n < number x = d.0 (number x) t in let z : ⊥ = omega arith in z))))
+      (λ e. let out : (n == number x) ≡ false = ne_eqb n (number x) e in
+      let other : has (number x) ns ≡ true = sym (ap (λ b. b || has (number x) ns) out) ∙ i in
       ap (λ b. sort_by cmp (cond b (x ∷ filter (λ y. n == number y) xs) (filter (λ y. n == number y) xs) ++ grouped number ns (x ∷ xs))) out
       ∙ sort-append cmp (filter (λ y. n == number y) xs) (grouped number ns (x ∷ xs))
       ∙ ap (insert_all cmp (filter (λ y. n == number y) xs)) (group-insert x ns xs d.1 other)
@@ -237,7 +232,7 @@ module _ {A : Type 0} (cmp : A → A → Ordering) (o : Orders cmp) (number : A 
   grouped-none (n ∷ ns) = grouped-none ns
 
   -- a sort doesn't see that elements stand grouped by their numbers
-  pub sort-grouped : (ns : List ℕ) (xs : List A) → Distinct ns → Each (λ x. IsIn (number x) ns) xs
+  pub sort-grouped : (ns : List ℕ) (xs : List A) → Rising ns → Each (λ x. has (number x) ns ≡ true) xs
       → sort_by cmp (grouped number ns xs) ≡ sort_by cmp xs
   sort-grouped ns [] d h = ap (sort_by cmp) (grouped-none ns)
   sort-grouped ns (x ∷ xs) d h = group-insert x ns xs d h.0 ∙ ap (insert_by cmp x) (sort-grouped ns xs d h.1)

@@ -1,8 +1,8 @@
 -- The disagreement of logs is the first of the cases that stand: that of the least transaction, then of the least tablet, then of the first
 -- kind.
-use Rattle.std.proofs.Common.{◌≡◌, ℕ, zero, suc, ◌+◌, ◌<◌, ◌≤◌, Bool, true, false, ◌||◌, List, [], ◌∷◌, map, length, refl, ap, sym, ◌∙◌}
-use Rattle.std.proofs.Common.{subst, arith, zero-add, inl, inr}
-use Rattle.std.proofs.lemmas.Bool.{eqb-true, and_parts, cases_eq, cases_lt, true≢false, false_from_ne_true}
+use Rattle.std.proofs.Common.{◌≡◌, ℕ, zero, suc, ◌+◌, ◌<◌, ◌≤◌, Bool, true, false, ◌||◌, List, [], ◌∷◌, length, refl, ap, sym, ◌∙◌}
+use Rattle.std.proofs.Common.{subst, arith, inl, inr}
+use Rattle.std.proofs.lemmas.Bool.{eqb-true, cases_eq, cases_lt, true≢false, false_from_ne_true}
 use Rattle.std.proofs.lemmas.Option.{same_Some, none-some}
 use Rattle.std.specs.Prelude.{Option, Some, None, ◌==◌, ◌↔◌, option_map, slice_get, if◌then◌else◌, flat_map}
 use Rattle.std.specs.List.{filter_map}
@@ -10,16 +10,14 @@ use Rattle.std.specs.Option.{option_map_or}
 use Rattle.xc_record.specs.declared.record.AgreeKind.{AgreeKind}
 use Rattle.xc_record.specs.declared.record.AgreeKind.TheVariants.{CommitDiffers, RollbackDiffers, LateIntent, Aborted, Straggler}
 use Rattle.xc_record.specs.declared.record.Logs.{Logs}
-use Rattle.xc_record.specs.Accepted.{AcceptedTablet, accepted_tablets, accepted_tablet, accepted_tablets_after}
-use Rattle.xc_record.specs.Headers.{are_headers, headers_fit}
-use Rattle.xc_record.specs.Valid.{headers_of, is_valid}
+use Rattle.xc_record.specs.Accepted.{AcceptedTablet, accepted_tablets, accepted_tablet}
+use Rattle.xc_record.specs.Valid.{is_valid}
 use Rattle.xc_record.specs.Commits.{commit_of, undone, applied_txn, applied}
 use Rattle.xc_record.specs.Agreement.{Disagreement, commit_differs, rollback_differs, late_intent, aborted, straggler, first_kind, kind_at}
 use Rattle.xc_record.specs.Agreement.{disagreement_on, disagreement, rank, HasNoCase, Agrees, Stands, IsCase, IsFirstCase}
 use Rattle.xc_record.specs.Lists.{first_some, or_else, has}
-use Rattle.xc_record.proofs.HeaderLaws.{Numbered, Numbered-at, headers_fit-all}
 use Rattle.xc_record.proofs.NumberLaws.{Rising, distinct-rising}
-use Rattle.xc_record.proofs.AcceptedLaws.{headers-after}
+use Rattle.xc_record.proofs.ValidLaws.{number-is}
 use Rattle.xc_record.proofs.AgreementLaws.{commit-applied}
 use Rattle.xc_record.proofs.ListLaws.{each-get, each-from}
 use Rattle.xc_record.proofs.StragglerKeys.{straggler-found}
@@ -230,24 +228,6 @@ no-number {Y = Y} f (n ∷ ns) e m there = go (f n) refl (no-number f ns) e (n =
     go (Some z) h ih e b same there = cc
     go None h ih e true same there = ap f (sym (eqb-true n m same)) ∙ h
     go None h ih e false apart there = ih e m there
-
--- ---- the numbers of the tablets
-
-get-header : (bs : List AcceptedTablet) (i : ℕ) (b : AcceptedTablet) → slice_get bs i ≡ Some b
-    → slice_get (map (λ b. b.header) bs) i ≡ Some b.header
-get-header [] i b e = cc
-get-header (x ∷ bs) zero b e = ap (λ (y : AcceptedTablet). Some y.header) (same_Some x b e)
-get-header (x ∷ bs) (suc i) b e = get-header bs i b e
-
--- a tablet's number is its place
-pub number-is : (logs : Logs) (i : ℕ) (b : AcceptedTablet) → is_valid logs ≡ true → accepted_tablet logs i ≡ Some b → b.header.id ≡ i
-unfolding accepted_tablets is_valid are_headers
-number-is logs i b v at =
-    let fit : headers_fit (headers_of logs.tablets) ≡ true = (and_parts _ _ (and_parts _ _ v).0).1 in
-    let numbered : Numbered 0 (headers_of logs.tablets) = (headers_fit-all (headers_of logs.tablets) fit).1.numbered in
-    let there : slice_get (headers_of logs.tablets) i ≡ Some b.header =
-    ap (λ hs. slice_get hs i) (sym (headers-after [] logs.tablets)) ∙ get-header (accepted_tablets_after [] logs.tablets) i b at in
-    Numbered-at 0 (headers_of logs.tablets) i b.header numbered there ∙ zero-add i
 
 -- ---- the first case
 

@@ -1,21 +1,19 @@
--- Laws of ranges: bounds, roots and children share out what they should.
+-- Laws of ranges: bounds and roots share out what they should, and one root holds a hash.
 use Rattle.std.proofs.Common.{◌≡◌, ℕ, zero, suc, ◌+◌, ◌-◌, ◌<◌, ◌≤◌, Bool, true, false, cond, ◌&&◌, List, [], ◌∷◌, ◌++◌, length, map}
-use Rattle.std.proofs.Common.{Option, Some, None, refl, ap, sym, ◌∙◌, subst, arith, ⊎_elim, append_assoc}
-use Rattle.std.specs.Prelude.{nat_le, nat_lt, slice_get, is_none, ◌==◌}
-use Rattle.std.specs.Option.{option_map_or}
+use Rattle.std.proofs.Common.{Option, Some, None, refl, ap, sym, ◌∙◌, subst, arith, ⊎_elim}
+use Rattle.std.specs.Prelude.{nat_le, nat_lt, slice_get, is_none}
 use Rattle.std.proofs.lemmas.Bool.{and_parts, eqb-true, leb-true, ltb-true, true≢false, cases_lt}
 use Rattle.std.proofs.lemmas.Bool.Decides.{nat_tests}
-use Rattle.std.proofs.lemmas.Option.{none-some, same_Some}
+use Rattle.std.proofs.lemmas.Option.{none-some}
 use Rattle.xc_record.specs.declared.record.Header.{Header}
 use Rattle.xc_record.specs.declared.headers.Next.{Next}
 use Rattle.xc_record.specs.declared.headers.Next.TheVariants.{RootAt, LeftChild, RightChild}
 use Rattle.xc_record.specs.Hash.{holds}
-use Rattle.xc_record.specs.Headers.{is_child_of, hi_of, fits, parent_fits, child_fits, root_fits, next_after, after_child, fit_from}
-use Rattle.xc_record.specs.Headers.{headers_fit, with_next, children}
-use Rattle.xc_record.specs.Bounds.{are_bounds, rises_from, starts_at_0, ranges, ranges_from, Follows, SharesOut}
-use Rattle.xc_record.specs.RangeLaws.{range, roots, holders, RangesHoldOnce, BoundsShareOut, RootsShareOut, OneRootHolds, ChildrenShareOut}
-use Rattle.xc_record.proofs.HeaderLaws.{Line, line, FitsAll, headers_fit-all, SplitsOff, splits_off-parts}
-use Rattle.xc_record.proofs.ListLaws.{slice_get-append}
+use Rattle.xc_record.specs.Headers.{fits, parent_fits, root_fits, next_after, after_child, fit_from}
+use Rattle.xc_record.specs.Headers.{headers_fit}
+use Rattle.xc_record.specs.Bounds.{are_bounds, rises_from, starts_at_0, ranges, ranges_from, Follows}
+use Rattle.xc_record.specs.RangeLaws.{range, roots, holders, RangesHoldOnce, BoundsShareOut, RootsShareOut, OneRootHolds}
+use Rattle.xc_record.proofs.HeaderLaws.{Line, line, FitsAll, headers_fit-all}
 
 -- ---- ranges that follow one another
 
@@ -97,7 +95,7 @@ no-root-fits (RightChild parent lo hi) h p = refl
 pub fits-parent : (before : List Header) (next : Next) (h : Header) → fits before next h ≡ true → parent_fits before next h h.parent ≡ true
 fits-parent before next h e = (and_parts _ _ (and_parts _ _ e).1).1
 
-fits-wide : (before : List Header) (next : Next) (h : Header) → fits before next h ≡ true → h.lo ≤ h.hi
+pub fits-wide : (before : List Header) (next : Next) (h : Header) → fits before next h ≡ true → h.lo ≤ h.hi
 fits-wide before next h e = leb-true _ _ (and_parts _ _ (and_parts _ _ e).1).0
 
 no-roots : (before : List Header) (next : Next) (hs : List Header) → IsPastRoots next → fit_from before next hs ≡ true → roots hs ≡ []
@@ -191,109 +189,3 @@ pub one-root-holds : OneRootHolds
 one-root-holds hs hash i j a b e there found p q s t =
     let all : FitsAll hs = headers_fit-all hs e in
     one-root hash hs i j a b (all.1.lines hash) there found p q s t
-
--- ---- children
-
--- what stands next is no right child of id
-abbrev pub IsApart : ℕ → Next → Type 0
-IsApart id (RootAt lo) = Unit {0}
-IsApart id LeftChild = Unit {0}
-IsApart id (RightChild parent lo hi) = id ≡ parent → ⊥
-
-pub apart-after : (before : List Header) (next : Next) (id : ℕ) (h : Header) (q : Option ℕ) → h.parent ≡ q → is_child_of id h ≡ false
-    → IsApart id (next_after before next h q)
-apart-after before next id h None e n = tt
-apart-after before (RootAt lo) id h (Some p) e n = λ same. absurd (true≢false (sym (named same) ∙ n))
-  where
-    named : id ≡ p → is_child_of id h ≡ true
-    named same = ap (λ q. option_map_or (λ parent. parent == id) q false) e ∙ grind (arith, nat_tests)
-apart-after before LeftChild id h (Some p) e n = λ same. absurd (true≢false (sym (named same) ∙ n))
-  where
-    named : id ≡ p → is_child_of id h ≡ true
-    named same = ap (λ q. option_map_or (λ parent. parent == id) q false) e ∙ grind (arith, nat_tests)
-apart-after before (RightChild parent lo hi) id h (Some p) e n = tt
-
-pub child-named : (id : ℕ) (h : Header) → is_child_of id h ≡ true → h.parent ≡ Some id
-child-named id h e = go h.parent refl
-  where
-    go : (q : Option ℕ) → h.parent ≡ q → h.parent ≡ Some id
-    go None f = absurd (true≢false (sym e ∙ ap (λ q. option_map_or (λ parent. parent == id) q false) f))
-    go (Some p) f = f ∙ ap Some (eqb-true _ _ (sym (ap (λ q. option_map_or (λ parent. parent == id) q false) f) ∙ e))
-
--- a left child comes first, and the right one right after it
-pub record LeftAt (before : List Header) (next : Next) (id : ℕ) (h : Header) : Type 0 where
-  pub off : SplitsOff before id h
-  pub after : after_child before id next h ≡ RightChild id (h.hi + 1) (hi_of before id)
-
-pub left-at : (before : List Header) (next : Next) (id : ℕ) (h : Header) → IsApart id next → child_fits before id next h ≡ true
-    → LeftAt before next id h
-left-at before (RootAt lo) id h a e = record { off = splits_off-parts before id h (and_parts _ _ e).1; after = refl }
-left-at before LeftChild id h a e = record { off = splits_off-parts before id h e; after = refl }
-left-at before (RightChild parent lo hi) id h a e = absurd (a (eqb-true _ _ (and_parts _ _ e).0))
-
--- the header after a left child
-right-after : (before : List Header) (id lo hi : ℕ) (left right : Header) (hs : List Header)
-    → fit_from before (RightChild id lo hi) hs ≡ true → with_next left hs ≡ Some (left, right)
-    → (right.lo ≡ lo) × ((right.hi ≡ hi) × (right.lo ≤ right.hi))
-right-after before id lo hi left right [] e w = cc
-right-after before id lo hi left right (h ∷ hs) e w =
-    let same : h ≡ right = ap (λ (pair : Header × Header). pair.1) (same_Some (left, h) (left, right) w) in
-    subst (λ (r : Header). (r.lo ≡ lo) × ((r.hi ≡ hi) × (r.lo ≤ r.hi))) same
-    (go h.parent (fits-parent before (RightChild id lo hi) h (and_parts _ _ e).0))
-  where
-    go : (q : Option ℕ) → parent_fits before (RightChild id lo hi) h q ≡ true → (h.lo ≡ lo) × ((h.hi ≡ hi) × (h.lo ≤ h.hi))
-    go None f = cc
-    go (Some p) f =
-        let s = and_parts _ _ (and_parts _ _ f).1 in
-        (eqb-true _ _ s.0, (eqb-true _ _ s.1, fits-wide before (RightChild id lo hi) h (and_parts _ _ e).0))
-
-pub first-of : (h left right : Header) (hs : List Header) → with_next h hs ≡ Some (left, right) → h ≡ left
-first-of h left right [] w = cc
-first-of h left right (r ∷ hs) w = ap (λ (pair : Header × Header). pair.0) (same_Some (h, r) (left, right) w)
-
-pair-shares : (before : List Header) (next : Next) (id : ℕ) (parent h left right : Header) (hs : List Header) → IsApart id next
-    → slice_get (before ++ h ∷ hs) id ≡ Some parent → fit_from before next (h ∷ hs) ≡ true
-    → h.parent ≡ Some id → with_next h hs ≡ Some (left, right) → SharesOut (range parent) (range left ∷ range right ∷ [])
-pair-shares before next id parent h left right hs a there e p w =
-    let parts = and_parts (fits before next h) (fit_from (before ++ h ∷ []) (next_after before next h h.parent) hs) e in
-    let at : LeftAt before next id h =
-    left-at before next id h a (subst (λ q. parent_fits before next h q ≡ true) p (fits-parent before next h parts.0)) in
-    let o = at.off in
-    let same : o.parent ≡ parent = same_Some o.parent parent (sym (slice_get-append before (h ∷ hs) id o.parent o.at) ∙ there) in
-    let first : h ≡ left = first-of h left right hs w in
-    let after : fit_from (before ++ h ∷ []) (RightChild id (h.hi + 1) (hi_of before id)) hs ≡ true =
-    subst (λ n. fit_from (before ++ h ∷ []) n hs ≡ true) at.after
-    (subst (λ q. fit_from (before ++ h ∷ []) (next_after before next h q) hs ≡ true) p parts.1) in
-    let hi : hi_of before id ≡ parent.hi =
-    ap (λ (o : Option Header). option_map_or (λ (x : Header). x.hi) o 0) o.at ∙ ap (λ (x : Header). x.hi) same in
-    let lo : parent.lo ≡ o.parent.lo = ap (λ (x : Header). x.lo) (sym same) in
-    let r = right-after (before ++ h ∷ []) id (h.hi + 1) (hi_of before id) h right hs after (w
-    ∙ ap (λ (x : Header). Some (x, right)) (sym first)) in
-    let left-lo : left.lo ≡ h.lo = ap (λ (x : Header). x.lo) (sym first) in
-    let left-hi : left.hi ≡ h.hi = ap (λ (x : Header). x.hi) (sym first) in
-    let start : h.lo ≡ o.parent.lo = o.lo in
-    let wide : h.lo ≤ h.hi = fits-wide before next h parts.0 in
-    let right-lo : right.lo ≡ h.hi + 1 = r.0 in
-    let right-hi : right.hi ≡ hi_of before id = r.1.0 in
-    let right-wide : right.lo ≤ right.hi = r.1.1 in
-    (omega arith, (omega arith, (omega arith, (right-wide, (let q : right.hi + 1 ≡ parent.hi + 1 = omega arith in q)))))
-
-children-share : (before : List Header) (next : Next) (hs : List Header) (id : ℕ) (parent left right : Header) → IsApart id next
-    → slice_get (before ++ hs) id ≡ Some parent → fit_from before next hs ≡ true
-    → children hs id ≡ Some (left, right) → SharesOut (range parent) (range left ∷ range right ∷ [])
-children-share before next [] id parent left right a there e c = cc
-children-share before next (h ∷ hs) id parent left right a there e c =
-    go (is_child_of id h) refl c (λ n q t f w. children-share (before ++ h ∷ []) n hs id parent left right q t f w)
-  where
-    go : (b : Bool) → is_child_of id h ≡ b → cond b (with_next h hs) (children hs id) ≡ Some (left, right)
-        → ((n : Next) → IsApart id n → slice_get ((before ++ h ∷ []) ++ hs) id ≡ Some parent → fit_from (before ++ h ∷ []) n hs ≡ true
-        → children hs id ≡ Some (left, right) → SharesOut (range parent) (range left ∷ range right ∷ []))
-        → SharesOut (range parent) (range left ∷ range right ∷ [])
-    go true f w more = pair-shares before next id parent h left right hs a there e (child-named id h f) w
-    go false f w more =
-        more (next_after before next h h.parent) (apart-after before next id h h.parent refl f)
-        (subst (λ ws. slice_get ws id ≡ Some parent) (sym (append_assoc before (h ∷ []) hs)) there) (and_parts _ _ e).1 w
-
-pub children-share-out : ChildrenShareOut
-unfolding headers_fit
-children-share-out hs id parent left right e there c = children-share [] (RootAt 0) hs id parent left right tt there e c

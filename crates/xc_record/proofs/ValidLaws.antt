@@ -1,12 +1,12 @@
 -- Laws of well-formed logs: what each accepted record keeps, which tablets may end in a split, and that no transaction has the number 0.
 --     FitsTablet hs b      each accepted record of b fits b's header, among the headers hs
 use Rattle.std.proofs.Common.{◌≡◌, ℕ, zero, suc, ◌<◌, true, false, cond, List, [], ◌∷◌, ◌++◌, Option, Some, None, refl, ap, sym, ◌∙◌}
-use Rattle.std.proofs.Common.{arith, ⊎_elim}
+use Rattle.std.proofs.Common.{arith, ⊎_elim, zero-add}
 use Rattle.std.proofs.lemmas.Bool.{and_parts, cases_Bool, true≢false}
 use Rattle.std.proofs.lemmas.Bool.Decides.{nat_tests}
-use Rattle.std.proofs.lemmas.Option.{none-some}
+use Rattle.std.proofs.lemmas.Option.{none-some, slice_get-map}
 use Rattle.std.proofs.lemmas.Slice.Eq.{bytes_eq-Decides}
-use Rattle.std.specs.Prelude.{fold, is_none, bytes_eq}
+use Rattle.std.specs.Prelude.{fold, is_none, bytes_eq, slice_get, option_map}
 use Rattle.std.specs.List.{list_all}
 use Rattle.xc_record.specs.declared.record.Header.{Header}
 use Rattle.xc_record.specs.declared.record.Kind.{Kind}
@@ -19,12 +19,14 @@ use Rattle.xc_record.specs.Hash.{hash_of, holds}
 use Rattle.xc_record.specs.Headers.{children, are_headers, headers_fit}
 use Rattle.xc_record.specs.Order.{Progress, break_of, is_split, after, accepted_from}
 use Rattle.xc_record.specs.Accepted.{AcceptedTablet, accepted_tablets, accepted_tablets_after, accepted_tablet_after, start_after}
-use Rattle.xc_record.specs.Accepted.{reached_after}
+use Rattle.xc_record.specs.Accepted.{reached_after, accepted_tablet}
 use Rattle.xc_record.specs.Path.{puts}
 use Rattle.xc_record.specs.Commits.{applies, commit_of}
 use Rattle.xc_record.specs.Lists.{first_some, or_else}
 use Rattle.xc_record.specs.Valid.{op_fits, ops_fit, kind_fits, record_fits, tablet_fits, headers_of, is_valid}
 use Rattle.xc_record.proofs.ListLaws.{Each, Each-append, Each-weaker}
+use Rattle.xc_record.proofs.AcceptedLaws.{headers-after}
+use Rattle.xc_record.proofs.HeaderLaws.{Numbered-at, headers_fit-all}
 
 abbrev pub FitsTablet : List Header → AcceptedTablet → Type 0
 FitsTablet hs b = Each (λ r. kind_fits b.header (children hs b.header.id) r.kind ≡ true) b.records
@@ -32,6 +34,22 @@ FitsTablet hs b = Each (λ r. kind_fits b.header (children hs b.header.id) r.kin
 pub valid-headers : (logs : Logs) → is_valid logs ≡ true → headers_fit (headers_of logs.tablets) ≡ true
 unfolding is_valid are_headers
 valid-headers logs v = (and_parts _ _ (and_parts _ _ v).0).1
+
+-- ---- the numbers of the tablets
+
+pub header-at : (logs : Logs) (i : ℕ) (b : AcceptedTablet) → accepted_tablet logs i ≡ Some b
+    → slice_get (headers_of logs.tablets) i ≡ Some b.header
+unfolding accepted_tablets
+header-at logs i b at =
+    ap (λ hs. slice_get hs i) (sym (headers-after [] logs.tablets))
+    ∙ slice_get-map (λ (b : AcceptedTablet). b.header) (accepted_tablets_after [] logs.tablets) i
+    ∙ ap (option_map (λ (b : AcceptedTablet). b.header)) at
+
+-- a tablet's number is its place
+pub number-is : (logs : Logs) (i : ℕ) (b : AcceptedTablet) → is_valid logs ≡ true → accepted_tablet logs i ≡ Some b → b.header.id ≡ i
+number-is logs i b v at =
+    Numbered-at 0 (headers_of logs.tablets) i b.header (headers_fit-all (headers_of logs.tablets) (valid-headers logs v)).1.numbered
+    (header-at logs i b at) ∙ zero-add i
 
 -- ---- each accepted record fits its tablet
 

@@ -28,8 +28,8 @@ abbrev pub IsAfter : ℕ → Option ℕ → Type 0
 IsAfter t None = Unit {0}
 IsAfter t (Some c) = t < c
 
--- Agreement at an event: an intent stands below its transaction's commit, an apply has its transaction's outcome, and what is aborted has
--- no commit.
+-- Agreement as inductions on events use it (FromCases): an intent stands below its transaction's commit, an apply has its transaction's
+-- outcome, and what is aborted has no commit.
 abbrev pub AgreesAt : Logs → Event → Type 0
 AgreesAt logs (Hold n sub time v) = IsAfter time (commit_of logs n)
 AgreesAt logs (Apply n c without) = (commit_of logs n ≡ Some c) × (undone logs n ≡ without)
@@ -51,7 +51,8 @@ abbrev pub still : Fate → Bool
 still Waits = true
 still _ = false
 
--- ---- the accepted tablets along the path of a key, parents first, and agreement along it
+-- ---- The accepted tablets along the path of a key, parents first. Threads, Stops and LegalChain are what inductions carry from a tablet to
+-- its child; that they hold of the tablets with a hash is in Tree.
 
 abbrev pub own : ℕ → AcceptedTablet → Bool
 own h b = holds b.header h
@@ -95,6 +96,6 @@ abbrev pub LegalChain : List ℕ → List AcceptedTablet → Type 0
 LegalChain ps [] = Unit {0}
 LegalChain ps (b ∷ bs) = (place ps b ≤ length b.records) × ((is_closed_in ps b ≡ true) ⊎ Each (λ d. place ps d ≡ 0) bs) × LegalChain ps bs
 
--- no straggler of any transaction with a commit
+-- no straggler of any transaction with a commit, which goes record by record
 abbrev pub NoStragglers : Logs → List ℕ → List Record → List Record → Type 0
 NoStragglers logs k seen rs = (n c : ℕ) → commit_of logs n ≡ Some c → straggles_at n c k seen rs ≡ false

@@ -13,7 +13,7 @@ use Rattle.xc_model.{proofs.StableSort.Each, proofs.Elements.each-map, proofs.El
 use Rattle.xc_model.proofs.Along.{IsAfter, ComesAfter, floor_by, records_along, applied_in, applied_along, Threads, LegalChain}
 use Rattle.xc_model.proofs.Along.{Stops, AgreesAt, NoStragglers}
 
--- a path goes by the order rules, but for splits
+-- What is left of the order rules along a path, where a split stands between a tablet and its child: times rise, and floors with them.
 abbrev pub KindGoes : ℕ → ℕ → Kind → Type 0
 KindGoes f time (log.Apply n c without) = (f < c) × (c ≤ time)
 KindGoes f time (log.Safe v) = (f ≤ v) × (v ≤ time)

@@ -151,6 +151,16 @@ later-late logs t k f l (x ∷ xs) h g a = let first : t < x.time = let p = g.0 
     (later-late logs t k (floor_by f x.kind) x.time xs (omega arith) g.2
     (each-back (AgreesAt logs) (record_events k x) (events k xs) a))
 
+by-cut : (logs : Logs) (k : List ℕ) (t : ℕ) (up later : List Record) → Cut logs t k up → Each (AgreesAt logs) (events k up)
+    → Each (ComesAfter logs t) (events k later)
+    → filter (upto t) (versions_along (events k up)) ≡ filter (upto t) (committed logs (events k (up ++ later)))
+by-cut logs k t up later cut agree after = let rest = events k later in
+    ap (λ w. filter (upto t) (versions_along w)) cut.is
+    ∙ read-path logs t cut.before cut.rest rest (subst (Each (AgreesAt logs)) cut.is agree) cut.late
+    (Each-append (ComesAfter logs t) cut.rest rest cut.late after) cut.free
+    ∙ ap (λ w. filter (upto t) (committed logs w)) (sym (append_assoc cut.before cut.rest rest) ∙ ap (λ w. w ++ rest) (sym cut.is)
+    ∙ sym (flat_map-append (record_events k) up later))
+
 pub key-versions : (logs : Logs) (k : List ℕ) (t : ℕ) (ps : List ℕ) (xs : List AcceptedTablet) → Threads origin xs
     → Stops origin xs → LegalChain ps xs → NoStragglers logs k [] (records_along xs) → Each (AgreesAt logs) (events k (records_along xs))
     → Each (λ b. (is_closed_in ps b ≡ true) ⊎ (t ≤ last_safe_in ps b)) xs
@@ -161,21 +171,16 @@ key-versions logs k t ps xs h e l s a c = let up = applied_along ps xs in let fr
     let agree : Each (AgreesAt logs) (events k up ++ events k later) =
     subst (Each (AgreesAt logs)) (ap (events k) front.1 ∙ flat_map-append (record_events k) up later) a in
     let agree-up = each-front (AgreesAt logs) (events k up) (events k later) agree in
-    let bound : t ≤ floor_after 0 up = covered t ps origin xs refl h e l c in
     let goes-up : Goes 0 0 up = goes-front 0 0 up later goes in
-    let cut : Cut logs t k up =
-    cut-from logs t k 0 0 [] up (omega arith) goes-up (stragglers-parts logs k [] up later free).0 agree-up
-    (λ _. record { before = []; rest = []; is = refl; late = tt; free = tt }) bound in
     let within : t ≤ last_after 0 up =
-    let f : floor_after 0 up ≤ last_after 0 up = floor-le-last 0 0 up (omega arith) goes-up in omega arith in
-    let after = later-late logs t k (floor_after 0 up) (last_after 0 up) later within (goes-back 0 0 up later goes)
-    (each-back (AgreesAt logs) (events k up) (events k later) agree) in
-    let agreed : Each (AgreesAt logs) (cut.before ++ cut.rest) = subst (Each (AgreesAt logs)) cut.is agree-up in
-    let here = read-path logs t cut.before cut.rest (events k later) agreed cut.late
-    (Each-append (ComesAfter logs t) cut.rest (events k later) cut.late after) cut.free in
-    ap (λ w. filter (upto t) (versions_along w)) cut.is ∙ here
-    ∙ ap (λ w. filter (upto t) (committed logs w)) (sym (append_assoc cut.before cut.rest (events k later))
-    ∙ ap (λ w. w ++ events k later) (sym cut.is) ∙ sym (flat_map-append (record_events k) up later) ∙ ap (events k) (sym front.1))
+    let f : floor_after 0 up ≤ last_after 0 up = floor-le-last 0 0 up (omega arith) goes-up in
+    let bound : t ≤ floor_after 0 up = covered t ps origin xs refl h e l c in omega arith in
+    by-cut logs k t up later
+    (cut-from logs t k 0 0 [] up (omega arith) goes-up (stragglers-parts logs k [] up later free).0 agree-up
+    (λ _. record { before = []; rest = []; is = refl; late = tt; free = tt }) (covered t ps origin xs refl h e l c)) agree-up
+    (later-late logs t k (floor_after 0 up) (last_after 0 up) later within (goes-back 0 0 up later goes)
+    (each-back (AgreesAt logs) (events k up) (events k later) agree))
+    ∙ ap (λ rs. filter (upto t) (committed logs (events k rs))) (sym front.1)
 
 -- and so is what a tablet with a cutoff shows
 pub key-read : (logs : Logs) (k : List ℕ) (u t : ℕ) (ps : List ℕ) (xs : List AcceptedTablet) → Threads origin xs → Stops origin xs

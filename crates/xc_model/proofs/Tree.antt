@@ -9,9 +9,10 @@ use Rattle.xc_record.proofs.HeaderLaws.{Line}
 use Rattle.xc_model.proofs.FromRules.{exists-heads, RootOf, roots-cover, hash-below, child-cover}
 use Rattle.xc_model.proofs.Along.{own, origin, begun, Continues, Threads, Stops, LegalChain}
 use Rattle.xc_model.proofs.StableSort.{Each, Exists}
-use Rattle.xc_model.proofs.Elements.{exists-filter, each-filtered, each-both, exists-each}
+use Rattle.xc_model.proofs.Elements.{exists-filter, exists-each}
+use Rattle.xc_record.proofs.ListLaws.{filtered-get}
 use Rattle.xc_model.proofs.Parents.{heads, Under, UnderParent, StartsRoot, get-under, each-root, each-line, each-tablet, header-get}
-use Rattle.xc_model.proofs.Parents.{each-get, heads-logs, valid-headers, closed-of}
+use Rattle.xc_model.proofs.Parents.{each-get, each-from, heads-logs, valid-headers, closed-of}
 
 -- ---- the line
 
@@ -43,10 +44,6 @@ one-unsplit bs b o = go b.header.parent refl
     go : (q : Option ℕ) → b.header.parent ≡ q → b.start.split ≡ false
     go None e = ap (λ (p : Progress). p.split) (o.root e)
     go (Some p) e = ap (λ (w : Progress). w.split) (o.under p e).start
-
--- the parent's number is below
-below-one : (bs : List AcceptedTablet) (b : AcceptedTablet) (p : ℕ) → IsOne bs b → b.header.parent ≡ Some p → p < b.header.id
-below-one bs b p o e = (o.under p e).below
 
 continues : (bs : List AcceptedTablet) (prev b : AcceptedTablet) → slice_get bs prev.header.id ≡ Some prev → IsOne bs b
     → b.header.parent ≡ Some prev.header.id → Continues prev.end b
@@ -81,7 +78,7 @@ chained logs h v = let bs = accepted_tablets logs in
 ids-rise : (bs : List AcceptedTablet) (p : ℕ) (xs : List AcceptedTablet) → Line (Some p) (heads xs) → Each (IsOne bs) xs
     → Each (λ b. p < b.header.id) xs
 ids-rise bs p [] l o = tt
-ids-rise bs p (b ∷ xs) l o = let first : p < b.header.id = below-one bs b p o.0 l.0 in (
+ids-rise bs p (b ∷ xs) l o = let first : p < b.header.id = (o.0.under p l.0).below in (
   first,
   Each-weaker (λ d. b.header.id < d.header.id) (λ d. p < d.header.id) (λ d q. omega arith) xs (ids-rise bs b.header.id xs l.1 o.1),
 )
@@ -114,26 +111,22 @@ stops-by bs h o prev [] q e n = false_from_ne_true o.split (λ s. n (q s))
 stops-by bs h o prev (b ∷ xs) q e n = stops-by bs h b.end (Some b.header.id) xs e.0 e.1 n
 
 -- a tablet that ends in a split has children, of which one holds the hash
-has-child : (logs : Logs) (h : ℕ) → is_valid logs ≡ true → Each
-    (λ b. b.end.split ≡ true → holds b.header h ≡ true → HasChild (accepted_tablets logs) h (Some b.header.id)) (accepted_tablets logs)
-has-child logs h v = let bs = accepted_tablets logs in let hs = headers_of logs.tablets in each-tablet logs v
-    (λ b. b.end.split ≡ true → holds b.header h ≡ true → HasChild bs h (Some b.header.id)) (λ b e s o.
-    let one : IsOne bs b = each-get (IsOne bs) bs b.header.id b (each-one logs v) e in
+has-child : (logs : Logs) (h i : ℕ) (b : AcceptedTablet) → is_valid logs ≡ true → slice_get (accepted_tablets logs) i ≡ Some b
+    → holds b.header h ≡ true → b.end.split ≡ true → HasChild (accepted_tablets logs) h (Some b.header.id)
+has-child logs h i b v e o s = let bs = accepted_tablets logs in let hs = headers_of logs.tablets in
+    let one : IsOne bs b = each-get (IsOne bs) bs i b (each-one logs v) e in
     let pair = split-children b.header (children hs b.header.id) b.start b.records (one-unsplit bs b one)
-    (each-get (FitsTablet hs) bs b.header.id b (accepted-fit logs v) e) (sym (ap (λ (p : Progress). p.split) one.grown.end) ∙ s) in
+    (each-get (FitsTablet hs) bs i b (accepted-fit logs v) e) (sym (ap (λ (p : Progress). p.split) one.grown.end) ∙ s) in
     exists-heads (λ d. (d.parent ≡ Some b.header.id) × (holds d h ≡ true)) bs
     (subst (Exists (λ d. (d.parent ≡ Some b.header.id) × (holds d h ≡ true))) (sym (heads-logs logs))
-    (child-cover hs b.header pair.0.0 pair.0.1 h (valid-headers logs v) (header-get logs b.header.id b v e) pair.1 o)))
+    (child-cover hs b.header pair.0.0 pair.0.1 h (valid-headers logs v) (header-get logs i b v e) pair.1 o))
 
 pub stops : (logs : Logs) (k : List ℕ) → is_valid logs ≡ true → Stops origin (filter (own (hash_of k)) (accepted_tablets logs))
 stops logs k v = let bs = accepted_tablets logs in let h = hash_of k in let xs = filter (own h) bs in let chain = chained logs h v in
     stops-by bs h origin None xs (λ _. exists-heads (RootOf h) bs
     (subst (Exists (RootOf h)) (sym (heads-logs logs)) (roots-cover h (headers_of logs.tablets) (valid-headers logs v) (hash-below k))))
-    (Each-weaker (λ b. (b.end.split ≡ true → holds b.header h ≡ true → HasChild bs h (Some b.header.id)) × (own h b ≡ true))
-    (λ b. b.end.split ≡ true → HasChild bs h (Some b.header.id)) (λ b w s. w.0 s w.1) xs
-    (each-both (λ b. b.end.split ≡ true → holds b.header h ≡ true → HasChild bs h (Some b.header.id)) (λ b. own h b ≡ true) xs
-    (Each-filter (λ b. b.end.split ≡ true → holds b.header h ≡ true → HasChild bs h (Some b.header.id)) (own h) bs (has-child logs h v))
-    (each-filtered (λ b. own h b ≡ true) (own h) bs (λ b e. e))))
+    (each-from (λ b. b.end.split ≡ true → HasChild bs h (Some b.header.id)) xs
+    (λ j b e. let at = filtered-get (own h) bs j b e in has-child logs h at.0 b v at.1.0 at.1.1))
     (λ i. exists-each (λ d. d.header.parent ≡ line_end None (heads xs)) xs
     (exists-filter (λ d. (d.header.parent ≡ line_end None (heads xs)) × (holds d.header h ≡ true))
     (λ d. d.header.parent ≡ line_end None (heads xs)) (own h) (λ d w. (w.1, w.0)) bs i)

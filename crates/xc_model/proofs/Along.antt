@@ -51,8 +51,8 @@ abbrev pub still : Fate → Bool
 still Waits = true
 still _ = false
 
--- ---- The accepted tablets along the path of a key, parents first. Threads, Stops and LegalChain are what inductions carry from a tablet to
--- its child; that they hold of the tablets with a hash is in Tree.
+-- ---- The accepted tablets along the path of a key, parents first. Threads, Stops and LegalChain are what inductions carry from a tablet
+-- to its child; that they hold of the tablets with a hash is in Tree.
 
 abbrev pub own : ℕ → AcceptedTablet → Bool
 own h b = holds b.header h

@@ -1,17 +1,16 @@
 -- Along the tablets that own a key, one after another.
-use Rattle.xc_model.proofs.Common.{◌≡◌, ◌==◌, ℕ, ◌<◌, ◌≤◌, true, List, [], ◌∷◌, ◌++◌, take, drop, length, Option, Some, None, refl, ap}
-use Rattle.xc_model.proofs.Common.{sym, ◌∙◌, arith, subst, append_assoc, append-nil, ◌⊎◌, ⊎_elim, and_parts, eqb-true, true≢false, take_all}
-use Rattle.xc_model.proofs.Common.{take-append-drop, flat_map-append, Event, Put, Hold, Safe, waiting, events, record_events}
-use Rattle.xc_model.proofs.Common.{kind_events, puts, Kind, Record, Progress, place, last_safe_in, is_closed_in, AcceptedTablet}
-use Rattle.xc_model.proofs.Common.{Each-append, Each-weaker, Bool, false, cond, nat_tests, break_of, violations, first_violated, after}
-use Rattle.xc_model.proofs.Common.{accepted_from, fold, is_none, IsGrown, Logs, commit_of, straggles_at, straggles-append, Waiting}
-use Rattle.xc_model.proofs.Common.{map, if◌then◌else◌, list_any}
-use Rattle.xc_model.proofs.Common.{nat_le, ◌&&◌, ◌||◌, Written}
+use Rattle.xc_model.proofs.Common.{◌≡◌, ◌==◌, ℕ, ◌<◌, ◌≤◌, true, List, [], ◌∷◌, ◌++◌, take, drop, length, Option, Some, None, refl, ap, sym}
+use Rattle.xc_model.proofs.Common.{◌∙◌, arith, subst, append_assoc, append-nil, ◌⊎◌, ⊎_elim, and_parts, eqb-true, true≢false, take_all}
+use Rattle.xc_model.proofs.Common.{take-append-drop, flat_map-append, Event, Put, Hold, Safe, waiting, events, record_events, kind_events}
+use Rattle.xc_model.proofs.Common.{puts, Kind, Record, Progress, place, last_safe_in, is_closed_in, AcceptedTablet, Each-append}
+use Rattle.xc_model.proofs.Common.{Each-weaker, Bool, false, cond, nat_tests, break_of, violations, first_violated, after, accepted_from}
+use Rattle.xc_model.proofs.Common.{fold, is_none, IsGrown, Logs, commit_of, straggles_at, straggles-append, Waiting, map, if◌then◌else◌}
+use Rattle.xc_model.proofs.Common.{list_any, nat_le, ◌&&◌, ◌||◌, Written}
 use Rattle.std.proofs.lemmas.Bool.{or_parts}
 use Rattle.xc_record.specs.declared.record.Kind.TheVariants as log
 use Rattle.xc_model.{proofs.StableSort.Each, proofs.Elements.each-map, proofs.Elements.each-front, proofs.Elements.each-back}
-use Rattle.xc_model.proofs.Along.{IsAfter, ComesAfter, floor_by, records_along, applied_in, applied_along, Threads, LegalChain}
-use Rattle.xc_model.proofs.Along.{Stops, AgreesAt, NoStragglers}
+use Rattle.xc_model.proofs.Along.{IsAfter, ComesAfter, floor_by, records_along, applied_in, applied_along, Threads, LegalChain, Stops}
+use Rattle.xc_model.proofs.Along.{AgreesAt, NoStragglers}
 
 -- What is left of the order rules along a path, where a split stands between a tablet and its child: times rise, and floors with them.
 abbrev pub KindGoes : ℕ → ℕ → Kind → Type 0

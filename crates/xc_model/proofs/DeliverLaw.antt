@@ -3,18 +3,18 @@ use Rattle.xc_model.proofs.Common.{◌≡◌, ◌≢◌, ◌==◌, ℕ, zero, su
 use Rattle.xc_model.proofs.Common.{drop, length, Option, Some, None, refl, ap, sym, ◌∙◌, arith, subst, ◌⊎◌, inl, inr, ⊎_elim, fold, ◌&&◌}
 use Rattle.xc_model.proofs.Common.{◌||◌, ◌-◌, option_map, nat_le, slice_get, slice_index, slice_set, if◌then◌else◌, option_map_or}
 use Rattle.xc_model.proofs.Common.{cases_Bool, cases_eq, and_parts, eqb-true, eq-eqb, true≢false, get_or-set_same, get_or-set_other}
-use Rattle.xc_model.proofs.Common.{length-set, length-append, length-map, nil_from_length, same_Some, slice_get_within, slice_get-map}
-use Rattle.xc_model.proofs.Common.{Kind, Header, Record, Tablet, Logs, hash_of, holds, Progress, is_split, accepted_from}
-use Rattle.xc_model.proofs.Common.{after as step_order, AcceptedTablet, accepted_tablets, accepted, record_events, place, order_at}
-use Rattle.xc_model.proofs.Common.{last_safe_in, is_closed_in, is_closed as closed_at, is_started, safe_time, StartsAfter, IsPlaces}
-use Rattle.xc_model.proofs.Common.{headers_of, kind_fits, split_fits, children, Numbered, IsGrown, accepted_tablets-grown, steps}
-use Rattle.xc_model.proofs.Common.{floor-take, safe_time-rises, Each-weaker, child-is, FitsTablet, accepted-fit}
+use Rattle.xc_model.proofs.Common.{length-set, length-append, length-map, nil_from_length, same_Some, slice_get_within, slice_get-map, Kind}
+use Rattle.xc_model.proofs.Common.{Header, Record, Tablet, Logs, hash_of, holds, Progress, is_split, accepted_from, after as step_order}
+use Rattle.xc_model.proofs.Common.{AcceptedTablet, accepted_tablets, accepted, record_events, place, order_at, last_safe_in, is_closed_in}
+use Rattle.xc_model.proofs.Common.{is_closed as closed_at, is_started, safe_time, StartsAfter, IsPlaces, headers_of, kind_fits, split_fits}
+use Rattle.xc_model.proofs.Common.{children, Numbered, IsGrown, accepted_tablets-grown, steps, floor-take, safe_time-rises, Each-weaker}
+use Rattle.xc_model.proofs.Common.{child-is, FitsTablet, accepted-fit}
 use Rattle.std.specs.Prelude.{◌↔◌}
 use Rattle.std.proofs.lemmas.List.Sums.{fold-append}
 use Rattle.std.proofs.lemmas.List.{drop-drop}
 use Rattle.xc_record.specs.declared.record.Kind.TheVariants as log
-use Rattle.xc_model.{proofs.FloorLaw.closed-kept, proofs.DeliverRecord.record-numbered}
-use Rattle.xc_model.{proofs.StableSort.Each, specs.Laws.DeliveriesKeepStanding, specs.Laws.BatchesKeepStanding}
+use Rattle.xc_model.{proofs.FloorLaw.closed-kept, proofs.DeliverRecord.record-numbered, proofs.StableSort.Each}
+use Rattle.xc_model.{specs.Laws.DeliveriesKeepStanding, specs.Laws.BatchesKeepStanding}
 use Rattle.xc_model.proofs.Elements.{each-back}
 use Rattle.xc_record.proofs.PathLaws.{numbered-mid}
 use Rattle.xc_model.proofs.SplitEnd.{last-split, no-split-end}

@@ -1,14 +1,14 @@
 -- One more accepted record of a tablet, and what the logs give at a key.
-use Rattle.xc_model.proofs.Common.{◌≡◌, ◌==◌, ℕ, suc, zero, ◌+◌, ◌<◌, ◌≤◌, Bool, true, false, cond, List, [], ◌∷◌, ◌++◌, take, length}
-use Rattle.xc_model.proofs.Common.{refl, ap, sym, ◌∙◌, arith, subst, append_assoc, append-nil, ⊎_elim, filter, fold, take-append_seam}
+use Rattle.xc_model.proofs.Common.{◌≡◌, ◌==◌, ℕ, suc, zero, ◌+◌, ◌<◌, ◌≤◌, Bool, true, false, cond, List, [], ◌∷◌, ◌++◌, take, length, refl}
+use Rattle.xc_model.proofs.Common.{ap, sym, ◌∙◌, arith, subst, append_assoc, append-nil, ⊎_elim, filter, fold, take-append_seam}
 use Rattle.xc_model.proofs.Common.{length-append, filter-append, flat_map-append, and_left, ne_eqb, true≢false, Kind, Record, Logs, after}
-use Rattle.xc_model.proofs.Common.{AcceptedTablet, accepted_tablets, place, last_safe_in, is_closed_in, safe_time, IsPlaces, hash_of}
-use Rattle.xc_model.proofs.Common.{Put, Hold, events, record_events, kind_events, puts, steps, is_valid, IsGrown}
-use Rattle.xc_model.proofs.Common.{accepted_tablets-grown, Each-filter, Each-weaker, slice_get, Some, Option, Header, kind_fits, children}
-use Rattle.xc_model.proofs.Common.{holds, headers_of, FitsTablet, accepted-fit, and_parts}
+use Rattle.xc_model.proofs.Common.{AcceptedTablet, accepted_tablets, place, last_safe_in, is_closed_in, safe_time, IsPlaces, hash_of, Put}
+use Rattle.xc_model.proofs.Common.{Hold, events, record_events, kind_events, puts, steps, is_valid, IsGrown, accepted_tablets-grown}
+use Rattle.xc_model.proofs.Common.{Each-filter, Each-weaker, slice_get, Some, Option, Header, kind_fits, children, holds, headers_of}
+use Rattle.xc_model.proofs.Common.{FitsTablet, accepted-fit, and_parts}
 use Rattle.xc_record.specs.declared.record.Kind.TheVariants as log
-use Rattle.xc_model.{proofs.Flat.each-flat, proofs.Tree.legal-own, specs.Stands.given_at}
-use Rattle.xc_model.{proofs.StableSort.Each, proofs.Elements.each-map, proofs.Parents.each-get}
+use Rattle.xc_model.{proofs.Flat.each-flat, proofs.Tree.legal-own, specs.Stands.given_at, proofs.StableSort.Each, proofs.Elements.each-map}
+use Rattle.xc_model.{proofs.Parents.each-get}
 use Rattle.std.proofs.lemmas.Bool.{leb-true}
 use Rattle.xc_model.proofs.ApplyPath.{AddsAfter, shown-append}
 use Rattle.xc_model.proofs.KeyRead.{under-safe, along-path, IsLow, each-low, goes-back, goes-front, floor-le-last}

@@ -1,10 +1,10 @@
 -- Where no case of disagreement stands, the events of a key agree, and no straggler stands on its path.
-use Rattle.xc_model.proofs.Common.{◌≡◌, ℕ, ◌<◌, Bool, true, false, cond, List, [], Some, None, refl, ap, sym, ◌∙◌, arith, subst}
-use Rattle.xc_model.proofs.Common.{◌==◌, ◌&&◌, not, nat_le, bytes_eq, is_some, option_map_or, list_any, eq-eqb, nat_tests, slice_get}
-use Rattle.xc_model.proofs.Common.{bytes_eq-Decides, true≢false, false_from_ne_true, filter, Kind, Op, Record, Logs, hash_of, holds}
-use Rattle.xc_model.proofs.Common.{AcceptedTablet, accepted_tablets, events, record_events, kind_events, puts, Put, Hold, applies}
-use Rattle.xc_model.proofs.Common.{rolls_back, commit_of, undone, intent_ops, aborts, HasNoCase, Agrees, path_above, straggles_at}
-use Rattle.xc_model.proofs.Common.{is_valid, commit-any, has_apply, straggles-along, each-get, each-from, Each-filter, Each-weaker, Each}
+use Rattle.xc_model.proofs.Common.{◌≡◌, ℕ, ◌<◌, Bool, true, false, cond, List, [], Some, None, refl, ap, sym, ◌∙◌, arith, subst, ◌==◌, ◌&&◌}
+use Rattle.xc_model.proofs.Common.{not, nat_le, bytes_eq, is_some, option_map_or, list_any, eq-eqb, nat_tests, slice_get, bytes_eq-Decides}
+use Rattle.xc_model.proofs.Common.{true≢false, false_from_ne_true, filter, Kind, Op, Record, Logs, hash_of, holds, AcceptedTablet}
+use Rattle.xc_model.proofs.Common.{accepted_tablets, events, record_events, kind_events, puts, Put, Hold, applies, rolls_back, commit_of}
+use Rattle.xc_model.proofs.Common.{undone, intent_ops, aborts, HasNoCase, Agrees, path_above, straggles_at, is_valid, commit-any, has_apply}
+use Rattle.xc_model.proofs.Common.{straggles-along, each-get, each-from, Each-filter, Each-weaker, Each}
 use Rattle.std.proofs.lemmas.Map.Keys.{any_passes_from_place}
 use Rattle.xc_record.specs.declared.record.Kind.TheVariants as log
 use Rattle.xc_model.{proofs.Parents.each-numbered, proofs.Flat.each-flat, proofs.Elements.each-map, proofs.Elements.some-of}

@@ -1,8 +1,7 @@
 -- What the rules on headers give for each hash: a root holds it, and a child of each tablet with children that holds it.
-use Rattle.xc_model.proofs.Common.{◌≡◌, ℕ, ◌+◌, ◌<◌, ◌≤◌, true, cond, List, [], ◌∷◌, Option, Some, None, refl}
-use Rattle.xc_model.proofs.Common.{arith, subst, inl, inr, ⊎_elim, is_none, slice_get, map, cases_lt, nat_tests, ◌*◌, ◌%◌, Header, hash_of}
-use Rattle.xc_model.proofs.Common.{hash_from, headers_fit, children, AcceptedTablet, Follows, roots-share-out, children-share-out}
-use Rattle.xc_model.proofs.Common.{child-there, holds}
+use Rattle.xc_model.proofs.Common.{◌≡◌, ℕ, ◌+◌, ◌<◌, ◌≤◌, true, cond, List, [], ◌∷◌, Option, Some, None, refl, arith, subst, inl, inr}
+use Rattle.xc_model.proofs.Common.{⊎_elim, is_none, slice_get, map, cases_lt, nat_tests, ◌*◌, ◌%◌, Header, hash_of, hash_from, headers_fit}
+use Rattle.xc_model.proofs.Common.{children, AcceptedTablet, Follows, roots-share-out, children-share-out, child-there, holds}
 use Rattle.xc_record.specs.RangeLaws.{range, roots}
 use Rattle.xc_model.{proofs.Parents.heads, proofs.Elements.exists-get, proofs.StableSort.Exists}
 

@@ -6,17 +6,16 @@ use Rattle.xc_model.proofs.Common.{◌∷◌, ◌++◌, Option, Some, None, arit
 use Rattle.xc_model.proofs.Common.{start_after, accepted_tablet_after, accepted_tablets_after, accepted_tablet_after-grown, Each-append}
 use Rattle.xc_model.proofs.Common.{◌<◌, Bool, false, cond, sym, subst, ◌==◌, filter-append, nat_tests, eqb-true, has, Event, Put, Hold}
 use Rattle.xc_model.proofs.Common.{Apply, Abort, Written, Waiting, Fate, Waits, Taken, RolledBack, Dropped, fate, fate_at, version_by}
-use Rattle.xc_model.proofs.Common.{waiting_by, versions_along, waiting, upto, append_assoc, flat_map-append, record_events}
-use Rattle.xc_model.proofs.Common.{last_of, Record, commit_of, undone, Agrees}
+use Rattle.xc_model.proofs.Common.{waiting_by, versions_along, waiting, upto, append_assoc, flat_map-append, record_events, last_of, Record}
+use Rattle.xc_model.proofs.Common.{commit_of, undone, Agrees}
 use Rattle.xc_record.specs.Path.{holders}
-use Rattle.xc_model.{proofs.StableSort.Each, proofs.Parents.each-get, proofs.FloorLaw.least-low}
-use Rattle.xc_model.{proofs.Sorts.filter-sort, proofs.Sorts.in_order-sort, proofs.Elements.each-front, proofs.Elements.each-back}
+use Rattle.xc_model.{proofs.StableSort.Each, proofs.Parents.each-get, proofs.FloorLaw.least-low, proofs.Sorts.filter-sort}
+use Rattle.xc_model.{proofs.Sorts.in_order-sort, proofs.Elements.each-front, proofs.Elements.each-back}
 use Rattle.xc_model.proofs.ApplyPath.{newest-kept_from, version-orders}
 use Rattle.xc_model.proofs.Tree.{chained, stops, legal-own}
 use Rattle.xc_model.proofs.FromCases.{path-free, path-agrees}
-use Rattle.xc_model.proofs.Along.{committed, own, path_of, applied_along, commits_at, version_at}
-use Rattle.xc_model.proofs.Along.{AgreesAt, IsAfter, ComesAfter, origin, floor_by, records_along, Threads, LegalChain, Stops}
-use Rattle.xc_model.proofs.Along.{NoStragglers}
+use Rattle.xc_model.proofs.Along.{committed, own, path_of, applied_along, commits_at, version_at, AgreesAt, IsAfter, ComesAfter, origin}
+use Rattle.xc_model.proofs.Along.{floor_by, records_along, Threads, LegalChain, Stops, NoStragglers}
 use Rattle.xc_model.proofs.Chain.{floor_after, last_after, grown-goes, grown-end, Goes, path-goes, floor-time, path-front, covered, Cut}
 use Rattle.xc_model.proofs.Chain.{cut-from, record-late, stragglers-parts}
 

@@ -1,14 +1,13 @@
 -- The accepted tablets of well-formed logs: each has its number, and each child begins where its parent ends.
 --     heads bs      their headers
 --     Under bs b      b has no parent, or its parent is among bs under its number, and b begins at the parent's end
-use Rattle.xc_model.proofs.Common.{◌≡◌, ℕ, ◌<◌, true, false, ◌&&◌, List, [], ◌∷◌, ◌++◌, length, Option, Some, None, refl}
-use Rattle.xc_model.proofs.Common.{ap, sym, ◌∙◌, subst, arith, and_parts, eqb-true, length-map}
-use Rattle.xc_model.proofs.Common.{map-append, slice_get_within, slice_get-map, none-some, slice_get, option_map, if◌then◌else◌}
-use Rattle.xc_model.proofs.Common.{option_map_or, Header, Tablet, Logs, Next, accepted_from, fits, fit_from, next_after, headers_fit}
-use Rattle.xc_model.proofs.Common.{AcceptedTablet, root_start, child_start, start_after, reached_after, accepted_tablet_after}
-use Rattle.xc_model.proofs.Common.{accepted_tablets_after, accepted_tablets, is_closed_in, is_closed, is_valid, headers_of, Each}
-use Rattle.xc_model.proofs.Common.{Each-append, Each-weaker, line, Numbered, Fits, Fits-none, Fits-snoc}
-use Rattle.xc_model.proofs.Common.{headers_fit-all, parent_stands}
+use Rattle.xc_model.proofs.Common.{◌≡◌, ℕ, ◌<◌, true, false, ◌&&◌, List, [], ◌∷◌, ◌++◌, length, Option, Some, None, refl, ap, sym, ◌∙◌}
+use Rattle.xc_model.proofs.Common.{subst, arith, and_parts, eqb-true, length-map, map-append, slice_get_within, slice_get-map, none-some}
+use Rattle.xc_model.proofs.Common.{slice_get, option_map, if◌then◌else◌, option_map_or, Header, Tablet, Logs, Next, accepted_from, fits}
+use Rattle.xc_model.proofs.Common.{fit_from, next_after, headers_fit, AcceptedTablet, root_start, child_start, start_after, reached_after}
+use Rattle.xc_model.proofs.Common.{accepted_tablet_after, accepted_tablets_after, accepted_tablets, is_closed_in, is_closed, is_valid}
+use Rattle.xc_model.proofs.Common.{headers_of, Each, Each-append, Each-weaker, line, Numbered, Fits, Fits-none, Fits-snoc, headers_fit-all}
+use Rattle.xc_model.proofs.Common.{parent_stands}
 use Rattle.xc_record.specs.declared.headers.Next.TheVariants.{RootAt}
 use Rattle.xc_record.proofs.HeaderLaws.{Line}
 pub use Rattle.xc_record.proofs.ListLaws.{each-get, each-from, slice_get-append as get-append}

@@ -1,7 +1,7 @@
 -- Reads of a tablet that stands for logs that agree.
 use Rattle.xc_model.proofs.Common.{ap, sym, ◌∙◌, read, value_of}
-use Rattle.xc_model.{proofs.KeyRead.reads-rows, proofs.RowsAt.row-newest, proofs.NoDisagreement.no-disagreement}
-use Rattle.xc_model.{specs.Laws.ReadsShowRows, specs.Laws.KeysSuffice}
+use Rattle.xc_model.{proofs.KeyRead.reads-rows, proofs.RowsAt.row-newest, proofs.NoDisagreement.no-disagreement, specs.Laws.ReadsShowRows}
+use Rattle.xc_model.{specs.Laws.KeysSuffice}
 use Rattle.xc_record.proofs.FirstCase.{agree-exactly}
 
 pub reads-show-rows : ReadsShowRows

@@ -2,15 +2,13 @@
 use Rattle.xc_model.proofs.Common.{◌≡◌, ◌==◌, ℕ, ◌<◌, ◌≤◌, Bool, true, false, cond, not, List, [], ◌∷◌, ◌++◌, map, Option, Some, None, refl}
 use Rattle.xc_model.proofs.Common.{ap, sym, ◌∙◌, arith, append-nil, filter, flat_map, option_map_or, Ordering, is_gt, nat_cmp, nat_tests}
 use Rattle.xc_model.proofs.Common.{flat_map-append, Kind, Op, Record, Logs, hash_of, AcceptedTablet, accepted_tablets, has, sort_by}
-use Rattle.xc_model.proofs.Common.{Provisional, provisional_cmp, intent_ops, sub_of, intents_in, intents, txn_ops, undone}
-use Rattle.xc_model.proofs.Common.{Written, puts, Numbered, Each-append, Each-weaker, ◌≢◌, append_assoc, ⊎_elim, nat_le}
-use Rattle.xc_model.proofs.Common.{filter_map, ordering_then, cases_eq, eq-eqb, ne_eqb, or_left, or_right}
-use Rattle.xc_model.proofs.Common.{filter-append, Commit, commit_cmp, applied_txn}
-use Rattle.xc_model.proofs.Common.{commit_of, applied, write_ops, writes_in, write_commits, txn_commits, commits, Event, Put, Hold, Version}
+use Rattle.xc_model.proofs.Common.{Provisional, provisional_cmp, intent_ops, sub_of, intents_in, intents, txn_ops, undone, Written, puts}
+use Rattle.xc_model.proofs.Common.{Numbered, Each-append, Each-weaker, ◌≢◌, append_assoc, ⊎_elim, nat_le, filter_map, ordering_then}
+use Rattle.xc_model.proofs.Common.{cases_eq, eq-eqb, ne_eqb, or_left, or_right, filter-append, Commit, commit_cmp, applied_txn, commit_of}
+use Rattle.xc_model.proofs.Common.{applied, write_ops, writes_in, write_commits, txn_commits, commits, Event, Put, Hold, Version}
 use Rattle.xc_model.proofs.Common.{version_cmp, events, record_events, kind_events, upto, newest, last_of, value_of, ops_to, row}
-use Rattle.xc_model.proofs.Common.{after_puts, row-puts, commit-applied, is_valid, kind_fits, children, headers_of, Header}
-use Rattle.xc_model.proofs.Common.{FitsTablet, accepted-fit}
-use Rattle.xc_model.proofs.Common.{holds, puts-away, applied-commits, commit-number, and_parts}
+use Rattle.xc_model.proofs.Common.{after_puts, row-puts, commit-applied, is_valid, kind_fits, children, headers_of, Header, FitsTablet}
+use Rattle.xc_model.proofs.Common.{accepted-fit, holds, puts-away, applied-commits, commit-number, and_parts}
 use Rattle.std.proofs.lemmas.Bool.{leb-true}
 use Rattle.xc_record.proofs.NumberLaws.{Rising, distinct-rising}
 use Rattle.xc_record.specs.declared.record.Kind.TheVariants as log
@@ -20,8 +18,7 @@ use Rattle.xc_model.proofs.StableSort.{Each, Before, Orders, InOrder}
 use Rattle.xc_model.proofs.Along.{floor_by, own, origin, path_of, commits_at, version_at, committed}
 use Rattle.xc_model.proofs.Flat.{flat-flat, flat-all, flat-filter, flat-none, map-flat, puts-flat, flat-same, filter-flat, each-flat}
 use Rattle.xc_model.proofs.Flat.{each-all}
-use Rattle.xc_model.proofs.Sorts.{flat-sort, sort-in_order, Agreeing, sort-finer, ties-rising, sort-grouped, Ties}
-use Rattle.xc_model.proofs.Sorts.{ties-append, ties-same}
+use Rattle.xc_model.proofs.Sorts.{flat-sort, sort-in_order, Agreeing, sort-finer, ties-rising, sort-grouped, Ties, ties-append, ties-same}
 
 -- what tablets say of a key is what its path does, as tablets that don't hold it say nothing of it
 over-path : {B : Type 0} (f g : Record → List B) (h : ℕ) (es : List AcceptedTablet)

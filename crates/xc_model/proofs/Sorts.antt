@@ -1,8 +1,8 @@
 -- Laws of sorts by an order, in which elements that tie stay as they stood.
 use Rattle.xc_model.proofs.Common.{◌≡◌, ℕ, ◌+◌, ◌≤◌, false, List, [], ◌∷◌, ◌++◌, refl, ap, ◌∙◌, arith, flat_map, Ordering, is_gt}
 use Rattle.xc_model.proofs.Common.{AcceptedTablet, insert_by, sort_by, Numbered, Each-append, Each-weaker, ◌≢◌, ◌==◌, Bool, true, cond, sym}
-use Rattle.xc_model.proofs.Common.{⊎_elim, filter, cases_Bool, cases_eq, eqb-true, eq-eqb, ne_eqb, put_after, Each-filter}
-use Rattle.xc_model.proofs.Common.{has, ◌<◌, ◌||◌, false_from_ne_true}
+use Rattle.xc_model.proofs.Common.{⊎_elim, filter, cases_Bool, cases_eq, eqb-true, eq-eqb, ne_eqb, put_after, Each-filter, has, ◌<◌, ◌||◌}
+use Rattle.xc_model.proofs.Common.{false_from_ne_true}
 use Rattle.std.proofs.lemmas.Bool.{or_parts}
 use Rattle.xc_record.proofs.NumberLaws.{Rising}
 use Rattle.xc_model.{proofs.Parents.heads, proofs.Elements.each-filtered}

@@ -1,10 +1,10 @@
 -- The tablets that hold a hash stand in a line of parent and child, each beginning where its parent ends.
-use Rattle.xc_model.proofs.Common.{◌≡◌, ◌≢◌, ◌==◌, ℕ, ◌<◌, ◌≤◌, true, false, cond, List, [], ◌∷◌, length, Option, Some, None}
-use Rattle.xc_model.proofs.Common.{refl, ap, sym, ◌∙◌, arith, subst, inl, inr, ⊎_elim, filter, fold, slice_get}
-use Rattle.xc_model.proofs.Common.{cases_Bool, and_parts, eqb-true, true≢false, false_from_ne_true, same_Some, Record, Logs, Progress}
-use Rattle.xc_model.proofs.Common.{after, AcceptedTablet, accepted_tablets, place, is_closed_in, is_closed, is_started, StartsAfter}
-use Rattle.xc_model.proofs.Common.{IsPlaces, is_valid, holds, headers_of, children, split-children, FitsTablet, accepted-fit, hash_of}
-use Rattle.xc_model.proofs.Common.{line_end, line, IsGrown, accepted_tablets-grown, Each-filter, Each-weaker}
+use Rattle.xc_model.proofs.Common.{◌≡◌, ◌≢◌, ◌==◌, ℕ, ◌<◌, ◌≤◌, true, false, cond, List, [], ◌∷◌, length, Option, Some, None, refl, ap, sym}
+use Rattle.xc_model.proofs.Common.{◌∙◌, arith, subst, inl, inr, ⊎_elim, filter, fold, slice_get, cases_Bool, and_parts, eqb-true}
+use Rattle.xc_model.proofs.Common.{true≢false, false_from_ne_true, same_Some, Record, Logs, Progress, after, AcceptedTablet}
+use Rattle.xc_model.proofs.Common.{accepted_tablets, place, is_closed_in, is_closed, is_started, StartsAfter, IsPlaces, is_valid, holds}
+use Rattle.xc_model.proofs.Common.{headers_of, children, split-children, FitsTablet, accepted-fit, hash_of, line_end, line, IsGrown}
+use Rattle.xc_model.proofs.Common.{accepted_tablets-grown, Each-filter, Each-weaker}
 use Rattle.xc_record.proofs.HeaderLaws.{Line}
 use Rattle.xc_model.proofs.FromRules.{exists-heads, RootOf, roots-cover, hash-below, child-cover}
 use Rattle.xc_model.proofs.Along.{own, origin, begun, Continues, Threads, Stops, LegalChain}

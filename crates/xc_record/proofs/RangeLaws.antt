@@ -9,8 +9,7 @@ use Rattle.xc_record.specs.declared.record.Header.{Header}
 use Rattle.xc_record.specs.declared.headers.Next.{Next}
 use Rattle.xc_record.specs.declared.headers.Next.TheVariants.{RootAt, LeftChild, RightChild}
 use Rattle.xc_record.specs.Hash.{holds}
-use Rattle.xc_record.specs.Headers.{fits, parent_fits, root_fits, next_after, after_child, fit_from}
-use Rattle.xc_record.specs.Headers.{headers_fit}
+use Rattle.xc_record.specs.Headers.{fits, parent_fits, root_fits, next_after, after_child, fit_from, headers_fit}
 use Rattle.xc_record.specs.Bounds.{are_bounds, rises_from, starts_at_0, ranges, ranges_from, Follows}
 use Rattle.xc_record.specs.RangeLaws.{range, roots, holders, RangesHoldOnce, BoundsShareOut, RootsShareOut, OneRootHolds}
 use Rattle.xc_record.proofs.HeaderLaws.{Line, line, FitsAll, headers_fit-all}

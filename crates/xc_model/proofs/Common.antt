@@ -25,7 +25,7 @@ pub use Rattle.xc_record.proofs.AgreementLaws.{commit-any, applied-commits, comm
 pub use Rattle.xc_record.proofs.ListLaws.{Each-append, Each-weaker, each-get, each-from}
 pub use Rattle.xc_record.proofs.ValidLaws.{FitsTablet, accepted-fit, puts-away, split-children, commit-number}
 pub use Rattle.xc_record.proofs.PathLaws.{straggles-append, straggles-along}
-pub use Rattle.xc_record.proofs.ChildLaws.{children-share-out, child-there, child-is}
+pub use Rattle.xc_record.proofs.ChildLaws.{children-share-out, child-there, split-names}
 pub use Rattle.xc_record.proofs.{ListLaws.Each-filter, ListLaws.Each, SafeLaws.floor-take, SafeLaws.safe_time-rises}
 pub use Rattle.xc_record.specs.Accepted.{AcceptedTablet, accepted, accepted_tablets_after, accepted_tablet_after, start_after}
 pub use Rattle.xc_record.specs.Accepted.{reached_after, root_start, child_start, accepted_tablet, records, halt_from, halt_of, parent_of}
@@ -44,7 +44,7 @@ pub use Rattle.xc_record.specs.SafeTime.{place, is_closed_in, last_safe_in, orde
 pub use Rattle.xc_record.specs.Session.{Position, Session, IsSession, start, places_of, safe_now, new_position, position, IsInOrder}
 pub use Rattle.xc_record.specs.Step.{lines_from, with_position, moved, set_back, acknowledge, poll_step, stop_step, drained, read_at_line}
 pub use Rattle.xc_record.specs.Step.{prune_step, refuses, is_change, awaits, answer_from, drained_to}
-pub use Rattle.xc_record.specs.Valid.{headers_of, kind_fits, split_fits}
+pub use Rattle.xc_record.specs.Valid.{headers_of, kind_fits}
 pub use Rattle.xc_record.specs.{Bounds.SharesOut, Bounds.IsPartition, Bounds.Follows, Hash.holds, Hash.hash_from, Rows.rows_after}
 pub use Rattle.xc_record.specs.declared.{record.Break.Break, record.Header.Header, record.Kind.Kind, record.Logs.Logs, record.Op.Op}
 pub use Rattle.xc_record.specs.declared.{record.Record.Record, record.Tablet.Tablet, headers.Next.Next, session.Command.Command}

@@ -2,13 +2,13 @@
 use Rattle.xc_model.proofs.Common.{◌≡◌, ◌≢◌, ◌==◌, ℕ, zero, suc, ◌+◌, ◌<◌, ◌≤◌, max, Bool, true, false, cond, List, [], ◌∷◌, ◌++◌, take}
 use Rattle.xc_model.proofs.Common.{drop, length, Option, Some, None, refl, ap, sym, ◌∙◌, arith, subst, ◌⊎◌, inl, inr, ⊎_elim, fold, ◌&&◌}
 use Rattle.xc_model.proofs.Common.{◌||◌, ◌-◌, option_map, nat_le, slice_get, slice_index, slice_set, if◌then◌else◌, option_map_or}
-use Rattle.xc_model.proofs.Common.{cases_Bool, cases_eq, and_parts, eqb-true, eq-eqb, true≢false, get_or-set_same, get_or-set_other}
+use Rattle.xc_model.proofs.Common.{cases_Bool, cases_eq, eqb-true, eq-eqb, true≢false, get_or-set_same, get_or-set_other}
 use Rattle.xc_model.proofs.Common.{length-set, length-append, length-map, nil_from_length, same_Some, slice_get_within, slice_get-map, Kind}
 use Rattle.xc_model.proofs.Common.{Header, Record, Tablet, Logs, hash_of, holds, Progress, is_split, accepted_from, after as step_order}
 use Rattle.xc_model.proofs.Common.{AcceptedTablet, accepted_tablets, accepted, record_events, place, order_at, last_safe_in, is_closed_in}
-use Rattle.xc_model.proofs.Common.{is_closed as closed_at, is_started, safe_time, StartsAfter, IsPlaces, headers_of, kind_fits, split_fits}
+use Rattle.xc_model.proofs.Common.{is_closed as closed_at, is_started, safe_time, StartsAfter, IsPlaces, headers_of, kind_fits}
 use Rattle.xc_model.proofs.Common.{children, Numbered, IsGrown, accepted_tablets-grown, steps, floor-take, safe_time-rises, Each-weaker}
-use Rattle.xc_model.proofs.Common.{child-is, FitsTablet, accepted-fit}
+use Rattle.xc_model.proofs.Common.{split-names, FitsTablet, accepted-fit}
 use Rattle.std.specs.Prelude.{◌↔◌}
 use Rattle.std.proofs.lemmas.List.Sums.{fold-append}
 use Rattle.std.proofs.lemmas.List.{drop-drop}
@@ -45,23 +45,6 @@ apart-from n (d ∷ before) b after m = let rest = apart-from (n + 1) before b a
 split-kind : (k : Kind) → is_split k ≡ true → (a : ℕ) × ((left : ℕ) × ((right : ℕ) × (k ≡ log.Split a left right)))
 split-kind (log.Split a left right) e = (a, (left, (right, refl)))
 split-kind _ e = cc
-
--- the children that a split names
-record Named (hs : List Header) (s left right : ℕ) : Type 0 where
-  l : Header
-  r : Header
-  are : children hs s ≡ Some (l, r)
-  is_left : left ≡ l.id
-  is_right : right ≡ r.id
-
-named-by : (hs : List Header) (h : Header) (a left right : ℕ) → kind_fits h (children hs h.id) (log.Split a left right) ≡ true
-    → Named hs h.id left right
-named-by hs h a left right e = go (children hs h.id) refl e
-  where
-    go : (o : Option (Header × Header)) → children hs h.id ≡ o → split_fits o a left right ≡ true → Named hs h.id left right
-    go None q w = cc
-    go (Some pair) q w = let parts = and_parts _ _ (and_parts _ _ w).1 in record
-        { l = pair.0; r = pair.1; are = q; is_left = eqb-true _ _ parts.0; is_right = eqb-true _ _ parts.1 }
 
 parent-is : (q : Option ℕ) (s : ℕ) → (q ≡ Some s) ⊎ (q ≡ Some s → ⊥)
 parent-is None s = inr (λ e. cc)
@@ -273,19 +256,13 @@ module _ (logs : Logs) (u : ℕ) (x y : TargetTablet) (before after : List Accep
 
   -- ---- the children that a split names
 
-  named : (a left right : ℕ) → r.kind ≡ log.Split a left right → Named (headers_of logs.tablets) b.header.id left right
-  named a left right e = named-by (headers_of logs.tablets) b.header a left right
-      (subst (λ k. kind_fits b.header (children (headers_of logs.tablets) b.header.id) k ≡ true) e fits-b)
-
-  -- a tablet is a child of b exactly where it has the number of one
-  child-of : (left right : ℕ) (n : Named (headers_of logs.tablets) b.header.id left right) (d : AcceptedTablet)
+  -- a tablet is a child of b exactly where it has a number that the split names
+  child-of : (a left right : ℕ) → r.kind ≡ log.Split a left right → (d : AcceptedTablet)
       → slice_get (accepted_tablets logs) d.header.id ≡ Some d
       → (d.header.parent ≡ Some b.header.id) ↔ ((d.header.id ≡ left) ⊎ (d.header.id ≡ right))
-  child-of left right n d i = let c = child-is (headers_of logs.tablets) b.header.id d.header.id n.l n.r d.header
-      (valid-headers logs st.valid) n.are (header-get logs d.header.id d st.valid i) in (
-        (λ e. ⊎_elim (λ q. inl (q ∙ sym n.is_left)) (λ q. inr (q ∙ sym n.is_right)) (c.0 e)),
-        (λ e. c.1 (⊎_elim (λ q. inl (q ∙ n.is_left)) (λ q. inr (q ∙ n.is_right)) e)),
-      )
+  child-of a left right e d i = let hs = headers_of logs.tablets in
+      split-names hs b.header.id d.header.id a left right d.header (valid-headers logs st.valid)
+      (subst (λ k. kind_fits b.header (children hs b.header.id) k ≡ true) e fits-b) (header-get logs d.header.id d st.valid i)
 
   not-own-child : b.header.parent ≡ Some b.header.id → ⊥
   not-own-child e =
@@ -293,8 +270,8 @@ module _ (logs : Logs) (u : ℕ) (x y : TargetTablet) (before after : List Accep
 
   not-child : (a left right : ℕ) → r.kind ≡ log.Split a left right → (b.header.id ≢ left) × (b.header.id ≢ right)
   not-child a left right e = (
-    (λ q. not-own-child ((child-of left right (named a left right e) b there).1 (inl q))),
-    (λ q. not-own-child ((child-of left right (named a left right e) b there).1 (inr q))),
+    (λ q. not-own-child ((child-of a left right e b there).1 (inl q))),
+    (λ q. not-own-child ((child-of a left right e b there).1 (inr q))),
   )
 
   below-closed : b.header.id < length x.floors.closed
@@ -372,15 +349,15 @@ module _ (logs : Logs) (u : ℕ) (x y : TargetTablet) (before after : List Accep
     where
       split : is_split r.kind ≡ true → slice_index y.floors.safe d.header.id ≡ last_safe_in y.places d
       split t = let kind = split-kind r.kind t in let left = kind.1.0 in let right = kind.1.1.0 in
-          let names = named kind.0 left right kind.1.1.1 in
+          let child = child-of kind.0 left right kind.1.1.1 d i in
           let set = value-after-split kind.0 left right kind.1.1.1 d.header.id in
           let value = slice_index x.floors.safe b.header.id in
           ⊎_elim
-          (λ e. set ∙ safe-child value left right x.floors.safe d.header.id (below-each d i) ((child-of left right names d i).0 e)
+          (λ e. set ∙ safe-child value left right x.floors.safe d.header.id (below-each d i) (child.0 e)
           ∙ keeps-b.safe up ∙ sym (end-floor t) ∙ sym (child-floor d i e) ∙ sym (first-safe d i e) ∙ sym (safe-same d n))
           (λ e. set
-          ∙ safe-apart value left right x.floors.safe d.header.id (λ q. e ((child-of left right names d i).1 (inl q)))
-          (λ q. e ((child-of left right names d i).1 (inr q))) ∙ k.safe (sym (started-elsewhere d.header.parent e) ∙ started)
+          ∙ safe-apart value left right x.floors.safe d.header.id (λ q. e (child.1 (inl q)))
+          (λ q. e (child.1 (inr q))) ∙ k.safe (sym (started-elsewhere d.header.parent e) ∙ started)
           ∙ sym (safe-same d n))
           (parent-is d.header.parent b.header.id)
 

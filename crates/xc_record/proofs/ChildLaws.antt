@@ -13,6 +13,7 @@ use Rattle.xc_record.specs.declared.headers.Next.TheVariants.{RootAt, LeftChild,
 use Rattle.xc_record.specs.Headers.{is_child_of, hi_of, fits, parent_fits, child_fits, next_after, after_child, fit_from, headers_fit}
 use Rattle.xc_record.specs.Headers.{with_next, children}
 use Rattle.xc_record.specs.Bounds.{SharesOut}
+use Rattle.xc_record.specs.Valid.{split_fits}
 use Rattle.xc_record.specs.RangeLaws.{range, ChildrenShareOut}
 use Rattle.xc_record.proofs.ListLaws.{slice_get-append, filtered-get, get-filtered}
 use Rattle.xc_record.proofs.HeaderLaws.{Numbered-at, headers_fit-all, SplitsOff, splits_off-parts}
@@ -178,7 +179,7 @@ child-there hs id l r e c j x g =
     (f.0, (f.1.0, child-named id x f.1.1))
 
 -- a header names the tablet as its parent exactly where its number is that of a child
-pub child-is : (hs : List Header) (id i : ℕ) (l r h : Header) → headers_fit hs ≡ true → children hs id ≡ Some (l, r)
+child-is : (hs : List Header) (id i : ℕ) (l r h : Header) → headers_fit hs ≡ true → children hs id ≡ Some (l, r)
     → slice_get hs i ≡ Some h → (h.parent ≡ Some id) ↔ ((h.id ≡ l.id) ⊎ (h.id ≡ r.id))
 child-is hs id i l r h e c at = (forth, ⊎_elim (back 0 l refl) (back 1 r refl))
   where
@@ -200,3 +201,16 @@ child-is hs id i l r h e c at = (forth, ⊎_elim (back 0 l refl) (back 1 r refl)
     forth p =
         let g = get-filtered (is_child_of id) hs i h at (named-child id h p) in
         among g.0 (ap (λ w. slice_get w g.0) (sym (children-are hs id l r e c).only) ∙ g.1)
+
+-- a header names the tablet as its parent exactly where its number is one that the tablet's split names
+pub split-names : (hs : List Header) (id i at left right : ℕ) (h : Header) → headers_fit hs ≡ true
+    → split_fits (children hs id) at left right ≡ true → slice_get hs i ≡ Some h
+    → (h.parent ≡ Some id) ↔ ((h.id ≡ left) ⊎ (h.id ≡ right))
+split-names hs id i at left right h e f there = go (children hs id) refl f
+  where
+    go : (o : Option (Header × Header)) → children hs id ≡ o → split_fits o at left right ≡ true
+        → (h.parent ≡ Some id) ↔ ((h.id ≡ left) ⊎ (h.id ≡ right))
+    go None is f = cc
+    go (Some pair) is f =
+        let parts = and_parts _ _ (and_parts _ _ f).1 in
+        rw (eqb-true left pair.0.id parts.0, eqb-true right pair.1.id parts.1) (child-is hs id i pair.0 pair.1 h e is there)

@@ -6,6 +6,7 @@ pub mod WaitingLaws
 pub mod MapLaws
 pub mod HolderLaws
 pub mod UniverseLaws
+pub mod FinishLaws
 pub mod UndoneLaws
 pub mod TabletLaws
 pub mod WorkedScripts

@@ -1,12 +1,11 @@
--- What waits, transaction by transaction; and how far the machine moves on as it is applied.
-use Rattle.std.proofs.Common.{◌≡◌, ℕ, ◌+◌, ◌≤◌, Bool, true, false, List, [], ◌∷◌, ◌++◌, Option, Some, None, if◌then◌else◌, map, filter}
+-- What waits, transaction by transaction.
+use Rattle.std.proofs.Common.{◌≡◌, ℕ, ◌+◌, ◌≤◌, Bool, true, false, List, [], ◌∷◌, ◌++◌, Some, if◌then◌else◌, map, filter}
 use Rattle.std.proofs.Common.{is_some, refl, ap, arith, append-nil, append_assoc, ◌∙◌}
 use Rattle.std.specs.List.{flat_map, slice_get, enumerate_from}
 use Rattle.std.specs.Option.{option_map_or}
 use Rattle.xc_record.specs.declared.record.Tablet.{Tablet}
-use Rattle.xc_source.specs.Machine.{Machine, Transaction, commit_of, transaction, with_transaction, record_count, records_in}
-use Rattle.xc_source.specs.Waiting.{tablets_of, pending_of, pending_by, pending, taken}
-use Rattle.xc_source.specs.Calls.{applied, apply_kind, logged}
+use Rattle.xc_source.specs.Machine.{Machine, Transaction, commit_of}
+use Rattle.xc_source.specs.Waiting.{tablets_of, pending_of, pending_by, pending}
 use Rattle.std.proofs.Common.{◌<◌, length, ◌⊎◌, inl, inr, ⊎_elim, sym, subst, ◌&&◌, ◌-◌, zero, suc, BTreeSet}
 use Rattle.std.specs.BTreeSet as set
 use Rattle.std.proofs.lemmas.Option.{same_Some, slice_get_past}
@@ -24,7 +23,6 @@ use Rattle.xc_source.specs.Machine.{is_open}
 use Rattle.xc_source.specs.Waiting.{waits_on, pending_at}
 use Rattle.xc_source.specs.Holders.{some_waits, numbered}
 use Rattle.xc_source.proofs.BoundLaws.{some-wait}
-use Rattle.xc_source.proofs.TabletLaws.{records_in-grown}
 
 abbrev pub pairs_of : Machine → ℕ × Transaction → List (ℕ × ℕ)
 pairs_of m p = map (λ id. (p.0, id)) (tablets_of m p.1)
@@ -48,37 +46,6 @@ pending-is m (p ∷ ps) = ap (λ xs. pending_of m p.0 p.1 ++ xs) (pending-is m p
 pub pending_whole : (m : Machine) → pending_by m (enumerate_from 1 m.txns) ≡ pending m
 unfolding pending
 pending_whole m = pending-is m (enumerate_from 1 m.txns)
-
-abbrev pub taken_in : ℕ → Transaction → Machine → Option Tablet → Machine
-taken_in n t m o = option_map_or (λ b. with_transaction n (taken b.header t) m) o m
-
-taken-count : (n : ℕ) (t : Transaction) (m : Machine) (o : Option Tablet) → (taken_in n t m o).tablets ≡ m.tablets
-taken-count n t m None = refl
-taken-count n t m (Some b) = refl
-
-taken-time : (n : ℕ) (t : Transaction) (m : Machine) (o : Option Tablet) → (taken_in n t m o).time ≡ m.time
-taken-time n t m None = refl
-taken-time n t m (Some b) = refl
-
-applied-count-of : (n id : ℕ) (m : Machine) (o : Option Transaction)
-    → record_count (option_map_or (λ t. logged id (apply_kind n t) (taken_in n t m (slice_get m.tablets id))) o m) ≤ record_count m + 1
-applied-count-of n id m None = omega arith
-applied-count-of n id m (Some t) =
-    let ts = (taken_in n t m (slice_get m.tablets id)).tablets in
-    let g = records_in-grown id (record { time = (taken_in n t m (slice_get m.tablets id)).time + 1; kind = apply_kind n t }) ts in
-    let e = ap records_in (taken-count n t m (slice_get m.tablets id)) in
-    omega (arith, g, e)
-
-pub applied_count : (n id : ℕ) (m : Machine) → record_count (applied n id m) ≤ record_count m + 1
-applied_count n id m = applied-count-of n id m (transaction m n)
-
-applied-time-of : (n id : ℕ) (m : Machine) (o : Option Transaction)
-    → (option_map_or (λ t. logged id (apply_kind n t) (taken_in n t m (slice_get m.tablets id))) o m).time ≤ m.time + 1
-applied-time-of n id m None = omega arith
-applied-time-of n id m (Some t) = let e = taken-time n t m (slice_get m.tablets id) in omega (arith, e)
-
-pub applied_time : (n id : ℕ) (m : Machine) → (applied n id m).time ≤ m.time + 1
-applied_time n id m = applied-time-of n id m (transaction m n)
 
 -- ---- found by the numbers of those of which something waits
 

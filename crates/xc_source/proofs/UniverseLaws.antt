@@ -137,19 +137,14 @@ unlogged-logged id kind j =
 
 -- ---- an apply
 
-pub apply-next : (n id commit : ℕ) (m : Machine) (j j' : Logged) (cs : List Commit) (ts ts' : List Transaction) (t : Transaction)
-    (b : Tablet)
-    (without : List ℕ) → machine_of j cs ts ≡ m → numbered ts n ≡ Some t → slice_get j.tablets id ≡ Some b → commit_of t.stage ≡ Some commit
-    → without ≡ t.undone → j' ≡ logged_in id (kind.Apply n commit without) j → ts' ≡ changed (taken b.header) n ts
-    → machine_of j' cs ts' ≡ applied n id m
-apply-next n id commit m j j' cs ts ts' t b without e num at c w l s =
+pub apply-next : (n id : ℕ) (m : Machine) (j j' : Logged) (cs : List Commit) (ts ts' : List Transaction) (t : Transaction) (b : Tablet)
+    → machine_of j cs ts ≡ m → numbered ts n ≡ Some t → slice_get j.tablets id ≡ Some b → j' ≡ logged_in id (apply_kind n t) j
+    → ts' ≡ changed (taken b.header) n ts → machine_of j' cs ts' ≡ applied n id m
+apply-next n id m j j' cs ts ts' t b e num at l s =
     let M = machine_of j cs ts in
     let F : Transaction → Machine = λ t. logged id (apply_kind n t)
     (option_map_or (λ (b : Tablet). with_transaction n (taken b.header t) M) (slice_get j.tablets id) M) in
-    let stamped : kind.Apply n commit without ≡ apply_kind n t =
-    ap (λ x. kind.Apply n x without) (ap (λ (o : Option ℕ). option_map_or (λ y. y) o 0) (sym c))
-    ∙ ap (λ x. kind.Apply n (option_map_or (λ y. y) (commit_of t.stage) 0) x) w in
-    ap (λ x. machine_of x cs ts') (l ∙ ap (λ k. logged_in id k j) stamped)
+    ap (λ x. machine_of x cs ts') l
     ∙ ap (λ x. machine_of (logged_in id (apply_kind n t) j) cs x) (s ∙ changed-is (taken b.header) n ts t num)
     ∙ ap (λ (o : Option Tablet). logged id (apply_kind n t) (option_map_or (λ (b : Tablet). with_transaction n (taken b.header t) M) o M))
     (sym at)

@@ -20,7 +20,7 @@ use Rattle.xc_source.specs.declared.command.SourceCommand.TheVariants as command
 use Rattle.xc_source.specs.declared.fail.SourceFail.{SourceFail}
 use Rattle.xc_source.specs.Machine.{Machine, begun, are_roots}
 use Rattle.xc_source.specs.Calls as call
-use Rattle.xc_source.specs.Calls.{Case, Answers, AnswersInPart, unless}
+use Rattle.xc_source.specs.Calls.{Case, Answers, unless}
 use Rattle.xc_source.specs.Commands.{step, run}
 use Rattle.xc_source.specs.Waiting.{open_tablets}
 use Rattle.xc_source.specs.Workload.{key_of, set_op, remove_op, next_txn, commit_commands, abort_commands, safe_commands}
@@ -52,9 +52,6 @@ is_key_of n h =
 -- a call that answers leaves the machine of its case
 answered : {X : Type 0} (a b : Machine) (c : Case X) (x : X) → Answers (Ok x) a b c → b ≡ c.1
 answered a b c x h = ⊎_elim (λ o. let z = o.answer in cc) (λ s. s.machine) h
-
-answered_in_part : {X : Type 0} (b : Machine) (c : Case X) (x : X) → AnswersInPart (Ok x) b c → b ≡ c.1
-answered_in_part b c x h = ⊎_elim (λ o. cc) (λ s. s.machine) h
 
 unless-answer : {X : Type 0} (o : Option SourceFail) (m after : Machine) (x y : X) → Ok y ≡ (unless o m x after).0 → y ≡ x
 unless-answer None m after x y e = cc
@@ -100,9 +97,9 @@ split_run : (id at : ℕ) (m u : Machine) (n : ℕ × ℕ) → Answers (Ok n) m 
 unfolding step
 split_run id at m u n h = answered m u (call.split id at m) n h
 
-finish_run : (m u : Machine) → AnswersInPart (Ok tt) u (call.finish m) → u ≡ run (command.Finish ∷ []) m
+finish_run : (m u : Machine) → Answers (Ok tt) m u (call.finish m) → u ≡ run (command.Finish ∷ []) m
 unfolding step
-finish_run m u h = answered_in_part u (call.finish m) tt h
+finish_run m u h = answered m u (call.finish m) tt h
 
 apply_run : (txn id : ℕ) (m u : Machine) (n : ℕ) (rest : List SourceCommand) → Answers (Ok n) m u (call.apply txn id m)
     → run rest u ≡ run (command.Apply txn id ∷ rest) m
@@ -223,7 +220,7 @@ next_step size step x w y m u whole l e f h =
     ap (λ z. run (commands_from (step + 1) rest z) z) f ∙ sym (run_append cs (commands_from (step + 1) rest (run cs m)) m)
     ∙ ap (λ ws. run (commands_from step ws m) m) (sym front) ∙ h
 
-pub last_step : (size step x : ℕ) (m u whole : Machine) → size + 1 ≤ step → AnswersInPart (Ok tt) u (call.finish m)
+pub last_step : (size step x : ℕ) (m u whole : Machine) → size + 1 ≤ step → Answers (Ok tt) m u (call.finish m)
     → run (commands_from step (first_words mix_u64 (size + 1 - step) x) m) m ≡ whole → u ≡ whole
 last_step size step x m u whole l f h =
     finish_run m u f ∙ ap (λ ws. run (commands_from step ws m) m) (sym (none_drawn size step x l)) ∙ h

@@ -237,12 +237,6 @@ applied_pairs ps m = fold (λ m' p. applied p.0 p.1 m') m ps
 abbrev pub all_applied : Machine → Machine
 all_applied m = applied_pairs (pending m) m
 
-abbrev pub apply_all_refusal : Machine → Option SourceFail
-apply_all_refusal m = no_room m (length (pending m))
-
-abbrev pub apply_all : Machine → Case (Unit {0})
-apply_all m = unless (apply_all_refusal m) m tt (all_applied m)
-
 abbrev pub all_safe : List ℕ → Machine → Machine
 all_safe ids m = fold (λ m' id. with_safe id m') m ids
 
@@ -343,7 +337,3 @@ pub record IsOutOfMemory {X : Type 0} (result : Result X SourceFail) (before aft
 
 abbrev pub Answers : {X : Type 0} → Result X SourceFail → Machine → Machine → Case X → Type 0
 Answers result before after case = IsOutOfMemory result before after ⊎ Steps result after case
-
--- the same, but where memory was out some of the call's records may stand
-abbrev pub AnswersInPart : {X : Type 0} → Result X SourceFail → Machine → Case X → Type 0
-AnswersInPart result after case = (result ≡ Err NoMemory) ⊎ Steps result after case

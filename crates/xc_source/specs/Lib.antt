@@ -4,4 +4,5 @@ pub mod Calls
 pub mod Commands
 pub mod Holders
 pub mod Universe
+pub mod Finish
 pub mod Workload

@@ -3,8 +3,7 @@ ghost use Rattle.xc_source.specs.declared.fail.SourceFail.TheVariants.{NoMemory}
 
 use std::alloc::AllocError;
 
-/// Why a call of the source was refused. It left all as before, but for a `finish` that ran out of memory: some of its
-/// records may stand then.
+/// Why a call of the source was refused. It left all as before.
 #[derive(Clone, Copy, PartialEq, Eq, Debug)]
 pub enum SourceFail {
     /// The transaction of this number was never begun.

@@ -3,8 +3,9 @@ ghost use Rattle.std.specs.Prelude.{◌≡◌, ◌≤◌, ◌<◌, ◌+◌, ◌^
 ghost use Rattle.xc_time.specs.Times.{last_time};
 ghost use Rattle.xc_source.specs.Machine.{empty_tablet, records_in};
 ghost use Rattle.xc_source.specs.Calls.{tablet_in};
-ghost use Rattle.xc_record.specs.declared.record.Kind.TheVariants.{Abort};
+ghost use Rattle.xc_record.specs.declared.record.Kind.TheVariants.{Abort, Safe};
 ghost use Rattle.xc_source.specs.Universe.{logged_in, split_in, stepped, unlogged, unlogged_all, aborts_in};
+ghost use Rattle.xc_source.specs.Finish.{safes_in};
 
 use crate::tablets::{empty_tablets, owner, pop_record, push_record, split_tablets};
 use std::alloc::{AllocError, Global};
@@ -146,7 +147,7 @@ impl Journal {
     }
 
     // Takes back what was logged last, a record on each of these tablets in turn.
-    fn unlog_all(&mut self, ids: &[u32])
+    pub(crate) fn unlog_all(&mut self, ids: &[u32])
         requires { length ids.now ≤ self.old.time }
         ensures { self.new ≡ unlogged_all ids.now self.old }
     {
@@ -182,6 +183,35 @@ impl Journal {
         ensures err { OnErr result (self.new ≡ self.old) }
     {
         let time = self.log(id as usize, Kind::Abort { txn })?;
+        Ok(time)
+    }
+
+    // Logs a safe record at its own time on each of the tablets in turn. After an error all is as before.
+    pub(crate) fn log_safes(&mut self, ids: &[u32]) -> Result<(), AllocError>
+        requires room { records_in self.old.tablets + length ids.now ≤ MOST_RECORDS }
+        requires time { self.old.time + length ids.now ≤ last_time }
+        ensures ok { OnOk result (self.new ≡ safes_in ids.now self.old) }
+        ensures err { OnErr result (self.new ≡ self.old) }
+    {
+        for (i, id) in ids.iter().enumerate() {
+            if self.log_safe(*id).is_err() {
+                self.unlog_all(&ids[..i]);
+                return Err(AllocError);
+            }
+        }
+        Ok(())
+    }
+
+    // Logs a safe record at its own time on the tablet. After an error all is as before.
+    fn log_safe(&mut self, id: u32) -> Result<u64, AllocError>
+        requires room { records_in self.old.tablets < MOST_RECORDS }
+        requires time { self.old.time < last_time }
+        ensures ok { OnOk result (self.new ≡ logged_in id (Safe (self.old.time + 1)) self.old) }
+        ensures count { OnOk result (records_in self.new.tablets ≤ records_in self.old.tablets + 1) }
+        ensures err { OnErr result (self.new ≡ self.old) }
+    {
+        let value = HybridTime::new(self.clock.now() + 1).unwrap();
+        let time = self.log(id as usize, Kind::Safe { value })?;
         Ok(time)
     }
 

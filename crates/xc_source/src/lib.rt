@@ -4,6 +4,7 @@
 mod command;
 mod commit;
 mod fail;
+mod finish;
 mod journal;
 mod tablets;
 #[cfg(test)]

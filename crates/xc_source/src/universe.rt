@@ -3,7 +3,6 @@ ghost use Rattle.std.specs.Prelude.{◌≡◌, ◌≤◌, ◌<◌, ◌+◌, ◌^
 ghost use Rattle.xc_time.specs.Times.{last_time, IsTime};
 ghost use Rattle.std.specs.Option.{option_map};
 ghost use Rattle.std.specs.Prelude.{ℕ, List};
-ghost use Rattle.xc_source.specs.declared.commit.Commit.{Commit as Listed};
 ghost use Rattle.xc_source.specs.Machine.{are_roots, start as new_machine, logs_of, transaction, record_count};
 ghost use Rattle.std.specs.List.{enumerate_from};
 ghost use Rattle.xc_source.specs.Waiting.{pending_at, pending_by, holder, tablets_of, open_tablets, pending};
@@ -12,13 +11,14 @@ ghost use Rattle.xc_source.specs.Calls.{Answers, begin, tick, not_live, no_room,
 ghost use Rattle.xc_source.specs.Calls.{savepoint_refusal, roll_back_refusal, put, put_refusal, write, write_refusal};
 ghost use Rattle.xc_source.specs.Calls.{put_after, write_after, to_transaction};
 ghost use Rattle.xc_source.specs.Calls.{commit, commit_refusal, commit_after, commits_and};
-ghost use Rattle.xc_source.specs.Calls.{apply, apply_refusal, applied, applied_pairs, is_committed, safe};
-ghost use Rattle.xc_source.specs.Calls.{safe_refusal, safe_on, safe_value, with_safe, all_safe, finish, abort};
-ghost use Rattle.xc_source.specs.Calls.{abort_after, tablets_with, AnswersInPart, split};
-ghost use Rattle.xc_source.specs.Calls.{split_refusal, bad_place, apply_all};
+ghost use Rattle.xc_source.specs.Calls.{apply, apply_refusal, applied, all_applied, is_committed, safe};
+ghost use Rattle.xc_source.specs.Calls.{safe_refusal, safe_on, safe_value, with_safe, all_safe, finish};
+ghost use Rattle.xc_source.specs.Calls.{finish_count, abort, abort_after, tablets_with, split, split_refusal};
+ghost use Rattle.xc_source.specs.Calls.{bad_place};
 
-use crate::commit::Commit;
+use crate::commit::{Commit, list, push_commit, unlist};
 use crate::fail::SourceFail;
+use crate::finish::{Pair, log_apply, log_finish, take_all};
 use crate::journal::Journal;
 use crate::tablets::is_open;
 use crate::transaction::{Stage, Transaction};
@@ -56,49 +56,6 @@ impl Model for SourceUniverse {
 
     ghost invariant = { λ u. IsUniverse u.journal.time u.txns };
 }
-
-// Puts a commit behind the others. After an error they are as before.
-fn push_commit(commits: &mut Vec<Commit>, time: u64, txn: u32, ops: Ops) -> Result<(), AllocError>
-    ensures ok { OnOk result (commits.new.items
-        ≡ commits.old.items ++ record { time = time; txn = txn; ops = ops } ∷ []) }
-    ensures err { OnErr result (commits.new.items ≡ commits.old.items) }
-{
-    match commits.push(Commit { time, txn, ops }) {
-        Ok(()) => Ok(()),
-        Err(_) => Err(AllocError),
-    }
-}
-
-// Lists the transaction's commit, unless it wrote nothing. After an error all is as before.
-fn list(
-    alloc: Global,
-    commits: &mut Vec<Commit>,
-    time: u64,
-    txn: u32,
-    t: &Transaction,
-) -> Result<(), AllocError>
-    ensures ok { OnOk result (commits.new.items ≡ commits_and time txn t.now commits.old.items) }
-    ensures err { OnErr result (commits.new.items ≡ commits.old.items) }
-{
-    if t.is_empty() {
-        return Ok(());
-    }
-    let ops = t.kept_ops(alloc)?;
-    push_commit(commits, time, txn, ops)
-}
-
-// Takes back that the transaction's commit was listed last.
-fn unlist(commits: &mut Vec<Commit>, t: &Transaction)
-    ensures { (time txn : ℕ) (cs : List Listed) → commits.old.items ≡ commits_and time txn t.now cs → commits.new.items
-        ≡ cs }
-{
-    if !t.is_empty() {
-        let _ = commits.pop();
-    }
-}
-
-// A transaction and a tablet.
-type Pair = (u32, u32);
 
 // Puts a transaction and a tablet behind the others.
 fn push_pair(pairs: &mut Vec<Pair>, txn: u32, id: u32) -> Result<(), AllocError>
@@ -478,15 +435,7 @@ impl SourceUniverse {
         ensures err { OnErr result (self.new ≡ self.old) }
     {
         let header = self.journal.tablets()[id as usize].header;
-        let t = self.txns.at(txn);
-        let commit = t.commit_time().unwrap();
-        let without = t.undone();
-        let kind = Kind::Apply {
-            txn,
-            commit,
-            without,
-        };
-        let time = self.journal.log(id as usize, kind)?;
+        let time = log_apply(&mut self.journal, txn, self.txns.at(txn), id)?;
         self.txns.take(txn, &header);
         Ok(time)
     }
@@ -665,102 +614,33 @@ impl SourceUniverse {
         self.pending_by()
     }
 
-    // Whether the transaction is committed.
-    fn is_committed(&self, txn: u32) -> bool
-        ensures { result ≡ is_committed self.now txn }
+    // Applies what waits on the tablets and logs the safe records where nothing is against it. After an error all is as
+    // before.
+    fn finish_now(&mut self, pairs: &[Pair], ids: &[u32]) -> Result<(), AllocError>
+        requires pairs { pairs.now ≡ pending self.old }
+        requires ids { ids.now ≡ open_tablets self.old }
+        requires room { record_count self.old + finish_count self.old ≤ MOST_RECORDS }
+        requires time { self.old.time + finish_count self.old ≤ last_time }
+        ensures ok { OnOk result (self.new ≡ all_safe (open_tablets self.old) (all_applied self.old)) }
+        ensures err { OnErr result (self.new ≡ self.old) }
     {
-        matches!(self.stage(txn), Some(Stage::Committed { .. }))
-    }
-
-    // Applies the transaction on the tablet. Nothing is asked of it for another transaction than a committed one.
-    #[tactic(auto, using(crate::proofs::PendingLaws::applied_count, crate::proofs::PendingLaws::applied_time))]
-    fn apply_step(&mut self, txn: u32, id: u32) -> Result<u64, AllocError>
-        requires room { record_count self.old < MOST_RECORDS }
-        requires time { self.old.time < last_time }
-        ensures ok { OnOk result (self.new ≡ applied txn id self.old) }
-        ensures count { OnOk result (record_count self.new ≤ record_count self.old + 1) }
-        ensures times { OnOk result (self.new.time ≤ self.old.time + 1) }
-    {
-        if !self.is_committed(txn) || id as usize >= self.journal.tablets().len() {
-            return Err(AllocError);
-        }
-        match self.apply_now(txn, id) {
-            Ok(time) => Ok(time),
-            Err(fail) => Err(fail),
-        }
-    }
-
-    // Applies transactions on tablets, one pair after another.
-    fn apply_pairs(&mut self, pairs: &[Pair]) -> Result<(), AllocError>
-        requires room { record_count self.old + length pairs.now ≤ MOST_RECORDS }
-        requires time { self.old.time + length pairs.now ≤ last_time }
-        ensures ok { OnOk result (self.new ≡ applied_pairs pairs.now self.old) }
-        ensures count { OnOk result (record_count self.new ≤ record_count self.old + length pairs.now) }
-        ensures times { OnOk result (self.new.time ≤ self.old.time + length pairs.now) }
-    {
-        for pair in pairs {
-            self.apply_step(pair.0, pair.1)?;
-        }
-        Ok(())
-    }
-
-    // Applies all that committed transactions have waiting, by transaction and tablet. `Full` exactly where there would
-    // be more than 2^20 records, else `ClockEnd` exactly where too few times are left. After `NoMemory` some of the
-    // records may stand.
-    pub(crate) fn apply_all(&mut self) -> Result<(), SourceFail>
-        ensures { AnswersInPart result self.new (apply_all self.old) }
-    {
-        let pairs = self.pending()?;
-        if let Some(fail) = self.no_room(pairs.len()) {
-            return Err(fail);
-        }
-        self.apply_pairs(&pairs)?;
-        Ok(())
-    }
-
-    // Logs a safe record on the tablet. Nothing is asked of it for a tablet that isn't there.
-    fn safe_step(&mut self, id: u32) -> Result<u64, AllocError>
-        requires room { record_count self.old < MOST_RECORDS }
-        requires time { self.old.time < last_time }
-        ensures ok { OnOk result (self.new ≡ with_safe id self.old) }
-        ensures count { OnOk result (record_count self.new ≤ record_count self.old + 1) }
-        ensures times { OnOk result (self.new.time ≤ self.old.time + 1) }
-    {
-        if id as usize >= self.journal.tablets().len() {
-            return Err(AllocError);
-        }
-        match self.safe_now(id) {
-            Ok(value) => Ok(value),
-            Err(fail) => Err(fail),
-        }
-    }
-
-    // Logs a safe record on each of the tablets.
-    fn safe_all(&mut self, ids: &[u32]) -> Result<(), AllocError>
-        requires room { record_count self.old + length ids.now ≤ MOST_RECORDS }
-        requires time { self.old.time + length ids.now ≤ last_time }
-        ensures { OnOk result (self.new ≡ all_safe ids.now self.old) }
-    {
-        for id in ids {
-            self.safe_step(*id)?;
-        }
+        log_finish(self.alloc, &mut self.journal, &self.txns, pairs, ids)?;
+        take_all(&mut self.txns, self.journal.tablets(), pairs);
         Ok(())
     }
 
     /// Applies all that committed transactions have waiting, by transaction and tablet, and then logs a safe record on
     /// each open tablet by number. `Full` exactly where there would be more than 2^20 records, else `ClockEnd` exactly
-    /// where too few times are left. After `NoMemory` some of the records may stand.
+    /// where too few times are left.
     pub fn finish(&mut self) -> Result<(), SourceFail>
-        ensures { AnswersInPart result self.new (finish self.old) }
+        ensures { Answers result self.old self.new (finish self.old) }
     {
         let pairs = self.pending()?;
         let ids = self.open_tablets()?;
         if let Some(fail) = self.no_room(pairs.len() + ids.len()) {
             return Err(fail);
         }
-        self.apply_pairs(&pairs)?;
-        self.safe_all(&ids)?;
-        Ok(())
+        Ok(self.finish_now(&pairs, &ids)?)
     }
 
     // The tablets on which something of the transaction of this number waits.

@@ -5,7 +5,7 @@ use Rattle.std.proofs.Common.{Result, Ok, Err, refl, sym, ap, ◌∙◌, inl, in
 use Rattle.std.specs.List.{list_all}
 use Rattle.std.specs.Result.{result_err}
 use Rattle.std.proofs.lemmas.List.Sums.{AllPass-from_list_all}
-use Rattle.xc_source.specs.Calls.{Answers, AnswersInPart, Case}
+use Rattle.xc_source.specs.Calls.{Answers, Case}
 use Rattle.xc_source.specs.Commands.{made_after, made_from, only_refusal, refusal_of, step}
 use Rattle.xc_source.specs.Machine.{Machine}
 use Rattle.xc_source.specs.declared.command.SourceCommand.{SourceCommand}
@@ -23,18 +23,11 @@ same_refusal (Ok x) = refl
 same_refusal (Err e) = refl
 
 -- a call did what its case says, so the command did
-pub did_in_part : {X : Type 0} (answer : Result X SourceFail) (result : Result (Unit {0}) SourceFail) (after : Machine) (case : Case X)
-    → result_err result ≡ result_err answer → AnswersInPart answer after case → Did result after (only_refusal case)
-did_in_part answer result after case e h = elim h [
-  | inl out ↦ inl (err_is result NoMemory (e ∙ ap result_err out))
-  | inr is ↦ inr (record { refusal = e ∙ ap result_err is.answer ∙ same_refusal case.0; machine = is.machine })
-]
-
 pub did : {X : Type 0} (answer : Result X SourceFail) (result : Result (Unit {0}) SourceFail) (before after : Machine) (case : Case X)
     → result_err result ≡ result_err answer → Answers answer before after case → Did result after (only_refusal case)
 did answer result before after case e h = elim h [
-  | inl out ↦ did_in_part answer result after case e (inl out.answer)
-  | inr is ↦ did_in_part answer result after case e (inr is)
+  | inl out ↦ inl (err_is result NoMemory (e ∙ ap result_err out.answer))
+  | inr is ↦ inr (record { refusal = e ∙ ap result_err is.answer ∙ same_refusal case.0; machine = is.machine })
 ]
 
 pub allowed_at : (cs : List SourceCommand) (i : ℕ) (d : SourceCommand) → list_all is_allowed cs ≡ true → i < length cs

@@ -1,6 +1,6 @@
 use Rattle.std.proofs.Common.{refl}
 use Rattle.xc_source.specs.Commands.{step}
-use Rattle.xc_source_script.proofs.MadeLaws.{did, did_in_part}
+use Rattle.xc_source_script.proofs.MadeLaws.{did}
 use Rattle.xc_source_script.proofs.making.do_command.Goals as goal
 
 pub returns-in-Begin : goal.returns-in-Begin
@@ -41,7 +41,7 @@ returns-in-Tick c = rw c.in-Tick.is (did _ _ _ _ _ refl c.tick.ensures)
 
 pub returns-in-Finish : goal.returns-in-Finish
 unfolding step
-returns-in-Finish c = rw c.in-Finish.is (did_in_part _ _ _ _ refl c.finish.ensures)
+returns-in-Finish c = rw c.in-Finish.is (did _ _ _ _ _ refl c.finish.ensures)
 
 pub returns-in-Savepoint : goal.returns-in-Savepoint
 unfolding step

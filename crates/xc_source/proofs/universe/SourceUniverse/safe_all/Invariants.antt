@@ -1,9 +1,0 @@
-use Rattle.std.proofs.Common.{◌≡◌, ◌≤◌, ◌+◌, take}
-use Rattle.xc_source.specs.Machine.{record_count}
-use Rattle.xc_source.specs.Calls.{all_safe}
-use Rattle.xc_source.proofs.universe.SourceUniverse.safe_all.Given as goal
-
-abbrev pub invariant-loop-id : goal.invariant-loop-id
-invariant-loop-id l =
-    (l.self ≡ all_safe (take l.id-index l.ids) l.fn.self) × (record_count l.self ≤ record_count l.fn.self + l.id-index)
-    × (l.self.time ≤ l.fn.self.time + l.id-index)

@@ -19,4 +19,4 @@ pub use commit::Commit;
 pub use fail::SourceFail;
 pub use transaction::{Provisional, Stage};
 pub use universe::SourceUniverse;
-pub use workload::generate;
+pub use workload::{MOST_STEPS, generate};

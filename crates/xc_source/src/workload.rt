@@ -17,6 +17,9 @@ use std::alloc::{AllocError, Global};
 use xc_base::{Key, MOST_TABLETS, NoMemory, Value};
 use xc_record::{Header, Op, Tablet};
 
+/// A workload has 100,000 steps at most.
+pub const MOST_STEPS: u64 = 100_000;
+
 // How many keys there are, and how many values.
 const NAMES: u64 = 1000;
 
@@ -242,7 +245,7 @@ fn do_step(u: &mut SourceUniverse, alloc: Global, step: u64, word: u64) -> Resul
 
 // The steps from 1 to `size`, and a finish.
 fn do_steps(u: &mut SourceUniverse, alloc: Global, number: u64, size: u64) -> Result<(), SourceFail>
-    requires { size ≤ 100000 }
+    requires { size ≤ MOST_STEPS }
     ensures { OnOk result (u.new ≡ run (commands_from 1 (words number size) u.old) u.old) }
 {
     let mut rng = SplitMix64::from_seed(number.to_le_bytes());
@@ -253,8 +256,8 @@ fn do_steps(u: &mut SourceUniverse, alloc: Global, number: u64, size: u64) -> Re
     Ok(())
 }
 
-/// The source after the workload that a number and a size make: `size` steps, 1 to 100,000, on four tablets from time
-/// 0, each of which does what the next word of SplitMix64 says, seeded with the number; and a finish.
+/// The source after the workload that a number and a size make: `size` steps, 1 to [`MOST_STEPS`], on four tablets from
+/// time 0, each of which does what the next word of SplitMix64 says, seeded with the number; and a finish.
 ///
 /// A word puts or removes a key, commits a transaction of two writes, aborts one of a write, applies all that waits, or
 /// logs a safe time; every 1000 steps the widest open tablet is split, until there are 16 tablets. `NoMemory` where
@@ -262,7 +265,7 @@ fn do_steps(u: &mut SourceUniverse, alloc: Global, number: u64, size: u64) -> Re
 #[tactic(auto, unfolding(crate::specs::Workload::workload, crate::specs::Workload::generated))]
 pub fn generate(alloc: Global, number: u64, size: u64) -> Result<SourceUniverse, NoMemory>
     requires some { 1 ≤ size }
-    requires few { size ≤ 100000 }
+    requires few { size ≤ MOST_STEPS }
     ensures { IfOk result (λ u. u ≡ generated number size) }
 {
     let roots = [

@@ -12,6 +12,7 @@ use Rattle.xc_source.specs.declared.command.SourceCommand.{SourceCommand}
 use Rattle.xc_source.specs.declared.command.SourceCommand.TheVariants as command
 use Rattle.xc_source.specs.declared.fail.SourceFail.TheVariants.{Unknown, Ended, Conflict, Full}
 use Rattle.xc_source.specs.declared.transaction.Provisional.{Provisional}
+use Rattle.xc_source.specs.declared.workload.TheConstants.{MOST_STEPS}
 use Rattle.xc_source.specs.Machine.{Machine, Transaction, transaction, with_transaction, begun, is_live}
 use Rattle.xc_source.specs.Waiting.{tablets_of}
 use Rattle.xc_source.specs.Calls as call
@@ -28,7 +29,7 @@ pub record Did (c : SourceCommand) (m : Machine) (xs : List Transaction) (t : Tr
   pub own : Own (step c m).1 xs t
   pub little : Little a m (step c m).1
 
-pub did-begin : (m : Machine) → length m.txns ≤ 100000 → Did command.Begin m m.txns begun 0
+pub did-begin : (m : Machine) → length m.txns ≤ MOST_STEPS → Did command.Begin m m.txns begun 0
 unfolding step
 did-begin m l =
     let e : call.begin_refusal m ≡ None = no-when _ Full (grind (arith, nat_tests, l)) in

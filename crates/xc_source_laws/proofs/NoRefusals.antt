@@ -23,6 +23,7 @@ use Rattle.xc_model.proofs.Parents.{each-get}
 use Rattle.xc_source.specs.declared.command.SourceCommand.{SourceCommand}
 use Rattle.xc_source.specs.declared.command.SourceCommand.TheVariants as command
 use Rattle.xc_source.specs.declared.fail.SourceFail.TheVariants.{NotOpen, BadPlace, Full, Conflict}
+use Rattle.xc_source.specs.declared.workload.TheConstants.{MOST_STEPS}
 use Rattle.xc_source.specs.Machine.{Machine, begun, is_open, record_count, records_in, start, are_roots}
 use Rattle.xc_source.specs.Waiting.{open_tablets}
 use Rattle.xc_source.specs.Calls as call
@@ -60,7 +61,7 @@ record Ready (m : Machine) : Type 0 where
   idle : Each NotLive m.txns
   load : record_count m + waiting m + 8 ≤ 2 ^ 20
   clock : m.time + waiting m + 8 ≤ last_time
-  begun : length m.txns ≤ 100000
+  begun : length m.txns ≤ MOST_STEPS
 
 -- the commands are answered, and no transaction is live after them
 record Fine (cs : List SourceCommand) (m : Machine) : Type 0 where
@@ -381,7 +382,7 @@ no-split i m b = record {
   few = b.few;
 }
 
-one-split : (i : ℕ) (m : Machine) (p : ℕ × Tablet) → i < 100000 → length m.tablets < 16 → IsWidest m p → Between i m
+one-split : (i : ℕ) (m : Machine) (p : ℕ × Tablet) → i < MOST_STEPS → length m.tablets < 16 → IsWidest m p → Between i m
     → IsSplit i m (command.Split p.0 (middle p.1.header) ∷ [])
 unfolding step
 one-split i m p l few w b =
@@ -414,7 +415,7 @@ one-split i m p l few w b =
       few = done.few;
     }
 
-split-answered : (i n : ℕ) (m : Machine) → i < 100000 → Between i m → IsSplit i m (split_commands n m)
+split-answered : (i n : ℕ) (m : Machine) → i < MOST_STEPS → Between i m → IsSplit i m (split_commands n m)
 unfolding split_commands
 split-answered i n m l b = by (is_split_due n m.tablets) refl
   where
@@ -432,7 +433,7 @@ record IsStep (i : ℕ) (m : Machine) (cs : List SourceCommand) : Type 0 where
   answered : AllAnswered cs m
   after : Between (i + 1) (run cs m)
 
-step-answered : (i w : ℕ) (m : Machine) → i < 100000 → Between i m → IsStep i m (step_commands (i + 1) w m)
+step-answered : (i w : ℕ) (m : Machine) → i < MOST_STEPS → Between i m → IsStep i m (step_commands (i + 1) w m)
 step-answered i w m l b =
     let cs = split_commands (i + 1) m in
     let u = run cs m in
@@ -465,7 +466,7 @@ step-answered i w m l b =
       after = subst (Between (i + 1)) (sym (run_append cs ws m)) between;
     }
 
-finish-answered : (i : ℕ) (m : Machine) → i ≤ 100000 → Between i m → AllAnswered (command.Finish ∷ []) m
+finish-answered : (i : ℕ) (m : Machine) → i ≤ MOST_STEPS → Between i m → AllAnswered (command.Finish ∷ []) m
 unfolding step
 finish-answered i m l b =
     let roomy : RoomToApply m = record { records = let x = b.load in omega arith; times = let x = b.clock in omega arith } in
@@ -481,7 +482,7 @@ finish-answered i m l b =
     (not-full m (call.finish_count m) room, (not-ended m (call.finish_count m) room, tt)) in
     (answers (call.finish_refusal m) m tt (call.all_safe (open_tablets m) (call.all_applied m)) e, tt)
 
-steps-answered : (i : ℕ) (ws : List ℕ) (m : Machine) → i + length ws ≤ 100000 → Between i m → AllAnswered (commands_from (i + 1) ws m) m
+steps-answered : (i : ℕ) (ws : List ℕ) (m : Machine) → i + length ws ≤ MOST_STEPS → Between i m → AllAnswered (commands_from (i + 1) ws m) m
 steps-answered i [] m l b = finish-answered i m (let z : length {A = ℕ} [] ≡ 0 = refl in omega arith) b
 steps-answered i (w ∷ ws) m l b =
     let z : length (w ∷ ws) ≡ suc (length ws) = refl in
@@ -508,7 +509,7 @@ begins = record {
   few = lit≤ tt;
 }
 
-pub all-answered : (number size : ℕ) → size ≤ 100000 → AllAnswered (workload.workload number size) (start four_roots 0)
+pub all-answered : (number size : ℕ) → size ≤ MOST_STEPS → AllAnswered (workload.workload number size) (start four_roots 0)
 unfolding workload.workload
 all-answered number size l =
     steps-answered 0 (words number size) (start four_roots 0) (let z = length_words number size in omega arith) begins

@@ -7,6 +7,7 @@ use Rattle.xc_record.specs.declared.record.Header.{Header}
 use Rattle.xc_record.specs.Commits.{commits}
 use Rattle.xc_record.specs.SafeTime.{safe_time}
 use Rattle.xc_source.specs.declared.command.SourceCommand.{SourceCommand}
+use Rattle.xc_source.specs.declared.workload.TheConstants.{MOST_STEPS}
 use Rattle.xc_source.specs.Machine.{Machine, start, are_roots, logs_of}
 use Rattle.xc_source.specs.Calls.{finish}
 use Rattle.xc_source.specs.Commands.{run}
@@ -25,4 +26,4 @@ FinishedLogsAreWhole = (roots : List Header) (time : ℕ) (cs : List SourceComma
 
 -- the finish of a workload is answered
 abbrev pub GeneratedLogsAreWhole : Type 0
-GeneratedLogsAreWhole = (number size : ℕ) → size ≤ 100000 → AreWhole (generated number size)
+GeneratedLogsAreWhole = (number size : ℕ) → size ≤ MOST_STEPS → AreWhole (generated number size)

@@ -1,6 +1,7 @@
 -- The laws of the generated workload: every command of it fits, and none is refused.
 use Rattle.std.specs.Prelude.{◌≡◌, ℕ, ◌≤◌, Ok}
 use Rattle.std.specs.List.{AllByRecursion}
+use Rattle.xc_source.specs.declared.workload.TheConstants.{MOST_STEPS}
 use Rattle.xc_source.specs.Machine.{start}
 use Rattle.xc_source.specs.Commands.{made_from}
 use Rattle.xc_source.specs.Workload.{four_roots, workload, generated}
@@ -12,4 +13,5 @@ WorkloadsFit = (number size : ℕ) → AllByRecursion CommandFits (workload numb
 
 -- each command in its turn is answered, and the machine after them is the generated one
 abbrev pub NoCallIsRefused : Type 0
-NoCallIsRefused = (number size : ℕ) → size ≤ 100000 → made_from 1 (workload number size) (start four_roots 0) ≡ Ok (generated number size)
+NoCallIsRefused = (number size : ℕ) → size ≤ MOST_STEPS
+    → made_from 1 (workload number size) (start four_roots 0) ≡ Ok (generated number size)

@@ -6,13 +6,13 @@ pub fn workloads_fit()
     ensures { WorkloadsFit }
 {}
 
-/// No call of a generated workload of 100,000 steps at most is refused.
+/// No call of a generated workload of at most [`MOST_STEPS`](xc_source::MOST_STEPS) steps is refused.
 pub fn no_call_is_refused()
     ensures { NoCallIsRefused }
 {}
 
-/// After a generated workload of 100,000 steps at most, the commits of the logs are all of the source's list, and the
-/// safe time at the ends of the logs is at or above each of them.
+/// After a generated workload of at most [`MOST_STEPS`](xc_source::MOST_STEPS) steps, the commits of the logs are all
+/// of the source's list, and the safe time at the ends of the logs is at or above each of them.
 pub fn generated_logs_are_whole()
     ensures { GeneratedLogsAreWhole }
 {}

@@ -385,6 +385,15 @@ rests-pending m i b at o n =
         (cases_Bool (is_some (commit_of t.stage))))
         (λ w. inr (λ u f d. ap (waits_on b.header) (same_Some u t (sym f ∙ e)) ∙ w)) (cases_Bool (waits_on b.header t))
 
+all-applied-txns : (m : Machine) → (all_applied m).txns ≡ all_taken (headers_of m.tablets) (pending m) m.txns
+all-applied-txns m =
+    sym (ap (λ (x : Machine). x.txns) (applied-all (pending m) (record { time = m.time; tablets = m.tablets }) m.commits m.txns))
+
+-- when all that is pending is applied, nothing of a committed transaction waits on a tablet that was open before
+pub none-waits : (m : Machine) (i n : ℕ) (b : Tablet) (t : Transaction) → slice_get m.tablets i ≡ Some b → is_open b ≡ true
+    → numbered (all_applied m).txns n ≡ Some t → is_some (commit_of t.stage) ≡ true → waits_on b.header t ≡ false
+none-waits m i n b t at o e c = rests-pending m i b at o n t (subst (λ ts. numbered ts n ≡ Some t) (all-applied-txns m) e) c
+
 none-kept : (h : Header) (us : List Transaction)
     → ((i : ℕ) (t : Transaction) → slice_get us i ≡ Some t → is_some (commit_of t.stage) ≡ true → waits_on h t ≡ false)
     → filter_map (commit_on h) us ≡ []

@@ -198,7 +198,7 @@ finished m k e =
     let a = applying-pending m k in
     let t = applied-time (pending m) m k.books k.base (pending-ready m k.books k.base) in
     let s = safes m.time (open_tablets m) (all_applied m) a.kept a.opened (omega arith) a.time
-    (all-rest m.time m.commits (open_tablets m) _ (all_applied m) a) (λ i b at o. inr (a.all i b at o)) in
+    (all-rest m k) (λ i b at o. inr (a.all i b at o)) in
     record { kept = s.kept; safe = s.safe; rests = s.rests; commits = s.commits ∙ a.commits }
 
 whole : (m : Machine) → AnyKept m → Kept Both m → Kept Both (finish m).1 → Kept TakenSo (finish m).1

@@ -1,6 +1,6 @@
 // A target tablet.
 ghost use Rattle.std.specs.Prelude.{◌≡◌, ◌≤◌, ◌<◌, ◌+◌, ◌-◌, ◌^◌, ℕ, true, None, max, take, drop, length, slice_index};
-ghost use Rattle.std.specs.Prelude.{option_copied, IfOk, OnOk, OnErr, List};
+ghost use Rattle.std.specs.Prelude.{IfOk, OnOk, OnErr, List};
 ghost use Rattle.std.specs.Ordering.{nat_cmp};
 ghost use Rattle.std.specs.Cmp.Lexicographic.{slice_cmp};
 ghost use Rattle.std.specs.FinMap.Entries.{where_key};
@@ -147,12 +147,12 @@ impl TargetTablet {
 
     /// The value of the key at the time `t`, a hybrid time: None exactly where it has none. From the cutoff to `covers`
     /// it is that of the source's rows.
-    pub fn read(&self, key: &Key, t: u64) -> Option<&Value>
+    pub fn read(&self, key: &Key, t: u64) -> Option<Value>
         requires { in_range self.now key.now ≡ true }
-        ensures value { option_copied result ≡ read t (kept_at self.now key.now) }
+        ensures value { result ≡ read t (kept_at self.now key.now) }
         // For logs that agree it is the row of the logs at that time.
         ensures shows { (logs : Logs) (u : ℕ) → StandsFor logs u self.now → disagreement logs ≡ None → u ≤ t
-            → t ≤ covers logs self.now → option_copied result ≡ row logs t key.now }
+            → t ≤ covers logs self.now → result ≡ row logs t key.now }
     {
         self.state.contents.versions.at(key, t)
     }

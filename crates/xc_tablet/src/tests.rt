@@ -242,7 +242,7 @@ fn shown(x: &TargetTablet, key: &str, t: u64) -> Option<Value> {
     if hash < lo || hi < hash {
         return None;
     }
-    x.read(&key, t).copied()
+    x.read(&key, t)
 }
 
 fn value(text: &str) -> Option<Value> {

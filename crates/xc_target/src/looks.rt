@@ -1,5 +1,5 @@
 // What the tablets and the pollers of a target show.
-ghost use Rattle.std.specs.Prelude.{◌≡◌, option_copied};
+ghost use Rattle.std.specs.Prelude.{◌≡◌};
 ghost use Rattle.xc_target.specs.Target.{least_open, shown_at};
 
 use xc_base::{Key, Value};
@@ -21,8 +21,8 @@ pub(crate) fn least_open(pollers: &[Poller]) -> u64
 }
 
 /// The value of the key at the time `t`, in the tablet whose range has it.
-pub(crate) fn shown<'a>(tablets: &'a [TargetTablet], key: &Key, t: u64) -> Option<&'a Value>
-    ensures { option_copied result ≡ shown_at t key.now tablets.now }
+pub(crate) fn shown(tablets: &[TargetTablet], key: &Key, t: u64) -> Option<Value>
+    ensures { result ≡ shown_at t key.now tablets.now }
 {
     let at = hash(key);
     for tablet in tablets {

@@ -1,6 +1,6 @@
 // The target of a replication session.
 ghost use Rattle.std.specs.Prelude.{◌≡◌, ◌<◌, ◌≤◌, ◌+◌, ℕ, true, map, drop, Option, None, Some, Err, length, List};
-ghost use Rattle.std.specs.Prelude.{option_copied, IfOk, IfErr, IfSome, IsErrOf};
+ghost use Rattle.std.specs.Prelude.{IfOk, IfErr, IfSome, IsErrOf};
 ghost use Rattle.xc_base.specs.Causes.{Rose};
 ghost use Rattle.xc_record.specs.Bounds.{are_bounds};
 ghost use Rattle.xc_record.specs.Headers.{are_headers};
@@ -358,21 +358,21 @@ impl Target {
     }
 
     /// The value of the key at the safe time: None where it has none.
-    pub fn read(&self, key: &Key) -> Option<&Value>
+    pub fn read(&self, key: &Key) -> Option<Value>
         ensures { (logs : Logs) (m : Session) → IsSession logs m → StandsForSession logs m self.now
             → disagreement logs ≡ None
-            → option_copied result ≡ row logs (safe_now logs m) key.now }
+            → result ≡ row logs (safe_now logs m) key.now }
     {
         shown(&self.tablets, key, least_open(&self.pollers))
     }
 
     /// The value of the key at the hybrid time `u`: Ahead exactly where it is later than the safe time, else Pruned
     /// exactly where it is before the cutoff.
-    pub fn read_at(&self, u: u64, key: &Key) -> Result<Option<&Value>, NotReadable>
+    pub fn read_at(&self, u: u64, key: &Key) -> Result<Option<Value>, NotReadable>
         ensures shows { (logs : Logs) (m : Session) → IsSession logs m → StandsForSession logs m self.now
             → disagreement logs ≡ None
             → IfOk result (λ value. (m.cutoff ≤ u)
-            × ((u ≤ safe_now logs m) × (option_copied value ≡ row logs u key.now))) }
+            × ((u ≤ safe_now logs m) × (value ≡ row logs u key.now))) }
         ensures refuses { (logs : Logs) (m : Session) → IsSession logs m → StandsForSession logs m self.now
             → IfErr result (IsNotReadable logs m u) }
     {

@@ -223,7 +223,7 @@ fn scanned(target: &Target, alloc: Global) -> Answer {
     Answer::Rows(rows.len(), begins(rows.first()), begins(rows.last()))
 }
 
-fn row(value: Option<&Value>) -> Answer {
+fn row(value: Option<Value>) -> Answer {
     Answer::Row(value.and_then(|value| value.bytes().first().copied()))
 }
 

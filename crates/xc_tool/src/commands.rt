@@ -169,7 +169,7 @@ fn read(target: &Target, key: &Key) -> Line
     Line::Read {
         t: target.safe(),
         key: *key,
-        value: target.read(key).copied(),
+        value: target.read(key),
     }
 }
 
@@ -181,7 +181,7 @@ fn read_at(target: &Target, u: u64, key: &Key) -> Line
         Ok(value) => Line::ReadAt {
             u,
             key: *key,
-            value: value.copied(),
+            value,
         },
         Err(NotReadable::Ahead { safe }) => Line::Ahead { u, safe },
         Err(NotReadable::Pruned { cutoff }) => Line::Pruned { u, cutoff },

@@ -5,7 +5,7 @@ use Rattle.std.proofs.lemmas.Bool.{cases_Bool, ltb-true, ltb-false}
 use Rattle.std.proofs.lemmas.List.{get_or-map, map-set, take-map, drop-map, map-append, get_or-set_same, length-map}
 use Rattle.xc_versions.specs.declared.page.Page.{Page}
 use Rattle.xc_versions.specs.Stored.{kept, pruned_before}
-use Rattle.xc_versions.specs.Pages.{items_of, IsPaged}
+use Rattle.xc_versions.specs.Pages.{held, items_of, IsPaged}
 use Rattle.xc_versions.specs.Dues.{dues_of, Shrunk, Grew}
 use Rattle.xc_versions.proofs.VersionLaws.{kept-before}
 use Rattle.xc_versions.proofs.PageLaws.{items-from}
@@ -68,31 +68,35 @@ grew-two old new i n q r s h e d f g =
 
 -- ---- pages that a prune passes by
 
-idle-step : (u : ℕ) (old mid : List Page) (i : ℕ) → IsPaged old [] → IsPaged mid [] → Walked (kept u) old mid (i + 1)
-    → u < get_or (dues_of mid) i 0 → Walked (kept u) old mid i
-idle-step u old mid i g h w early =
+idle-step : (b : List ℕ) (u : ℕ) (old mid : List Page) (i : ℕ) → IsPaged b old [] → IsPaged b mid [] → Walked b (kept u) old mid (i + 1)
+    → u < get_or (dues_of mid) i 0 → Walked b (kept u) old mid i
+idle-step b u old mid i g h w early =
     let within = w.within in
     let short = w.short in
-    walked-some (kept u) (pruned_before u) old mid mid i w refl
+    walked-some b (kept u) (pruned_before u) old mid mid i w refl
     (λ q e.
     let is = due-at mid i q (omega arith) e in
-    items-from mid i q (omega arith) e
-    ∙ sym (pruned-idle u q.items.items (items_of (drop (i + 1) mid)) (order-at mid i q h (omega arith) e)
-    (idle-at mid i q h (omega arith) e u (omega arith))))
-    (λ q e. sym (kept-before u q.items.items (items_of (drop (i + 1) old)) (order-at old i q g (omega arith) e)))
+    items-from b mid i q (omega arith) e
+    ∙ sym (pruned-idle u (held b q) (items_of b (drop (i + 1) mid)) (order-at b mid i q h (omega arith) e)
+    (idle-at b mid i q h (omega arith) e u (omega arith))))
+    (λ q e. sym (kept-before u (held b q) (items_of b (drop (i + 1) old)) (order-at b old i q g (omega arith) e)))
 
 -- all from first on, up to first + n
-idle-steps : (u : ℕ) (old mid : List Page) (first n : ℕ) → IsPaged old [] → IsPaged mid [] → Walked (kept u) old mid (first + n)
-    → ((k : ℕ) → first ≤ k → k < first + n → u < get_or (dues_of mid) k 0) → Walked (kept u) old mid first
-idle-steps u old mid first zero g h w early = let same : first + 0 ≡ first = omega arith in subst (λ k. Walked (kept u) old mid k) same w
-idle-steps u old mid first (suc n) g h w early =
+idle-steps : (b : List ℕ) (u : ℕ) (old mid : List Page) (first n : ℕ) → IsPaged b old [] → IsPaged b mid []
+    → Walked b (kept u) old mid (first + n)
+    → ((k : ℕ) → first ≤ k → k < first + n → u < get_or (dues_of mid) k 0) → Walked b (kept u) old mid first
+idle-steps b u old mid first zero g h w early =
+    let same : first + 0 ≡ first = omega arith in subst (λ k. Walked b (kept u) old mid k) same w
+idle-steps b u old mid first (suc n) g h w early =
     let same : first + suc n ≡ (first + n) + 1 = omega arith in
-    idle-steps u old mid first n g h
-    (idle-step u old mid (first + n) g h (subst (λ k. Walked (kept u) old mid k) same w) (early (first + n) (omega arith) (omega arith)))
+    idle-steps b u old mid first n g h
+    (idle-step b u old mid (first + n) g h (subst (λ k. Walked b (kept u) old mid k) same w)
+    (early (first + n) (omega arith) (omega arith)))
     (λ k l m. early k l (omega arith))
 
-pub passed-by : (u : ℕ) (old mid : List Page) (first i : ℕ) → IsPaged old [] → IsPaged mid [] → Walked (kept u) old mid i → first ≤ i
-    → ((k : ℕ) → first ≤ k → k < i → u < get_or (dues_of mid) k 0) → Walked (kept u) old mid first
-passed-by u old mid first i g h w l early =
+pub passed-by : (b : List ℕ) (u : ℕ) (old mid : List Page) (first i : ℕ) → IsPaged b old [] → IsPaged b mid []
+    → Walked b (kept u) old mid i → first ≤ i
+    → ((k : ℕ) → first ≤ k → k < i → u < get_or (dues_of mid) k 0) → Walked b (kept u) old mid first
+passed-by b u old mid first i g h w l early =
     let same : i ≡ first + (i - first) = omega arith in
-    idle-steps u old mid first (i - first) g h (subst (λ k. Walked (kept u) old mid k) same w) (λ k a b. early k a (omega arith))
+    idle-steps b u old mid first (i - first) g h (subst (λ k. Walked b (kept u) old mid k) same w) (λ k a b. early k a (omega arith))

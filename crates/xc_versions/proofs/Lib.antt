@@ -2,9 +2,13 @@ pub mod StoredOrder
 pub mod VersionLaws
 pub mod ShownLaws
 pub mod RowsSeenLaws
+pub mod SlotLaws
+pub mod ArenaLaws
 pub mod SplitLaws
 pub mod PageLaws
 pub mod AddLaws
+pub mod MoveLaws
+pub mod CompactLaws
 pub mod PruneLaws
 pub mod SubLaws
 pub mod ShrinkLaws

@@ -1,7 +1,7 @@
 -- Laws of pages: the search by their first versions, a page that gets one more version, and what is due.
 use Rattle.std.proofs.Common.{◌≡◌, ℕ, zero, suc, ◌+◌, ◌-◌, ◌<◌, Bool, true, false, cond, List, [], ◌∷◌, ◌++◌, length, get_or, take, drop}
 use Rattle.std.proofs.Common.{refl, ap, sym, ◌∙◌, subst, arith, append_assoc, append-nil, inl, inr, ⊎_elim, take-append-drop}
-use Rattle.std.proofs.lemmas.List.{drop_more, length-take-le, get_or-take, get_or_default}
+use Rattle.std.proofs.lemmas.List.{drop_more, length-take-le, get_or-take, get_or_default, length-map}
 use Rattle.std.proofs.lemmas.List.Concat.{flat_map-append}
 use Rattle.std.specs.Prelude.{filter, ◌||◌, ◌&&◌, bytes_eq, nat_le}
 use Rattle.std.specs.Ordering.{is_gt}
@@ -19,8 +19,9 @@ use Rattle.xc_versions.specs.declared.stored.StoredVersion.{StoredVersion}
 use Rattle.xc_versions.specs.declared.page.Page.{Page}
 use Rattle.xc_versions.specs.Splits.{Splits, Falls}
 use Rattle.xc_versions.specs.Stored.{stored_cmp, IsBefore, InOrder, with_version, is_replaced}
+use Rattle.xc_versions.specs.Slots.{seen}
 use Rattle.xc_versions.specs.Around.{Around}
-use Rattle.xc_versions.specs.Pages.{items_of, IsPage, is_first_passed, Idle, Dues}
+use Rattle.xc_versions.specs.Pages.{held, items_of, IsPage, is_first_passed, Idle, Dues}
 
 -- ---- lists in parts
 
@@ -47,93 +48,99 @@ falls-before p (x ∷ xs) y ys f e = (
 
 -- ---- the first versions of pages
 
-fails-first : (p : StoredVersion → Bool) (q : Page) (rest : List StoredVersion) → Each (λ x. p x ≡ false) (q.items.items ++ rest)
-    → is_first_passed p q.items.items ≡ false
-fails-first p q rest h = first q.items.items h
+held-some : (b : List ℕ) (q : Page) → IsPage b q → 0 < length (held b q)
+held-some b q g = let long = length-map q.items.items (seen b) in let some = g.some in omega arith
+
+fails-first : (b : List ℕ) (p : StoredVersion → Bool) (q : Page) (rest : List StoredVersion) → Each (λ x. p x ≡ false) (held b q ++ rest)
+    → is_first_passed p (held b q) ≡ false
+fails-first b p q rest h = first (held b q) h
   where
     first : (xs : List StoredVersion) → Each (λ x. p x ≡ false) (xs ++ rest) → is_first_passed p xs ≡ false
     first [] h = refl
     first (x ∷ xs) h = h.0
 
-all-fail : (p : StoredVersion → Bool) (qs : List Page) → Each (λ x. p x ≡ false) (items_of qs)
-    → Each (λ q. is_first_passed p q.items.items ≡ false) qs
-all-fail p [] h = tt
-all-fail p (q ∷ qs) h = (fails-first p q (items_of qs) h, all-fail p qs (each-right (λ x. p x ≡ false) q.items.items (items_of qs) h))
+all-fail : (b : List ℕ) (p : StoredVersion → Bool) (qs : List Page) → Each (λ x. p x ≡ false) (items_of b qs)
+    → Each (λ q. is_first_passed p (held b q) ≡ false) qs
+all-fail b p [] h = tt
+all-fail b p (q ∷ qs) h =
+    (fails-first b p q (items_of b qs) h, all-fail b p qs (each-right (λ x. p x ≡ false) (held b q) (items_of b qs) h))
 
-pub pages-fall : (p : StoredVersion → Bool) (qs : List Page) → Each IsPage qs → Falls p (items_of qs)
-    → Falls (λ q. is_first_passed p q.items.items) qs
-pages-fall p [] h f = tt
-pages-fall p (q ∷ qs) h f = (behind q.items.items h.0.some f, pages-fall p qs h.1 (falls-right p q.items.items (items_of qs) f))
+pub pages-fall : (b : List ℕ) (p : StoredVersion → Bool) (qs : List Page) → Each (IsPage b) qs → Falls p (items_of b qs)
+    → Falls (λ q. is_first_passed p (held b q)) qs
+pages-fall b p [] h f = tt
+pages-fall b p (q ∷ qs) h f = (behind (held b q) (held-some b q h.0) f, pages-fall b p qs h.1 (falls-right p (held b q) (items_of b qs) f))
   where
-    behind : (xs : List StoredVersion) → 0 < length xs → Falls p (xs ++ items_of qs) → is_first_passed p xs ≡ false
-        → Each (λ q. is_first_passed p q.items.items ≡ false) qs
+    behind : (xs : List StoredVersion) → 0 < length xs → Falls p (xs ++ items_of b qs) → is_first_passed p xs ≡ false
+        → Each (λ q. is_first_passed p (held b q) ≡ false) qs
     behind [] l f e = absurd (omega arith)
-    behind (x ∷ xs) l f e = all-fail p qs (each-right (λ x. p x ≡ false) xs (items_of qs) (f.0 e))
+    behind (x ∷ xs) l f e = all-fail b p qs (each-right (λ x. p x ≡ false) xs (items_of b qs) (f.0 e))
 
 -- ---- the pages before and behind the one of a search
 
-pub items_of-append : (ps qs : List Page) → items_of (ps ++ qs) ≡ items_of ps ++ items_of qs
-items_of-append ps qs = flat_map-append (λ (p : Page). p.items.items) ps qs
+pub items_of-append : (b : List ℕ) (ps qs : List Page) → items_of b (ps ++ qs) ≡ items_of b ps ++ items_of b qs
+items_of-append b ps qs = flat_map-append (held b) ps qs
 
 pub at-index : {X : Type 0} (xs : List X) (i : ℕ) (d : X) → i < length xs → xs ≡ take i xs ++ get_or xs i d ∷ drop (i + 1) xs
 at-index xs i d h = sym (take-append-drop i xs) ∙ ap (λ w. take i xs ++ w) (drop_more xs i d h)
 
-heads-fail : (p : StoredVersion → Bool) (qs : List Page) → Each IsPage qs → Falls p (items_of qs)
-    → Each (λ q. is_first_passed p q.items.items ≡ false) qs → Each (λ x. p x ≡ false) (items_of qs)
-heads-fail p [] g f h = tt
-heads-fail p (q ∷ qs) g f h = all q.items.items g.0.some f h.0
+heads-fail : (b : List ℕ) (p : StoredVersion → Bool) (qs : List Page) → Each (IsPage b) qs → Falls p (items_of b qs)
+    → Each (λ q. is_first_passed p (held b q) ≡ false) qs → Each (λ x. p x ≡ false) (items_of b qs)
+heads-fail b p [] g f h = tt
+heads-fail b p (q ∷ qs) g f h = all (held b q) (held-some b q g.0) f h.0
   where
-    all : (xs : List StoredVersion) → 0 < length xs → Falls p (xs ++ items_of qs) → is_first_passed p xs ≡ false
-        → Each (λ x. p x ≡ false) (xs ++ items_of qs)
+    all : (xs : List StoredVersion) → 0 < length xs → Falls p (xs ++ items_of b qs) → is_first_passed p xs ≡ false
+        → Each (λ x. p x ≡ false) (xs ++ items_of b qs)
     all [] l f e = absurd (omega arith)
     all (x ∷ xs) l f e = (e, f.0 e)
 
-pages-before : (p : StoredVersion → Bool) (bs : List Page) (q : Page) (cs : List Page) → IsPage q → Falls p (items_of (bs ++ q ∷ cs))
-    → is_first_passed p q.items.items ≡ true → Each (λ x. p x ≡ true) (items_of bs)
-pages-before p bs q cs g f e = all q.items.items g.some (rw (items_of-append bs (q ∷ cs)) at f) e
+pages-before : (b : List ℕ) (p : StoredVersion → Bool) (bs : List Page) (q : Page) (cs : List Page) → IsPage b q
+    → Falls p (items_of b (bs ++ q ∷ cs))
+    → is_first_passed p (held b q) ≡ true → Each (λ x. p x ≡ true) (items_of b bs)
+pages-before b p bs q cs g f e = all (held b q) (held-some b q g) (rw (items_of-append b bs (q ∷ cs)) at f) e
   where
-    all : (xs : List StoredVersion) → 0 < length xs → Falls p (items_of bs ++ (xs ++ items_of cs)) → is_first_passed p xs ≡ true
-        → Each (λ x. p x ≡ true) (items_of bs)
+    all : (xs : List StoredVersion) → 0 < length xs → Falls p (items_of b bs ++ (xs ++ items_of b cs)) → is_first_passed p xs ≡ true
+        → Each (λ x. p x ≡ true) (items_of b bs)
     all [] l f e = absurd (omega arith)
-    all (x ∷ xs) l f e = falls-before p (items_of bs) x (xs ++ items_of cs) f e
+    all (x ∷ xs) l f e = falls-before p (items_of b bs) x (xs ++ items_of b cs) f e
 
-around : (p : StoredVersion → Bool) (ps : List Page) (n i : ℕ) (d : Page) → Each IsPage ps → Falls p (items_of ps)
-    → Splits (λ q. is_first_passed p q.items.items) n ps → i ≡ n - 1 → i < length ps → Around p ps i
-around p ps zero i d g f s e h =
-    let all = heads-fail p ps g f s.back in
-    let split : items_of ps ≡ items_of (take (i + 1) ps) ++ items_of (drop (i + 1) ps) =
-    ap items_of (sym (take-append-drop (i + 1) ps)) ∙ items_of-append (take (i + 1) ps) (drop (i + 1) ps) in
+around : (b : List ℕ) (p : StoredVersion → Bool) (ps : List Page) (n i : ℕ) (d : Page) → Each (IsPage b) ps → Falls p (items_of b ps)
+    → Splits (λ q. is_first_passed p (held b q)) n ps → i ≡ n - 1 → i < length ps → Around b p ps i
+around b p ps zero i d g f s e h =
+    let all = heads-fail b p ps g f s.back in
+    let split : items_of b ps ≡ items_of b (take (i + 1) ps) ++ items_of b (drop (i + 1) ps) =
+    ap (items_of b) (sym (take-append-drop (i + 1) ps)) ∙ items_of-append b (take (i + 1) ps) (drop (i + 1) ps) in
     let none : i ≡ 0 = omega arith in
     record {
-      before = subst (λ (k : ℕ). Each (λ x. p x ≡ true) (items_of (take k ps))) (sym none) tt;
-      behind = each-right (λ x. p x ≡ false) (items_of (take (i + 1) ps)) (items_of (drop (i + 1) ps))
+      before = subst (λ (k : ℕ). Each (λ x. p x ≡ true) (items_of b (take k ps))) (sym none) tt;
+      behind = each-right (λ x. p x ≡ false) (items_of b (take (i + 1) ps)) (items_of b (drop (i + 1) ps))
           (subst (λ (xs : List StoredVersion). Each (λ x. p x ≡ false) xs) split all);
       first = inl none;
     }
-around p ps (suc m) i d g f s e h =
+around b p ps (suc m) i d g f s e h =
     let same : suc m ≡ i + 1 = omega arith in
-    let s2 : Splits (λ q. is_first_passed p q.items.items) (i + 1) ps =
-    subst (λ (k : ℕ). Splits (λ (q : Page). is_first_passed p q.items.items) k ps) same s in
+    let s2 : Splits (λ q. is_first_passed p (held b q)) (i + 1) ps =
+    subst (λ (k : ℕ). Splits (λ (q : Page). is_first_passed p (held b q)) k ps) same s in
     let cut = at-index ps i d h in
-    let first : is_first_passed p (get_or ps i d).items.items ≡ true =
-    ap (λ (q : Page). is_first_passed p q.items.items) (sym (get_or-take (i + 1) ps i d (omega arith)))
-    ∙ each-at (λ (q : Page). is_first_passed p q.items.items ≡ true) (take (i + 1) ps) i d s2.front
+    let first : is_first_passed p (held b (get_or ps i d)) ≡ true =
+    ap (λ (q : Page). is_first_passed p (held b q)) (sym (get_or-take (i + 1) ps i d (omega arith)))
+    ∙ each-at (λ (q : Page). is_first_passed p (held b q) ≡ true) (take (i + 1) ps) i d s2.front
     (let l = length-take-le (i + 1) ps s2.within in omega arith)
     in
-    let page : IsPage (get_or ps i d) = each-at IsPage ps i d g h in
-    let rest : Each IsPage (drop (i + 1) ps) =
-    each-right IsPage (take (i + 1) ps) (drop (i + 1) ps)
-    (subst (λ (qs : List Page). Each IsPage qs) (sym (take-append-drop (i + 1) ps)) g) in
-    let falls_rest : Falls p (items_of (drop (i + 1) ps)) =
-    falls-right p (items_of (take (i + 1) ps)) (items_of (drop (i + 1) ps))
-    (subst (λ (xs : List StoredVersion). Falls p xs) (ap items_of (sym (take-append-drop (i + 1) ps))
-    ∙ items_of-append (take (i + 1) ps) (drop (i + 1) ps)) f)
+    let page : IsPage b (get_or ps i d) = each-at (IsPage b) ps i d g h in
+    let rest : Each (IsPage b) (drop (i + 1) ps) =
+    each-right (IsPage b) (take (i + 1) ps) (drop (i + 1) ps)
+    (subst (λ (qs : List Page). Each (IsPage b) qs) (sym (take-append-drop (i + 1) ps)) g) in
+    let falls_rest : Falls p (items_of b (drop (i + 1) ps)) =
+    falls-right p (items_of b (take (i + 1) ps)) (items_of b (drop (i + 1) ps))
+    (subst (λ (xs : List StoredVersion). Falls p xs) (ap (items_of b) (sym (take-append-drop (i + 1) ps))
+    ∙ items_of-append b (take (i + 1) ps) (drop (i + 1) ps)) f)
     in
     record {
-      before = pages-before p (take i ps) (get_or ps i d) (drop (i + 1) ps) page (subst (λ (qs : List Page). Falls p (items_of qs)) cut f)
+      before = pages-before b p (take i ps) (get_or ps i d) (drop (i + 1) ps) page
+          (subst (λ (qs : List Page). Falls p (items_of b qs)) cut f)
           first;
-      behind = heads-fail p (drop (i + 1) ps) rest falls_rest s2.back;
-      first = inr (λ q e. ap (λ (r : Page). is_first_passed p r.items.items) (e ∙ get_or_default ps i q d h) ∙ first);
+      behind = heads-fail b p (drop (i + 1) ps) rest falls_rest s2.back;
+      first = inr (λ q e. ap (λ (r : Page). is_first_passed p (held b r)) (e ∙ get_or_default ps i q d h) ∙ first);
     }
 
 -- ---- one more version
@@ -240,31 +247,33 @@ idle-append u [] ys zs i = (tt, i)
 idle-append u (x ∷ xs) ys zs i =
     let rest = idle-append u xs ys zs i.1 in ((ap (λ w. is_replaced u x w) (sym (append_assoc xs ys zs)) ∙ i.0, rest.0), rest.1)
 
-pub shape : (ps qs : List Page) (rest : List StoredVersion) → items_of ps ++ (items_of qs ++ rest) ≡ items_of (ps ++ qs) ++ rest
-shape ps qs rest = sym (append_assoc (items_of ps) (items_of qs) rest) ∙ ap (λ w. w ++ rest) (sym (items_of-append ps qs))
+pub shape : (b : List ℕ) (ps qs : List Page) (rest : List StoredVersion)
+    → items_of b ps ++ (items_of b qs ++ rest) ≡ items_of b (ps ++ qs) ++ rest
+shape b ps qs rest = sym (append_assoc (items_of b ps) (items_of b qs) rest) ∙ ap (λ w. w ++ rest) (sym (items_of-append b ps qs))
 
-pub dues-append : (ps qs : List Page) (rest : List StoredVersion) → Dues ps (items_of qs ++ rest) → Dues qs rest → Dues (ps ++ qs) rest
-dues-append [] qs rest h k = k
-dues-append (p ∷ ps) qs rest h k =
-    (λ u l. subst (λ (w : List StoredVersion). Idle u p.items.items w) (shape ps qs rest) (h.0 u l), dues-append ps qs rest h.1 k)
+pub dues-append : (b : List ℕ) (ps qs : List Page) (rest : List StoredVersion) → Dues b ps (items_of b qs ++ rest) → Dues b qs rest
+    → Dues b (ps ++ qs) rest
+dues-append b [] qs rest h k = k
+dues-append b (p ∷ ps) qs rest h k =
+    (λ u l. subst (λ (w : List StoredVersion). Idle u (held b p) w) (shape b ps qs rest) (h.0 u l), dues-append b ps qs rest h.1 k)
 
-pub dues-left : (ps qs : List Page) (rest : List StoredVersion) → Dues (ps ++ qs) rest → Dues ps (items_of qs ++ rest)
-dues-left [] qs rest h = tt
-dues-left (p ∷ ps) qs rest h =
-    (λ u l. subst (λ (w : List StoredVersion). Idle u p.items.items w) (sym (shape ps qs rest)) (h.0 u l), dues-left ps qs rest h.1)
+pub dues-left : (b : List ℕ) (ps qs : List Page) (rest : List StoredVersion) → Dues b (ps ++ qs) rest → Dues b ps (items_of b qs ++ rest)
+dues-left b [] qs rest h = tt
+dues-left b (p ∷ ps) qs rest h =
+    (λ u l. subst (λ (w : List StoredVersion). Idle u (held b p) w) (sym (shape b ps qs rest)) (h.0 u l), dues-left b ps qs rest h.1)
 
-pub dues-right : (ps qs : List Page) (rest : List StoredVersion) → Dues (ps ++ qs) rest → Dues qs rest
-dues-right [] qs rest h = h
-dues-right (p ∷ ps) qs rest h = dues-right ps qs rest h.1
+pub dues-right : (b : List ℕ) (ps qs : List Page) (rest : List StoredVersion) → Dues b (ps ++ qs) rest → Dues b qs rest
+dues-right b [] qs rest h = h
+dues-right b (p ∷ ps) qs rest h = dues-right b ps qs rest h.1
 
-pub around-some : (p : StoredVersion → Bool) (ps : List Page) (n i : ℕ) → Each IsPage ps → Falls p (items_of ps)
-    → Splits (λ q. is_first_passed p q.items.items) n ps → i ≡ n - 1 → i < length ps → Around p ps i
-around-some p [] n i g f s e h = absurd (omega arith)
-around-some p (q ∷ qs) n i g f s e h = around p (q ∷ qs) n i q g f s e h
+pub around-some : (b : List ℕ) (p : StoredVersion → Bool) (ps : List Page) (n i : ℕ) → Each (IsPage b) ps → Falls p (items_of b ps)
+    → Splits (λ q. is_first_passed p (held b q)) n ps → i ≡ n - 1 → i < length ps → Around b p ps i
+around-some b p [] n i g f s e h = absurd (omega arith)
+around-some b p (q ∷ qs) n i g f s e h = around b p (q ∷ qs) n i q g f s e h
 
-pub items-from : (ps : List Page) (i : ℕ) (q : Page) → i < length ps → q ≡ get_or ps i q
-    → items_of (drop i ps) ≡ q.items.items ++ items_of (drop (i + 1) ps)
-items-from ps i q h e = ap items_of (drop_more ps i q h) ∙ ap (λ (p : Page). p.items.items ++ items_of (drop (i + 1) ps)) (sym e)
+pub items-from : (b : List ℕ) (ps : List Page) (i : ℕ) (q : Page) → i < length ps → q ≡ get_or ps i q
+    → items_of b (drop i ps) ≡ held b q ++ items_of b (drop (i + 1) ps)
+items-from b ps i q h e = ap (items_of b) (drop_more ps i q h) ∙ ap (λ (p : Page). held b p ++ items_of b (drop (i + 1) ps)) (sym e)
 
 -- ---- what passes, where the list falls
 
@@ -276,11 +285,11 @@ pub filter-none : (p : StoredVersion → Bool) (xs : List StoredVersion) → Eac
 filter-none p [] h = refl
 filter-none p (x ∷ xs) h = ap (λ b. cond b (x ∷ filter p xs) (filter p xs)) h.0 ∙ filter-none p xs h.1
 
-pub heads-none : (p : StoredVersion → Bool) (ps : List Page) (n : ℕ) → Each IsPage ps → Falls p (items_of ps)
-    → Splits (λ q. is_first_passed p q.items.items) n ps → n ≡ 0 → filter p (items_of ps) ≡ []
-heads-none p ps n g f s e =
-    filter-none p (items_of ps)
-    (heads-fail p ps g f (subst (λ (k : ℕ). Each (λ (q : Page). is_first_passed p q.items.items ≡ false) (drop k ps)) e s.back))
+pub heads-none : (b : List ℕ) (p : StoredVersion → Bool) (ps : List Page) (n : ℕ) → Each (IsPage b) ps → Falls p (items_of b ps)
+    → Splits (λ q. is_first_passed p (held b q)) n ps → n ≡ 0 → filter p (items_of b ps) ≡ []
+heads-none b p ps n g f s e =
+    filter-none p (items_of b ps)
+    (heads-fail b p ps g f (subst (λ (k : ℕ). Each (λ (q : Page). is_first_passed p (held b q) ≡ false) (drop k ps)) e s.back))
 
 last-of-join : (xs : List StoredVersion) (y : StoredVersion) (ys : List StoredVersion) → last_of (xs ++ y ∷ ys) ≡ last_of (y ∷ ys)
 last-of-join [] y ys = refl
@@ -293,50 +302,52 @@ last-of-taken xs [] n x h = absurd (omega arith)
 last-of-taken xs (y ∷ ys) n x h = last-of-join xs y (take n ys) ∙ last-taken (y ∷ ys) n x h
 
 -- the last that passes, in the page that the search ends at
-pub last-passing : (p : StoredVersion → Bool) (ps : List Page) (i : ℕ) (q : Page) (m : ℕ) (x : StoredVersion) → i < length ps
-    → q ≡ get_or ps i q → Around p ps i → Splits p m q.items.items → 0 < m → x ≡ get_or q.items.items (m - 1) x
-    → last_of (filter p (items_of ps)) ≡ x ∷ []
-last-passing p ps i q m x h e a s l f =
+pub last-passing : (b : List ℕ) (p : StoredVersion → Bool) (ps : List Page) (i : ℕ) (q : Page) (m : ℕ) (x : StoredVersion) → i < length ps
+    → q ≡ get_or ps i q → Around b p ps i → Splits p m (held b q) → 0 < m → x ≡ get_or (held b q) (m - 1) x
+    → last_of (filter p (items_of b ps)) ≡ x ∷ []
+last-passing b p ps i q m x h e a s l f =
     let w = s.within in
-    let cut : items_of ps ≡ items_of (take i ps) ++ (q.items.items ++ items_of (drop (i + 1) ps)) =
-    ap items_of (sym (take-append-drop i ps)) ∙ items_of-append (take i ps) (drop i ps)
-    ∙ ap (λ w. items_of (take i ps) ++ w) (items-from ps i q h e)
+    let cut : items_of b ps ≡ items_of b (take i ps) ++ (held b q ++ items_of b (drop (i + 1) ps)) =
+    ap (items_of b) (sym (take-append-drop i ps)) ∙ items_of-append b (take i ps) (drop i ps)
+    ∙ ap (λ w. items_of b (take i ps) ++ w) (items-from b ps i q h e)
     in
-    let page : filter p q.items.items ≡ take m q.items.items =
-    ap (filter p) (sym (take-append-drop m q.items.items)) ∙ filter-append p (take m q.items.items) (drop m q.items.items)
-    ∙ ap (λ w. w ++ filter p (drop m q.items.items)) (filter-all p (take m q.items.items) s.front)
-    ∙ ap (λ w. take m q.items.items ++ w) (filter-none p (drop m q.items.items) s.back) ∙ append-nil (take m q.items.items)
+    let page : filter p (held b q) ≡ take m (held b q) =
+    ap (filter p) (sym (take-append-drop m (held b q))) ∙ filter-append p (take m (held b q)) (drop m (held b q))
+    ∙ ap (λ w. w ++ filter p (drop m (held b q))) (filter-all p (take m (held b q)) s.front)
+    ∙ ap (λ w. take m (held b q) ++ w) (filter-none p (drop m (held b q)) s.back) ∙ append-nil (take m (held b q))
     in
-    let whole : filter p (items_of ps) ≡ items_of (take i ps) ++ take m q.items.items =
-    ap (filter p) cut ∙ filter-append p (items_of (take i ps)) (q.items.items ++ items_of (drop (i + 1) ps))
-    ∙ ap (λ w. w ++ filter p (q.items.items ++ items_of (drop (i + 1) ps))) (filter-all p (items_of (take i ps)) a.before)
-    ∙ ap (λ w. items_of (take i ps) ++ w) (filter-append p q.items.items (items_of (drop (i + 1) ps))
-    ∙ ap (λ w. filter p q.items.items ++ w) (filter-none p (items_of (drop (i + 1) ps)) a.behind) ∙ append-nil (filter p q.items.items)
+    let whole : filter p (items_of b ps) ≡ items_of b (take i ps) ++ take m (held b q) =
+    ap (filter p) cut ∙ filter-append p (items_of b (take i ps)) (held b q ++ items_of b (drop (i + 1) ps))
+    ∙ ap (λ w. w ++ filter p (held b q ++ items_of b (drop (i + 1) ps))) (filter-all p (items_of b (take i ps)) a.before)
+    ∙ ap (λ w. items_of b (take i ps) ++ w) (filter-append p (held b q) (items_of b (drop (i + 1) ps))
+    ∙ ap (λ w. filter p (held b q) ++ w) (filter-none p (items_of b (drop (i + 1) ps)) a.behind) ∙ append-nil (filter p (held b q))
     ∙ page)
     in
     let same : m ≡ suc (m - 1) = omega arith in
-    ap last_of whole ∙ ap (λ k. last_of (items_of (take i ps) ++ take k q.items.items)) same
-    ∙ last-of-taken (items_of (take i ps)) q.items.items (m - 1) x (omega arith) ∙ ap (λ y. y ∷ []) (sym f)
+    ap last_of whole ∙ ap (λ k. last_of (items_of b (take i ps) ++ take k (held b q))) same
+    ∙ last-of-taken (items_of b (take i ps)) (held b q) (m - 1) x (omega arith) ∙ ap (λ y. y ∷ []) (sym f)
 
 -- the page that the search ends at begins with a version that passes
-pub first-passes : (p : StoredVersion → Bool) (ps : List Page) (n i : ℕ) (q : Page) → Splits (λ q. is_first_passed p q.items.items) n ps
-    → n ≡ i + 1 → q ≡ get_or ps i q → is_first_passed p q.items.items ≡ true
-first-passes p ps n i q s e f =
+pub first-passes : (b : List ℕ) (p : StoredVersion → Bool) (ps : List Page) (n i : ℕ) (q : Page)
+    → Splits (λ q. is_first_passed p (held b q)) n ps
+    → n ≡ i + 1 → q ≡ get_or ps i q → is_first_passed p (held b q) ≡ true
+first-passes b p ps n i q s e f =
     let w = s.within in
     let l = length-take-le n ps w in
-    ap (λ (r : Page). is_first_passed p r.items.items) (f ∙ sym (get_or-take n ps i q (omega arith)))
-    ∙ each-at (λ (q : Page). is_first_passed p q.items.items ≡ true) (take n ps) i q s.front (omega arith)
+    ap (λ (r : Page). is_first_passed p (held b r)) (f ∙ sym (get_or-take n ps i q (omega arith)))
+    ∙ each-at (λ (q : Page). is_first_passed p (held b q) ≡ true) (take n ps) i q s.front (omega arith)
 
 pub none-passed : (p : StoredVersion → Bool) (xs : List StoredVersion) (m : ℕ) → Splits p m xs → m ≡ 0 → is_first_passed p xs ≡ true → ⊥
 none-passed p [] m s e f = cc
 none-passed p (x ∷ xs) m s e f =
     both_ways (p x) (subst (λ (k : ℕ). Each (λ (y : StoredVersion). p y ≡ false) (drop k (x ∷ xs))) e s.back).0 f
 
-pub page-ordered : (ps : List Page) (i : ℕ) (q : Page) → i < length ps → q ≡ get_or ps i q → InOrder (items_of ps) → InOrder q.items.items
-page-ordered ps i q h e o =
-    let cut : items_of ps ≡ items_of (take i ps) ++ (q.items.items ++ items_of (drop (i + 1) ps)) =
-    ap items_of (sym (take-append-drop i ps)) ∙ items_of-append (take i ps) (drop i ps)
-    ∙ ap (λ w. items_of (take i ps) ++ w) (items-from ps i q h e)
+pub page-ordered : (b : List ℕ) (ps : List Page) (i : ℕ) (q : Page) → i < length ps → q ≡ get_or ps i q → InOrder (items_of b ps)
+    → InOrder (held b q)
+page-ordered b ps i q h e o =
+    let cut : items_of b ps ≡ items_of b (take i ps) ++ (held b q ++ items_of b (drop (i + 1) ps)) =
+    ap (items_of b) (sym (take-append-drop i ps)) ∙ items_of-append b (take i ps) (drop i ps)
+    ∙ ap (λ w. items_of b (take i ps) ++ w) (items-from b ps i q h e)
     in
-    in_order-left q.items.items (items_of (drop (i + 1) ps))
-    (in_order-right (items_of (take i ps)) (q.items.items ++ items_of (drop (i + 1) ps)) (subst InOrder cut o))
+    in_order-left (held b q) (items_of b (drop (i + 1) ps))
+    (in_order-right (items_of b (take i ps)) (held b q ++ items_of b (drop (i + 1) ps)) (subst InOrder cut o))

@@ -8,7 +8,7 @@ use Rattle.xc_record.proofs.ListLaws.{Each, Each-append}
 use Rattle.xc_versions.specs.declared.stored.StoredVersion.{StoredVersion}
 use Rattle.xc_versions.specs.declared.page.Page.{Page}
 use Rattle.xc_versions.specs.Stored.{InOrder, is_replaced, next_replaces, pruned_before}
-use Rattle.xc_versions.specs.Pages.{items_of, IsPage, IsPaged, Idle, IdleNext, Dues, over, load, spare_of}
+use Rattle.xc_versions.specs.Pages.{held, items_of, IsPage, IsPaged, Idle, IdleNext, Dues, over, load, spare_of}
 use Rattle.xc_versions.proofs.StoredOrder.{in_order-right}
 use Rattle.xc_versions.proofs.VersionLaws.{replaced-first}
 use Rattle.xc_versions.proofs.PageLaws.{each-left, each-right, items_of-append, items-from, idle-instead, dues-append, dues-left}
@@ -21,43 +21,43 @@ pub idle-from-next : (u : ℕ) (xs rest : List StoredVersion) → InOrder (xs ++
 idle-from-next u [] rest o i = tt
 idle-from-next u (x ∷ xs) rest o i = (replaced-first u x (xs ++ rest) o.0 o.1 ∙ i.0, idle-from-next u xs rest o.1 i.1)
 
-dues-shrunk : (bs : List Page) (zs ys : List StoredVersion) → Sub zs ys → Dues bs ys → Dues bs zs
-dues-shrunk [] zs ys s d = tt
-dues-shrunk (p ∷ ps) zs ys s d = (
-  λ u l. idle-instead u p.items.items (items_of ps ++ ys) (items_of ps ++ zs) (all u p.items.items) (d.0 u l),
-  dues-shrunk ps zs ys s
+dues-shrunk : (b : List ℕ) (bs : List Page) (zs ys : List StoredVersion) → Sub zs ys → Dues b bs ys → Dues b bs zs
+dues-shrunk b [] zs ys s d = tt
+dues-shrunk b (p ∷ ps) zs ys s d = (
+  λ u l. idle-instead u (held b p) (items_of b ps ++ ys) (items_of b ps ++ zs) (all u (held b p)) (d.0 u l),
+  dues-shrunk b ps zs ys s
       d.1,
 )
   where
     all : (u : ℕ) (xs : List StoredVersion)
-        → Each (λ x. is_replaced u x (items_of ps ++ ys) ≡ false → is_replaced u x (items_of ps ++ zs) ≡ false) xs
+        → Each (λ x. is_replaced u x (items_of b ps ++ ys) ≡ false → is_replaced u x (items_of b ps ++ zs) ≡ false) xs
     all u [] = tt
-    all u (x ∷ xs) = (any-sub u x (items_of ps ++ zs) (items_of ps ++ ys) (sub-before (items_of ps) zs ys s), all u xs)
+    all u (x ∷ xs) = (any-sub u x (items_of b ps ++ zs) (items_of b ps ++ ys) (sub-before (items_of b ps) zs ys s), all u xs)
 
 -- The pages ms, one or none, stand in for q, with some of its versions.
-pub shrunk : (bs : List Page) (q : Page) (cs ms : List Page) → IsPaged (bs ++ q ∷ cs) []
-    → Sub (items_of ms ++ items_of cs) (q.items.items ++ items_of cs) → Each IsPage ms
-    → (InOrder (items_of ms ++ items_of cs) → Dues ms (items_of cs ++ [])) → IsPaged (bs ++ (ms ++ cs)) []
-shrunk bs q cs ms g tail pages dues =
-    let was : items_of (bs ++ q ∷ cs) ≡ items_of bs ++ (q.items.items ++ items_of cs) = items_of-append bs (q ∷ cs) in
-    let is : items_of (bs ++ (ms ++ cs)) ≡ items_of bs ++ (items_of ms ++ items_of cs) =
-    items_of-append bs (ms ++ cs) ∙ ap (λ w. items_of bs ++ w) (items_of-append ms cs) in
-    let whole = sub-before (items_of bs) (items_of ms ++ items_of cs) (q.items.items ++ items_of cs) tail in
-    let ordered : InOrder (items_of bs ++ (items_of ms ++ items_of cs)) =
-    in_order-sub (items_of bs ++ (items_of ms ++ items_of cs)) (items_of bs ++ (q.items.items ++ items_of cs)) whole
+pub shrunk : (b : List ℕ) (bs : List Page) (q : Page) (cs ms : List Page) → IsPaged b (bs ++ q ∷ cs) []
+    → Sub (items_of b ms ++ items_of b cs) (held b q ++ items_of b cs) → Each (IsPage b) ms
+    → (InOrder (items_of b ms ++ items_of b cs) → Dues b ms (items_of b cs ++ [])) → IsPaged b (bs ++ (ms ++ cs)) []
+shrunk b bs q cs ms g tail pages dues =
+    let was : items_of b (bs ++ q ∷ cs) ≡ items_of b bs ++ (held b q ++ items_of b cs) = items_of-append b bs (q ∷ cs) in
+    let is : items_of b (bs ++ (ms ++ cs)) ≡ items_of b bs ++ (items_of b ms ++ items_of b cs) =
+    items_of-append b bs (ms ++ cs) ∙ ap (λ w. items_of b bs ++ w) (items_of-append b ms cs) in
+    let whole = sub-before (items_of b bs) (items_of b ms ++ items_of b cs) (held b q ++ items_of b cs) tail in
+    let ordered : InOrder (items_of b bs ++ (items_of b ms ++ items_of b cs)) =
+    in_order-sub (items_of b bs ++ (items_of b ms ++ items_of b cs)) (items_of b bs ++ (held b q ++ items_of b cs)) whole
     (subst InOrder was g.ordered) in
-    let here = in_order-right (items_of bs) (items_of ms ++ items_of cs) ordered in
-    let below : Dues bs ((q.items.items ++ items_of cs) ++ []) = dues-left bs (q ∷ cs) [] g.dues in
-    let front : Dues bs (items_of (ms ++ cs) ++ []) =
-    subst (λ (w : List StoredVersion). Dues bs (w ++ [])) (sym (items_of-append ms cs))
-    (dues-shrunk bs ((items_of ms ++ items_of cs) ++ []) ((q.items.items ++ items_of cs) ++ [])
-    (sub-behind (items_of ms ++ items_of cs) (q.items.items ++ items_of cs) [] tail) below)
+    let here = in_order-right (items_of b bs) (items_of b ms ++ items_of b cs) ordered in
+    let below : Dues b bs ((held b q ++ items_of b cs) ++ []) = dues-left b bs (q ∷ cs) [] g.dues in
+    let front : Dues b bs (items_of b (ms ++ cs) ++ []) =
+    subst (λ (w : List StoredVersion). Dues b bs (w ++ [])) (sym (items_of-append b ms cs))
+    (dues-shrunk b bs ((items_of b ms ++ items_of b cs) ++ []) ((held b q ++ items_of b cs) ++ [])
+    (sub-behind (items_of b ms ++ items_of b cs) (held b q ++ items_of b cs) [] tail) below)
     in
     record {
       ordered = subst InOrder (sym is) ordered;
-      pages = Each-append IsPage bs (ms ++ cs) (each-left IsPage bs (q ∷ cs) g.pages)
-          (Each-append IsPage ms cs pages (each-right IsPage bs (q ∷ cs) g.pages).1);
-      dues = dues-append bs (ms ++ cs) [] front (dues-append ms cs [] (dues here) (dues-right bs (q ∷ cs) [] g.dues).1);
+      pages = Each-append (IsPage b) bs (ms ++ cs) (each-left (IsPage b) bs (q ∷ cs) g.pages)
+          (Each-append (IsPage b) ms cs pages (each-right (IsPage b) bs (q ∷ cs) g.pages).1);
+      dues = dues-append b bs (ms ++ cs) [] front (dues-append b ms cs [] (dues here) (dues-right b bs (q ∷ cs) [] g.dues).1);
     }
 
 -- ---- room
@@ -97,30 +97,31 @@ spare-gone old i q n m h e k =
 -- ---- a loop from the last page to the first
 
 -- from the page i on, all pages are done: f says what they hold
-pub record Walked (f : List StoredVersion → List StoredVersion) (old new : List Page) (i : ℕ) : Type 0 where
+pub record Walked (b : List ℕ) (f : List StoredVersion → List StoredVersion) (old new : List Page) (i : ℕ) : Type 0 where
   pub within : i ≤ length old
   pub short : i ≤ length new
   pub front : take i new ≡ take i old
-  pub tail : items_of (drop i new) ≡ f (items_of (drop i old))
+  pub tail : items_of b (drop i new) ≡ f (items_of b (drop i old))
 
-pub walked-start : (f : List StoredVersion → List StoredVersion) (old : List Page) → f [] ≡ [] → Walked f old old (length old)
-walked-start f old e =
-    let none : items_of (drop (length old) old) ≡ [] = ap items_of (drop_all (length old) old (omega arith)) in
+pub walked-start : (b : List ℕ) (f : List StoredVersion → List StoredVersion) (old : List Page) → f [] ≡ []
+    → Walked b f old old (length old)
+walked-start b f old e =
+    let none : items_of b (drop (length old) old) ≡ [] = ap (items_of b) (drop_all (length old) old (omega arith)) in
     record { within = omega arith; short = omega arith; front = refl; tail = none ∙ sym (ap f none ∙ e) }
 
-pub walked-all : (f : List StoredVersion → List StoredVersion) (old new : List Page) (i : ℕ) → Walked f old new i → i ≡ 0
-    → items_of new ≡ f (items_of old)
-walked-all f old new i w e = subst (λ (k : ℕ). items_of (drop k new) ≡ f (items_of (drop k old))) e w.tail
+pub walked-all : (b : List ℕ) (f : List StoredVersion → List StoredVersion) (old new : List Page) (i : ℕ) → Walked b f old new i → i ≡ 0
+    → items_of b new ≡ f (items_of b old)
+walked-all b f old new i w e = subst (λ (k : ℕ). items_of b (drop k new) ≡ f (items_of b (drop k old))) e w.tail
 
 -- one more page, from the pages mid to new
-pub walked-more : (f : List StoredVersion → List StoredVersion) (g : List StoredVersion → List StoredVersion
-    → List StoredVersion) (old mid new : List Page) (i : ℕ) (d : Page) → Walked f old mid (i + 1)
+pub walked-more : (b : List ℕ) (f : List StoredVersion → List StoredVersion) (g : List StoredVersion → List StoredVersion
+    → List StoredVersion) (old mid new : List Page) (i : ℕ) (d : Page) → Walked b f old mid (i + 1)
     → i ≤ length new → take i new ≡ take i mid
-    → ((q : Page) → q ≡ get_or mid i q → items_of (drop i new) ≡ g q.items.items (items_of (drop (i + 1) mid)))
+    → ((q : Page) → q ≡ get_or mid i q → items_of b (drop i new) ≡ g (held b q) (items_of b (drop (i + 1) mid)))
     → ((q : Page) → q ≡ get_or old i q
-    → g q.items.items (f (items_of (drop (i + 1) old))) ≡ f (q.items.items ++ items_of (drop (i + 1) old)))
-    → Walked f old new i
-walked-more f g old mid new i d w s e t h =
+    → g (held b q) (f (items_of b (drop (i + 1) old))) ≡ f (held b q ++ items_of b (drop (i + 1) old)))
+    → Walked b f old new i
+walked-more b f g old mid new i d w s e t h =
     let within = w.within in
     let short = w.short in
     let q = get_or old i d in
@@ -132,17 +133,17 @@ walked-more f g old mid new i d w s e t h =
       within = omega arith;
       short = s;
       front = e ∙ sym (take-take i (i + 1) mid (omega arith)) ∙ ap (take i) w.front ∙ take-take i (i + 1) old (omega arith);
-      tail = t q is_mid ∙ ap (g q.items.items) w.tail ∙ h q is_old ∙ ap f (sym (items-from old i q (omega arith) is_old));
+      tail = t q is_mid ∙ ap (g (held b q)) w.tail ∙ h q is_old ∙ ap f (sym (items-from b old i q (omega arith) is_old));
     }
 
 -- ---- by the page's number
 
-pub shrunk-at : (old : List Page) (i : ℕ) (q : Page) (ms : List Page) → IsPaged old [] → i < length old → q ≡ get_or old i q
-    → Sub (items_of ms ++ items_of (drop (i + 1) old)) (q.items.items ++ items_of (drop (i + 1) old)) → Each IsPage ms
-    → (InOrder (items_of ms ++ items_of (drop (i + 1) old)) → Dues ms (items_of (drop (i + 1) old) ++ []))
-    → IsPaged (take i old ++ (ms ++ drop (i + 1) old)) []
-shrunk-at old i q ms g h e s pages dues =
-    shrunk (take i old) q (drop (i + 1) old) ms (subst (λ (ps : List Page). IsPaged ps []) (cut-at old i q h e) g) s pages dues
+pub shrunk-at : (b : List ℕ) (old : List Page) (i : ℕ) (q : Page) (ms : List Page) → IsPaged b old [] → i < length old → q ≡ get_or old i q
+    → Sub (items_of b ms ++ items_of b (drop (i + 1) old)) (held b q ++ items_of b (drop (i + 1) old)) → Each (IsPage b) ms
+    → (InOrder (items_of b ms ++ items_of b (drop (i + 1) old)) → Dues b ms (items_of b (drop (i + 1) old) ++ []))
+    → IsPaged b (take i old ++ (ms ++ drop (i + 1) old)) []
+shrunk-at b old i q ms g h e s pages dues =
+    shrunk b (take i old) q (drop (i + 1) old) ms (subst (λ (ps : List Page). IsPaged b ps []) (cut-at old i q h e) g) s pages dues
 
 pub remove-cut : (old : List Page) (i : ℕ) (q : Page) → i < length old → remove (set old i q) i ≡ take i old ++ drop (i + 1) old
 remove-cut old i q h =
@@ -160,17 +161,18 @@ pub behind-removed : (old : List Page) (i : ℕ) → i < length old → drop i (
 behind-removed old i h = drop_at (take i old) (drop (i + 1) old) i (length-take-le i old (omega arith))
 
 -- what a page is due for is idle below it
-pub idle-at : (old : List Page) (i : ℕ) (q : Page) → IsPaged old [] → i < length old → q ≡ get_or old i q → (u : ℕ) → u < q.due
-    → Idle u q.items.items (items_of (drop (i + 1) old))
-idle-at old i q g h e u l =
-    let d = dues-right (take i old) (q ∷ drop (i + 1) old) [] (subst (λ (ps : List Page). Dues ps []) (cut-at old i q h e) g.dues) in
-    subst (λ (w : List StoredVersion). Idle u q.items.items w) (append-nil (items_of (drop (i + 1) old))) (d.0 u l)
+pub idle-at : (b : List ℕ) (old : List Page) (i : ℕ) (q : Page) → IsPaged b old [] → i < length old → q ≡ get_or old i q → (u : ℕ)
+    → u < q.due
+    → Idle u (held b q) (items_of b (drop (i + 1) old))
+idle-at b old i q g h e u l =
+    let d = dues-right b (take i old) (q ∷ drop (i + 1) old) [] (subst (λ (ps : List Page). Dues b ps []) (cut-at old i q h e) g.dues) in
+    subst (λ (w : List StoredVersion). Idle u (held b q) w) (append-nil (items_of b (drop (i + 1) old))) (d.0 u l)
 
-pub order-at : (old : List Page) (i : ℕ) (q : Page) → IsPaged old [] → i < length old → q ≡ get_or old i q
-    → InOrder (q.items.items ++ items_of (drop (i + 1) old))
-order-at old i q g h e =
-    in_order-right (items_of (take i old)) (q.items.items ++ items_of (drop (i + 1) old))
-    (subst InOrder (ap items_of (cut-at old i q h e) ∙ items_of-append (take i old) (q ∷ drop (i + 1) old)) g.ordered)
+pub order-at : (b : List ℕ) (old : List Page) (i : ℕ) (q : Page) → IsPaged b old [] → i < length old → q ≡ get_or old i q
+    → InOrder (held b q ++ items_of b (drop (i + 1) old))
+order-at b old i q g h e =
+    in_order-right (items_of b (take i old)) (held b q ++ items_of b (drop (i + 1) old))
+    (subst InOrder (ap (items_of b) (cut-at old i q h e) ∙ items_of-append b (take i old) (q ∷ drop (i + 1) old)) g.ordered)
 
 -- a prune leaves what is idle
 pub pruned-idle : (u : ℕ) (xs rest : List StoredVersion) → InOrder (xs ++ rest) → Idle u xs rest → pruned_before u xs rest ≡ xs ++ rest
@@ -182,8 +184,9 @@ pruned-idle u (x ∷ xs) rest o i =
     ap (λ b. cond b (pruned_before u xs rest) (x ∷ pruned_before u xs rest)) test ∙ ap (λ w. x ∷ w) below
 
 -- one page that is idle as its due tells
-pub dues-one : (q : Page) (rest : List StoredVersion) → ((u : ℕ) → u < q.due → Idle u q.items.items rest) → Dues (q ∷ []) (rest ++ [])
-dues-one q rest h = (λ u l. subst (λ (w : List StoredVersion). Idle u q.items.items w) (sym (append-nil rest)) (h u l), tt)
+pub dues-one : (b : List ℕ) (q : Page) (rest : List StoredVersion) → ((u : ℕ) → u < q.due → Idle u (held b q) rest)
+    → Dues b (q ∷ []) (rest ++ [])
+dues-one b q rest h = (λ u l. subst (λ (w : List StoredVersion). Idle u (held b q) w) (sym (append-nil rest)) (h u l), tt)
 
 long-enough : (new mid : List Page) (i : ℕ) → i ≤ length mid → take i new ≡ take i mid → i ≤ length new
 long-enough new mid i h e =
@@ -192,18 +195,18 @@ long-enough new mid i h e =
     let c = ap length e in
     omega arith
 
-pub walked-some : (f : List StoredVersion → List StoredVersion) (g : List StoredVersion → List StoredVersion
-    → List StoredVersion) (old mid new : List Page) (i : ℕ) → Walked f old mid (i + 1)
+pub walked-some : (b : List ℕ) (f : List StoredVersion → List StoredVersion) (g : List StoredVersion → List StoredVersion
+    → List StoredVersion) (old mid new : List Page) (i : ℕ) → Walked b f old mid (i + 1)
     → take i new ≡ take i mid
-    → ((q : Page) → q ≡ get_or mid i q → items_of (drop i new) ≡ g q.items.items (items_of (drop (i + 1) mid)))
+    → ((q : Page) → q ≡ get_or mid i q → items_of b (drop i new) ≡ g (held b q) (items_of b (drop (i + 1) mid)))
     → ((q : Page) → q ≡ get_or old i q
-    → g q.items.items (f (items_of (drop (i + 1) old))) ≡ f (q.items.items ++ items_of (drop (i + 1) old)))
-    → Walked f old new i
-walked-some f g [] mid new i w e t h = let within = w.within in absurd (omega arith)
-walked-some f g (p ∷ ps) mid new i w e t h =
-    let short = w.short in walked-more f g (p ∷ ps) mid new i p w (long-enough new mid i (omega arith) e) e t h
+    → g (held b q) (f (items_of b (drop (i + 1) old))) ≡ f (held b q ++ items_of b (drop (i + 1) old)))
+    → Walked b f old new i
+walked-some b f g [] mid new i w e t h = let within = w.within in absurd (omega arith)
+walked-some b f g (p ∷ ps) mid new i w e t h =
+    let short = w.short in walked-more b f g (p ∷ ps) mid new i p w (long-enough new mid i (omega arith) e) e t h
 
-pub length-kept : (p : StoredVersion → Bool) (xs : List StoredVersion) → length (filter p xs) ≤ length xs
+pub length-kept : {X : Type 0} (p : X → Bool) (xs : List X) → length (filter p xs) ≤ length xs
 length-kept p [] = omega arith
 length-kept p (x ∷ xs) =
     let rest = length-kept p xs in

@@ -1,4 +1,5 @@
 pub mod Stored
+pub mod Slots
 pub mod Splits
 pub mod RowsSeen
 pub mod Pages

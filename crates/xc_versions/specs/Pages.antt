@@ -1,30 +1,40 @@
--- Pages of versions.
---     items_of ps      the versions of the pages, one page after another
---     IsPage p, IsEmptyPage v      1 to 64 versions, and room for one more; no version, and room for 65
+-- Pages of versions, whose keys and values lie in the bytes b.
+--     held b p, items_of b ps      the versions of a page, and of pages, one page after another
+--     live_of b ps      the bytes of their operations
+--     IsPage b p, IsEmptyPage v      1 to 64 versions, and room for one more; no version, and room for 65
 --     is_first_passed test p      the page's first version passes the test
 --     Idle u xs rest      no version of xs is replaced at u by a later one of xs or of rest
 --     IdleNext u xs rest      no version of xs is replaced at u by the next one
---     Dues ps rest      a cutoff below a page's `due` takes nothing from the page, where rest stands behind the pages
+--     Dues b ps rest      a cutoff below a page's `due` takes nothing from the page, where rest stands behind the pages
 --     load ps      how many versions the pages have above 32 each; 32 of no page
 --     spare_of ps n      how many versions can be added for certain where there are n empty pages
-use Rattle.std.specs.Prelude.{◌≡◌, ℕ, ◌+◌, ◌-◌, ◌*◌, ◌<◌, ◌≤◌, max, Bool, false, List, [], ◌∷◌, ◌++◌, length, flat_map}
+use Rattle.std.specs.Prelude.{◌≡◌, ℕ, ◌+◌, ◌-◌, ◌*◌, ◌<◌, ◌≤◌, max, Bool, false, List, [], ◌∷◌, ◌++◌, length, map, flat_map}
 use Rattle.std.specs.VecDeque.{deque_capacity}
 use Rattle.std.specs.declared.collections.VecDeque.{VecDeque}
 use Rattle.std.specs.List.{AllByRecursion}
 use Rattle.std.specs.declared.alloc.Global.{Global}
 use Rattle.xc_versions.specs.declared.stored.StoredVersion.{StoredVersion}
+use Rattle.xc_versions.specs.declared.stored.Slot.{Slot}
 use Rattle.xc_versions.specs.declared.page.Page.{Page}
+use Rattle.xc_versions.specs.Slots.{seen, bytes_of, Lies}
 use Rattle.xc_versions.specs.Stored.{is_replaced, next_replaces, InOrder}
 
-abbrev pub items_of : List Page → List StoredVersion
-items_of ps = flat_map (λ p. p.items.items) ps
+abbrev pub held : List ℕ → Page → List StoredVersion
+held b p = map (seen b) p.items.items
 
-pub record IsPage (p : Page) : Type 0 where
+abbrev pub items_of : List ℕ → List Page → List StoredVersion
+items_of b ps = flat_map (held b) ps
+
+abbrev pub live_of : List ℕ → List Page → List ℕ
+live_of b ps = flat_map (λ p. bytes_of b p.items.items) ps
+
+pub record IsPage (b : List ℕ) (p : Page) : Type 0 where
   pub some : 0 < length p.items.items
   pub few : length p.items.items ≤ 64
   pub room : 65 ≤ deque_capacity p.items
+  pub lies : AllByRecursion (λ s. Lies b s.at) p.items.items
 
-pub record IsEmptyPage (v : VecDeque StoredVersion Global) : Type 0 where
+pub record IsEmptyPage (v : VecDeque Slot Global) : Type 0 where
   pub none : v.items ≡ []
   pub room : 65 ≤ deque_capacity v
 
@@ -41,9 +51,9 @@ abbrev pub IdleNext : ℕ → List StoredVersion → List StoredVersion → Type
 IdleNext u [] rest = Unit {0}
 IdleNext u (x ∷ xs) rest = (next_replaces u x (xs ++ rest) ≡ false) × IdleNext u xs rest
 
-abbrev pub Dues : List Page → List StoredVersion → Type 0
-Dues [] rest = Unit {0}
-Dues (p ∷ ps) rest = ((u : ℕ) → u < p.due → Idle u p.items.items (items_of ps ++ rest)) × Dues ps rest
+abbrev pub Dues : List ℕ → List Page → List StoredVersion → Type 0
+Dues b [] rest = Unit {0}
+Dues b (p ∷ ps) rest = ((u : ℕ) → u < p.due → Idle u (held b p) (items_of b ps ++ rest)) × Dues b ps rest
 
 abbrev pub over : List Page → ℕ
 over [] = 0
@@ -56,7 +66,7 @@ load (p ∷ ps) = over (p ∷ ps)
 abbrev pub spare_of : List Page → ℕ → ℕ
 spare_of ps n = max n ((32 * n + 31) - load ps)
 
-pub record IsPaged (ps : List Page) (rest : List StoredVersion) : Type 0 where
-  pub ordered : InOrder (items_of ps)
-  pub pages : AllByRecursion IsPage ps
-  pub dues : Dues ps rest
+pub record IsPaged (b : List ℕ) (ps : List Page) (rest : List StoredVersion) : Type 0 where
+  pub ordered : InOrder (items_of b ps)
+  pub pages : AllByRecursion (IsPage b) ps
+  pub dues : Dues b ps rest

@@ -1,26 +1,30 @@
--- Pages of versions beside empty pages.
+-- Pages of versions, whose keys and values lie in the bytes b, beside empty pages.
 --     HasRoom pages pool      both can hold all pages and all empty pages
---     IsStored pages pool least      and what is said of each 64 pages holds
-use Rattle.std.specs.Prelude.{ℕ, ◌+◌, ◌≤◌, length, vec_capacity, Vec}
+--     IsStored b pages pool least      and what is said of each 64 pages holds
+--     room_of v      how many operations can be put behind the bytes of v for certain, so that each begins below 2^32
+use Rattle.std.specs.Prelude.{ℕ, ◌+◌, ◌-◌, ◌/◌, ◌≤◌, List, [], length, min, vec_len, vec_capacity, Vec}
 use Rattle.std.specs.VecDeque.{deque_capacity}
 use Rattle.std.specs.declared.collections.VecDeque.{VecDeque}
 use Rattle.std.specs.List.{AllByRecursion}
 use Rattle.std.specs.declared.alloc.Global.{Global}
-use Rattle.xc_versions.specs.declared.stored.StoredVersion.{StoredVersion}
+use Rattle.xc_versions.specs.declared.stored.Slot.{Slot}
 use Rattle.xc_versions.specs.declared.page.Page.{Page}
-use Rattle.std.specs.Prelude.{[]}
 use Rattle.xc_versions.specs.Pages.{IsPaged, IsEmptyPage}
 use Rattle.xc_versions.specs.Dues.{dues_of, Covers}
 
-pub record HasRoom (pages : VecDeque Page Global) (pool : Vec (VecDeque StoredVersion Global) Global) : Type 0 where
+pub record HasRoom (pages : VecDeque Page Global) (pool : Vec (VecDeque Slot Global) Global) : Type 0 where
   pub pages_room : length pages.items + length pool.items ≤ deque_capacity pages
   pub pool_room : length pages.items + length pool.items ≤ vec_capacity pool
 
-pub record IsStore (pages : VecDeque Page Global) (pool : Vec (VecDeque StoredVersion Global) Global) : Type 0 where
-  pub paged : IsPaged pages.items []
+pub record IsStore (b : List ℕ) (pages : VecDeque Page Global) (pool : Vec (VecDeque Slot Global) Global) : Type 0 where
+  pub paged : IsPaged b pages.items []
   pub empty : AllByRecursion IsEmptyPage pool.items
   pub room : HasRoom pages pool
 
-pub record IsStored (pages : VecDeque Page Global) (pool : Vec (VecDeque StoredVersion Global) Global) (least : Vec ℕ Global) : Type 0 where
-  pub store : IsStore pages pool
+pub record IsStored (b : List ℕ) (pages : VecDeque Page Global) (pool : Vec (VecDeque Slot Global) Global) (least : Vec ℕ Global)
+    : Type 0 where
+  pub store : IsStore b pages pool
   pub dues : Covers (dues_of pages.items) least.items
+
+abbrev pub room_of : Vec ℕ Global → ℕ
+room_of v = (min (vec_capacity v) 4294967295 - vec_len v) / 99

@@ -3,6 +3,8 @@
 
 ghost use Rattle.std.specs.Prelude.{◌≤◌, length};
 
+mod arena;
+mod compact;
 mod least;
 mod page;
 mod pages;
@@ -92,7 +94,8 @@ mod tests {
         ] {
             let text = shown(alloc, &versions, t)?;
             assert!(rt; text.as_str() == rows, "{t}");
-            let at = versions.at(&aaa, t).map(|value| value.bytes());
+            let at = versions.at(&aaa, t);
+            let at = at.as_ref().map(|value| value.bytes());
             assert!(rt; at == value.map(|text| text.as_bytes()), "{t}");
         }
         Ok(())

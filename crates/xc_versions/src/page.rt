@@ -1,14 +1,15 @@
 // A page of versions, and the search among pages.
-ghost use Rattle.std.specs.Prelude.{◌≡◌, ◌<◌, ◌≤◌, ◌+◌, min, length, take, drop, nat_lt, vec_capacity, true};
+ghost use Rattle.std.specs.Prelude.{◌≡◌, ◌<◌, ◌≤◌, ◌+◌, min, length, map, take, drop, nat_lt, vec_capacity, true};
 ghost use Rattle.std.specs.VecDeque.{deque_capacity};
 ghost use Rattle.std.specs.Ordering.{is_gt};
 ghost use Rattle.std.specs.List.{AllByRecursion};
-ghost use Rattle.xc_versions.specs.Stored.{stored_cmp, InOrder, IsNew, with_version, reaches};
+ghost use Rattle.xc_versions.specs.Stored.{stored_cmp, InOrder, with_version, reaches};
 ghost use Rattle.xc_versions.specs.Splits.{Splits, Falls};
-ghost use Rattle.xc_versions.specs.Pages.{items_of, IsPage, IsEmptyPage, is_first_passed};
+ghost use Rattle.xc_versions.specs.Slots.{seen, Lies};
+ghost use Rattle.xc_versions.specs.Pages.{held, items_of, IsPage, IsEmptyPage, is_first_passed};
 
 use crate::queue::{insert_at, move_behind};
-use crate::stored::{StoredVersion, place_of};
+use crate::stored::{Slot, place_of};
 use std::collections::VecDeque;
 use xc_base::Key;
 
@@ -18,18 +19,18 @@ pub(crate) const PAGE: usize = 64;
 /// Versions in order, 1 to 64 of them, with room for one more.
 #[derive(Drop, Debug)]
 pub(crate) struct Page {
-    pub(crate) items: VecDeque<StoredVersion>,
+    pub(crate) items: VecDeque<Slot>,
     /// A cutoff below this takes nothing from the page.
     pub(crate) due: u64,
 }
 
 // Whether all pages begin before the version: the last does.
 #[inline]
-fn all_begin_before(pages: &VecDeque<Page>, version: &StoredVersion) -> bool
-    requires pages { AllByRecursion IsPage pages.now.items }
-    requires ordered { InOrder (items_of pages.now.items) }
+fn all_begin_before(bytes: &[u8], pages: &VecDeque<Page>, slot: &Slot) -> bool
+    requires pages { AllByRecursion (IsPage bytes.now) pages.now.items }
+    requires ordered { InOrder (items_of bytes.now pages.now.items) }
     ensures { result ≡ true
-        → Splits (λ p. is_first_passed (λ x. is_gt (stored_cmp version.now x)) p.items.items)
+        → Splits (λ p. is_first_passed (λ x. is_gt (stored_cmp (seen bytes.now slot.now) x)) (held bytes.now p))
         (length pages.now.items) pages.now.items }
 {
     let count = pages.len();
@@ -37,17 +38,17 @@ fn all_begin_before(pages: &VecDeque<Page>, version: &StoredVersion) -> bool
         return false;
     }
     let page = &pages[count - 1];
-    begins_before(&page.items, version)
+    begins_before(bytes, &page.items, slot)
 }
 
 /// How many pages begin before the version. Often all do.
-pub(crate) fn pages_before(pages: &VecDeque<Page>, version: &StoredVersion) -> usize
-    requires pages { AllByRecursion IsPage pages.now.items }
-    requires ordered { InOrder (items_of pages.now.items) }
-    ensures { Splits (λ p. is_first_passed (λ x. is_gt (stored_cmp version.now x)) p.items.items) result
-        pages.now.items }
+pub(crate) fn pages_before(bytes: &[u8], pages: &VecDeque<Page>, slot: &Slot) -> usize
+    requires pages { AllByRecursion (IsPage bytes.now) pages.now.items }
+    requires ordered { InOrder (items_of bytes.now pages.now.items) }
+    ensures { Splits (λ p. is_first_passed (λ x. is_gt (stored_cmp (seen bytes.now slot.now) x)) (held bytes.now p))
+        result pages.now.items }
 {
-    if all_begin_before(pages, version) {
+    if all_begin_before(bytes, pages, slot) {
         return pages.len();
     }
     let mut low = 0;
@@ -55,7 +56,7 @@ pub(crate) fn pages_before(pages: &VecDeque<Page>, version: &StoredVersion) -> u
     while low < high {
         let middle = low + (high - low) / 2;
         let page = &pages[middle];
-        if begins_before(&page.items, version) {
+        if begins_before(bytes, &page.items, slot) {
             low = middle + 1;
         } else {
             high = middle;
@@ -65,27 +66,28 @@ pub(crate) fn pages_before(pages: &VecDeque<Page>, version: &StoredVersion) -> u
 }
 
 #[inline]
-fn begins_before(items: &VecDeque<StoredVersion>, version: &StoredVersion) -> bool
-    ensures { result ≡ is_first_passed (λ x. is_gt (stored_cmp version.now x)) items.now.items }
+fn begins_before(bytes: &[u8], items: &VecDeque<Slot>, slot: &Slot) -> bool
+    ensures { result ≡ is_first_passed (λ x. is_gt (stored_cmp (seen bytes.now slot.now) x))
+        (map (seen bytes.now) items.now.items) }
 {
     match items.front() {
-        Some(first) => version.is_after(first),
+        Some(first) => slot.is_after(bytes, first),
         None => false,
     }
 }
 
 /// How many pages begin with a version that reaches the key at t.
-pub(crate) fn pages_reaching(pages: &VecDeque<Page>, key: &Key, t: u64) -> usize
-    requires pages { AllByRecursion IsPage pages.now.items }
-    requires ordered { InOrder (items_of pages.now.items) }
-    ensures { Splits (λ p. is_first_passed (reaches key.now t) p.items.items) result pages.now.items }
+pub(crate) fn pages_reaching(bytes: &[u8], pages: &VecDeque<Page>, key: &Key, t: u64) -> usize
+    requires pages { AllByRecursion (IsPage bytes.now) pages.now.items }
+    requires ordered { InOrder (items_of bytes.now pages.now.items) }
+    ensures { Splits (λ p. is_first_passed (reaches key.now t) (held bytes.now p)) result pages.now.items }
 {
     let mut low = 0;
     let mut high = pages.len();
     while low < high {
         let middle = low + (high - low) / 2;
         let page = &pages[middle];
-        if begins_reaching(&page.items, key, t) {
+        if begins_reaching(bytes, &page.items, key, t) {
             low = middle + 1;
         } else {
             high = middle;
@@ -95,17 +97,17 @@ pub(crate) fn pages_reaching(pages: &VecDeque<Page>, key: &Key, t: u64) -> usize
 }
 
 #[inline]
-fn begins_reaching(items: &VecDeque<StoredVersion>, key: &Key, t: u64) -> bool
-    ensures { result ≡ is_first_passed (reaches key.now t) items.now.items }
+fn begins_reaching(bytes: &[u8], items: &VecDeque<Slot>, key: &Key, t: u64) -> bool
+    ensures { result ≡ is_first_passed (reaches key.now t) (map (seen bytes.now) items.now.items) }
 {
     match items.front() {
-        Some(first) => first.reaches(key, t),
+        Some(first) => first.reaches(bytes, key, t),
         None => false,
     }
 }
 
 /// Takes one of the empty pages.
-pub(crate) fn take_empty(pool: &mut Vec<VecDeque<StoredVersion>>) -> VecDeque<StoredVersion>
+pub(crate) fn take_empty(pool: &mut Vec<VecDeque<Slot>>) -> VecDeque<Slot>
     requires some { 1 ≤ length pool.old.items }
     requires empty { AllByRecursion IsEmptyPage pool.old.items }
     ensures result { IsEmptyPage result }
@@ -126,38 +128,35 @@ impl Page {
     }
 
     /// Puts the version at its place.
-    pub(crate) fn put(&mut self, version: StoredVersion)
-        requires ordered { InOrder self.old.items.items }
-        requires fresh { IsNew version self.old.items.items }
+    pub(crate) fn put(&mut self, bytes: &[u8], slot: Slot)
+        requires ordered { InOrder (held bytes.now self.old) }
         requires few { length self.old.items.items ≤ 64 }
         requires room { 65 ≤ deque_capacity self.old.items }
-        ensures items { self.new.items.items ≡ with_version version self.old.items.items }
+        requires all_lie { AllByRecursion (λ s. Lies bytes.now s.at) self.old.items.items }
+        requires lies { Lies bytes.now slot.at }
+        ensures items { held bytes.now self.new ≡ with_version (seen bytes.now slot) (held bytes.now self.old) }
         ensures len { length self.new.items.items ≡ length self.old.items.items + 1 }
         ensures room { 65 ≤ deque_capacity self.new.items }
-        ensures due { self.new.due ≡ min self.old.due version.commit }
+        ensures lie { AllByRecursion (λ s. Lies bytes.now s.at) self.new.items.items }
+        ensures due { self.new.due ≡ min self.old.due slot.commit }
     {
-        let at = place_of(&self.items, &version);
-        self.due = self.due.min(version.commit);
-        // The check finds the types of a version's parts only where they are named.
-        let StoredVersion {
-            key: _key,
-            value: _value,
-            ..
-        } = version;
-        insert_at(&mut self.items, at, version);
+        let at = place_of(bytes, &self.items, &slot);
+        self.due = self.due.min(slot.commit);
+        insert_at(&mut self.items, at, slot);
     }
 
     /// Moves all but the first 32 versions to a page of their own, which takes over the empty one.
-    pub(crate) fn split(&mut self, mut upper: VecDeque<StoredVersion>) -> Page
+    pub(crate) fn split(&mut self, bytes: &[u8], mut upper: VecDeque<Slot>) -> Page
         requires empty { IsEmptyPage upper }
+        requires lie { AllByRecursion (λ s. Lies bytes.now s.at) self.old.items.items }
         requires full { length self.old.items.items ≡ 65 }
         requires room { 65 ≤ deque_capacity self.old.items }
         ensures lower { self.new.items.items ≡ take 32 self.old.items.items }
         ensures upper { result.items.items ≡ drop 32 self.old.items.items }
         ensures lower_due { self.new.due ≡ self.old.due }
         ensures upper_due { result.due ≡ self.old.due }
-        ensures lower_page { IsPage self.new }
-        ensures upper_page { IsPage result }
+        ensures lower_page { IsPage bytes.now self.new }
+        ensures upper_page { IsPage bytes.now result }
     {
         move_behind(&mut self.items, 32, &mut upper);
         Page {

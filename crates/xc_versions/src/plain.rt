@@ -207,7 +207,7 @@ fn run(alloc: Global, seed: u64, calls: u64, commits: u64, rare: u64) -> Result<
         let i = next(&mut state, 8) as usize;
         let t = next(&mut state, commits);
         let key = Key::any(KEYS[i].as_bytes())?;
-        if !same_value(versions.at(&key, t), value_at(&items, i, t)) {
+        if !same_value(versions.at(&key, t).as_ref(), value_at(&items, i, t)) {
             return Ok(false);
         }
         if next(&mut state, rare) == 0 && !same_rows(alloc, &versions, &items, t)? {

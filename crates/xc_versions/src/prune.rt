@@ -1,23 +1,27 @@
 // What a prune takes from a page, from its last version to its first.
-ghost use Rattle.std.specs.Prelude.{◌≡◌, ℕ, List, ◌++◌, ◌<◌, ◌≤◌, length, slice_get};
+ghost use Rattle.std.specs.Prelude.{◌≡◌, ℕ, List, ◌++◌, ◌<◌, ◌≤◌, length, slice_get, option_map};
 ghost use Rattle.std.specs.VecDeque.{deque_capacity};
 ghost use Rattle.std.specs.Option.{option_to_list};
 ghost use Rattle.xc_versions.specs.Stored.{next_commit, pruned_before};
-ghost use Rattle.xc_versions.specs.Pages.{IdleNext};
+ghost use Rattle.std.specs.List.{AllByRecursion};
+ghost use Rattle.xc_versions.specs.Slots.{seen, Lies};
+ghost use Rattle.xc_versions.specs.Pages.{held, IdleNext};
 ghost use Rattle.xc_versions.specs.declared.stored.StoredVersion.{StoredVersion};
 
+use crate::arena::{key_bytes, op_bytes};
 use crate::page::Page;
 use crate::queue::remove_at;
-use crate::stored::StoredVersion;
+use crate::stored::Slot;
 
 // The commit of the next version, where it is of the same key.
 #[inline]
-fn next_commit(version: &StoredVersion, next: &Option<StoredVersion>) -> Option<u64>
-    ensures { result ≡ next_commit version.now (option_to_list next.now) }
+fn next_commit(bytes: &[u8], version: &Slot, next: &Option<Slot>) -> Option<u64>
+    ensures { result
+        ≡ next_commit (seen bytes.now version.now) (option_to_list (option_map (seen bytes.now) next.now)) }
 {
     match next {
         Some(next) => {
-            if version.key == next.key {
+            if key_bytes(bytes, version.at) == key_bytes(bytes, next.at) {
                 Some(next.commit)
             } else {
                 None
@@ -29,23 +33,27 @@ fn next_commit(version: &StoredVersion, next: &Option<StoredVersion>) -> Option<
 
 impl Page {
     /// Removes what its next version replaces at the cutoff, and notes when more is due. Behind the page stands `next`,
-    /// or nothing.
-    pub(crate) fn prune(&mut self, next: Option<StoredVersion>, cutoff: u64)
-        ensures items { (rest : List StoredVersion) → slice_get rest 0 ≡ next
-            → self.new.items.items ++ rest ≡ pruned_before cutoff self.old.items.items rest }
-        ensures idle { (u : ℕ) (rest : List StoredVersion) → slice_get rest 0 ≡ next → u < self.new.due
-            → IdleNext u self.new.items.items rest }
+    /// or nothing. It gives the number of bytes that no slot of the page names any more.
+    pub(crate) fn prune(&mut self, bytes: &[u8], next: Option<Slot>, cutoff: u64) -> usize
+        requires { AllByRecursion (λ s. Lies bytes.now s.at) self.old.items.items }
+        ensures items { (rest : List StoredVersion) → slice_get rest 0 ≡ option_map (seen bytes.now) next
+            → held bytes.now self.new ++ rest ≡ pruned_before cutoff (held bytes.now self.old) rest }
+        ensures idle { (u : ℕ) (rest : List StoredVersion) → slice_get rest 0 ≡ option_map (seen bytes.now) next
+            → u < self.new.due → IdleNext u (held bytes.now self.new) rest }
+        ensures lie { AllByRecursion (λ s. Lies bytes.now s.at) self.new.items.items }
         ensures len { length self.new.items.items ≤ length self.old.items.items }
         ensures capacity { deque_capacity self.new.items ≡ deque_capacity self.old.items }
     {
         let mut behind = next;
         let mut due = u64::MAX;
+        let mut dead: usize = 0;
         let mut i = self.items.len();
         while i > 0 {
             i -= 1;
             let version = self.items[i];
-            match next_commit(&version, &behind) {
+            match next_commit(bytes, &version, &behind) {
                 Some(commit) if commit <= cutoff => {
+                    dead = dead.saturating_add(op_bytes(bytes, version.at).len());
                     remove_at(&mut self.items, i);
                 }
                 Some(commit) => {
@@ -56,5 +64,6 @@ impl Page {
             }
         }
         self.due = due;
+        dead
     }
 }

@@ -1,12 +1,14 @@
 // Rows in byte order of keys, and how they come about while versions are gone over in order.
-ghost use Rattle.std.specs.Prelude.{◌≡◌, ℕ, List, ◌++◌, ◌-◌, [], length, slice_get, OnOk};
+ghost use Rattle.std.specs.Prelude.{◌≡◌, ℕ, List, ◌++◌, ◌-◌, [], length, map, slice_get, OnOk};
 ghost use Rattle.std.specs.List.{AllByRecursion};
 ghost use Rattle.xc_record.specs.Path.{Written};
 ghost use Rattle.xc_record.specs.Rows.{put_row, rows_after};
 ghost use Rattle.xc_versions.specs.Stored.{InOrder};
+ghost use Rattle.xc_versions.specs.Slots.{key_at, value_at, seen, Lies};
 ghost use Rattle.xc_versions.specs.RowsSeen.{row_of, is_row_of, Below, Under, ops_to};
 
-use crate::stored::StoredVersion;
+use crate::arena;
+use crate::stored::Slot;
 use std::alloc::{AllocError, Global};
 use std::collections::VecDeque;
 use std::marker::Model;
@@ -86,13 +88,15 @@ fn drop_row(rows: &mut Vec<(Key, Value)>, key: &Key)
 }
 
 // Puts what the version leaves at its key, which is at least the rows' keys.
-fn put_version(rows: &mut Vec<(Key, Value)>, version: &StoredVersion) -> Result<(), AllocError>
-    requires { Under rows.old.items version.now.key }
-    ensures { OnOk result (rows.new.items ≡ put_row version.now.key version.now.value rows.old.items) }
+fn put_version(rows: &mut Vec<(Key, Value)>, bytes: &[u8], at: u32) -> Result<(), AllocError>
+    requires under { Under rows.old.items (key_at bytes.now at) }
+    requires lies { Lies bytes.now at }
+    ensures { OnOk result (rows.new.items ≡ put_row (key_at bytes.now at) (value_at bytes.now at) rows.old.items) }
 {
-    drop_row(rows, &version.key);
-    if let Some(value) = version.value {
-        rows.push((version.key, value))?;
+    let key = arena::key(bytes, at);
+    drop_row(rows, &key);
+    if let Some(value) = arena::value_of(bytes, at) {
+        rows.push((key, value))?;
     }
     Ok(())
 }
@@ -100,17 +104,20 @@ fn put_version(rows: &mut Vec<(Key, Value)>, version: &StoredVersion) -> Result<
 /// Puts what the versions with commit at most t leave at their keys, which are at least the rows' keys.
 pub(crate) fn put_versions(
     rows: &mut Vec<(Key, Value)>,
-    versions: &VecDeque<StoredVersion>,
+    bytes: &[u8],
+    slots: &VecDeque<Slot>,
     t: u64,
 ) -> Result<(), AllocError>
-    requires under { AllByRecursion (λ x. Under rows.old.items x.key) versions.now.items }
-    requires ordered { InOrder versions.now.items }
-    ensures { OnOk result (rows.new.items ≡ rows_after (ops_to t versions.now.items) rows.old.items) }
+    requires under { AllByRecursion (λ x. Under rows.old.items x.key) (map (seen bytes.now) slots.now.items) }
+    requires ordered { InOrder (map (seen bytes.now) slots.now.items) }
+    requires lie { AllByRecursion (λ s. Lies bytes.now s.at) slots.now.items }
+    ensures { OnOk result (rows.new.items
+        ≡ rows_after (ops_to t (map (seen bytes.now) slots.now.items)) rows.old.items) }
 {
-    for i in 0..versions.len() {
-        let version = &versions[i];
-        if version.commit <= t {
-            put_version(rows, version)?;
+    for i in 0..slots.len() {
+        let slot = slots[i];
+        if slot.commit <= t {
+            put_version(rows, bytes, slot.at)?;
         }
     }
     Ok(())

@@ -1,23 +1,24 @@
 // Prunes and drops over pages: pages that became empty go to the pool.
 ghost use Rattle.std.specs.Prelude.{◌≡◌, ◌++◌, ◌<◌, ◌≤◌, ◌+◌, nat_lt, remove, take, drop, length, slice_get};
-ghost use Rattle.std.specs.Prelude.{slice_index_or, vec_capacity};
+ghost use Rattle.std.specs.Prelude.{slice_index_or, vec_capacity, option_map};
 ghost use Rattle.std.specs.List.{AllByRecursion};
 ghost use Rattle.std.specs.VecDeque.{deque_capacity};
 ghost use Rattle.xc_versions.specs.Stored.{kept, pruned_before, up_to};
-ghost use Rattle.xc_versions.specs.Pages.{IsPage, IsEmptyPage, items_of, spare_of};
+ghost use Rattle.xc_versions.specs.Slots.{seen};
+ghost use Rattle.xc_versions.specs.Pages.{held, IsPage, IsEmptyPage, items_of, spare_of};
 ghost use Rattle.xc_versions.specs.declared.page.Page.{Page};
 ghost use Rattle.xc_versions.specs.Pool.{IsStore};
 ghost use Rattle.xc_versions.specs.Dues.{dues_of, Covers, Shrunk};
 
 use crate::least::{GROUP, fill, least_of, raise_at, settle};
 use crate::page::Page;
-use crate::stored::{StoredVersion, drop_later};
+use crate::stored::{Slot, drop_later};
 use std::collections::VecDeque;
 
 // The first version of the pages from i on.
-fn first_from(pages: &VecDeque<Page>, i: usize) -> Option<StoredVersion>
-    requires { AllByRecursion IsPage pages.now.items }
-    ensures { result ≡ slice_get (items_of (drop i pages.now.items)) 0 }
+fn first_from(bytes: &[u8], pages: &VecDeque<Page>, i: usize) -> Option<Slot>
+    requires { AllByRecursion (IsPage bytes.now) pages.now.items }
+    ensures { option_map (seen bytes.now) result ≡ slice_get (items_of bytes.now (drop i pages.now.items)) 0 }
 {
     if i < pages.len() {
         let page = &pages[i];
@@ -28,7 +29,7 @@ fn first_from(pages: &VecDeque<Page>, i: usize) -> Option<StoredVersion>
 }
 
 // Moves the empty page i to the pool.
-fn free(pages: &mut VecDeque<Page>, pool: &mut Vec<VecDeque<StoredVersion>>, i: usize)
+fn free(pages: &mut VecDeque<Page>, pool: &mut Vec<VecDeque<Slot>>, i: usize)
     requires within { i < length pages.old.items }
     requires none { (q : Page) → q ≡ slice_index_or pages.old.items i q → IsEmptyPage q.items }
     requires empty { AllByRecursion IsEmptyPage pool.old.items }
@@ -44,34 +45,37 @@ fn free(pages: &mut VecDeque<Page>, pool: &mut Vec<VecDeque<StoredVersion>>, i: 
     }
 }
 
-// Removes from the page i what the next version replaces at the cutoff.
+// Removes from the page i what the next version replaces at the cutoff. It gives the number of bytes that no slot names
+// any more, as do those that call it.
 fn prune_at(
+    bytes: &[u8],
     pages: &mut VecDeque<Page>,
-    pool: &mut Vec<VecDeque<StoredVersion>>,
+    pool: &mut Vec<VecDeque<Slot>>,
     i: usize,
     cutoff: u64,
-)
-    requires store { IsStore pages.old pool.old }
+) -> usize
+    requires store { IsStore bytes.now pages.old pool.old }
     requires within { i < length pages.old.items }
-    ensures store { IsStore pages.new pool.new }
+    ensures store { IsStore bytes.now pages.new pool.new }
     ensures front { take i pages.new.items ≡ take i pages.old.items }
     ensures tail { (q : Page) → q ≡ slice_index_or pages.old.items i q
-        → items_of (drop i pages.new.items)
-        ≡ pruned_before cutoff q.items.items (items_of (drop (i + 1) pages.old.items)) }
+        → items_of bytes.now (drop i pages.new.items)
+        ≡ pruned_before cutoff (held bytes.now q) (items_of bytes.now (drop (i + 1) pages.old.items)) }
     ensures spare { spare_of pages.old.items (length pool.old.items) ≤ spare_of pages.new.items
         (length pool.new.items) }
     ensures dues { Shrunk i (dues_of pages.old.items) (dues_of pages.new.items) }
     ensures len { i ≤ length pages.new.items }
 {
     if is_idle(pages, i, cutoff) {
-        return;
+        return 0;
     }
-    let next = first_from(pages, i + 1);
+    let next = first_from(bytes, pages, i + 1);
     let page = &mut pages[i];
-    page.prune(next, cutoff);
+    let dead = page.prune(bytes, next, cutoff);
     if page.items.is_empty() {
         free(pages, pool, i);
     }
+    dead
 }
 
 // Whether nothing of the page i is due at the cutoff.
@@ -86,47 +90,51 @@ fn is_idle(pages: &VecDeque<Page>, i: usize, cutoff: u64) -> bool
 
 // The same, and what is said of the page's group holds. At the group's first page it is what the pages are due for.
 fn prune_page(
+    bytes: &[u8],
     pages: &mut VecDeque<Page>,
-    pool: &mut Vec<VecDeque<StoredVersion>>,
+    pool: &mut Vec<VecDeque<Slot>>,
     least: &mut Vec<u64>,
     i: usize,
     cutoff: u64,
-)
-    requires store { IsStore pages.old pool.old }
+) -> usize
+    requires store { IsStore bytes.now pages.old pool.old }
     requires within { i < length pages.old.items }
     requires least { Covers (dues_of pages.old.items) least.old.items }
-    ensures store { IsStore pages.new pool.new }
+    ensures store { IsStore bytes.now pages.new pool.new }
     ensures front { take i pages.new.items ≡ take i pages.old.items }
     ensures tail { (q : Page) → q ≡ slice_index_or pages.old.items i q
-        → items_of (drop i pages.new.items)
-        ≡ pruned_before cutoff q.items.items (items_of (drop (i + 1) pages.old.items)) }
+        → items_of bytes.now (drop i pages.new.items)
+        ≡ pruned_before cutoff (held bytes.now q) (items_of bytes.now (drop (i + 1) pages.old.items)) }
     ensures spare { spare_of pages.old.items (length pool.old.items) ≤ spare_of pages.new.items
         (length pool.new.items) }
     ensures least { Covers (dues_of pages.new.items) least.new.items }
 {
     let count = pages.len();
-    prune_at(pages, pool, i, cutoff);
+    let dead = prune_at(bytes, pages, pool, i, cutoff);
     settle(least, pages, i, count);
     raise_at(least, pages, i);
+    dead
 }
 
 /// Of each key's versions with commit at most the cutoff only the last stays. Of 64 pages that lose none, none is
 /// looked at.
 pub(crate) fn prune(
+    bytes: &[u8],
     pages: &mut VecDeque<Page>,
-    pool: &mut Vec<VecDeque<StoredVersion>>,
+    pool: &mut Vec<VecDeque<Slot>>,
     least: &mut Vec<u64>,
     cutoff: u64,
-)
-    requires store { IsStore pages.old pool.old }
+) -> usize
+    requires store { IsStore bytes.now pages.old pool.old }
     requires least { Covers (dues_of pages.old.items) least.old.items }
-    ensures store { IsStore pages.new pool.new }
-    ensures items { items_of pages.new.items ≡ kept cutoff (items_of pages.old.items) }
+    ensures store { IsStore bytes.now pages.new pool.new }
+    ensures items { items_of bytes.now pages.new.items ≡ kept cutoff (items_of bytes.now pages.old.items) }
     ensures spare { spare_of pages.old.items (length pool.old.items) ≤ spare_of pages.new.items
         (length pool.new.items) }
     ensures least { Covers (dues_of pages.new.items) least.new.items }
 {
     fill(least, pages.len() / GROUP + 1);
+    let mut dead: usize = 0;
     let mut i = pages.len();
     while i > 0 {
         let group = (i - 1) / GROUP;
@@ -134,19 +142,27 @@ pub(crate) fn prune(
             i = group * GROUP;
         } else {
             i -= 1;
-            prune_page(pages, pool, least, i, cutoff);
+            dead = dead.saturating_add(prune_page(bytes, pages, pool, least, i, cutoff));
         }
     }
+    dead
 }
 
 // Removes from the page i the versions with commit above t.
-fn drop_at(pages: &mut VecDeque<Page>, pool: &mut Vec<VecDeque<StoredVersion>>, i: usize, t: u64)
-    requires store { IsStore pages.old pool.old }
+fn drop_at(
+    bytes: &[u8],
+    pages: &mut VecDeque<Page>,
+    pool: &mut Vec<VecDeque<Slot>>,
+    i: usize,
+    t: u64,
+)
+    requires store { IsStore bytes.now pages.old pool.old }
     requires within { i < length pages.old.items }
-    ensures store { IsStore pages.new pool.new }
+    ensures store { IsStore bytes.now pages.new pool.new }
     ensures front { take i pages.new.items ≡ take i pages.old.items }
     ensures tail { (q : Page) → q ≡ slice_index_or pages.old.items i q
-        → items_of (drop i pages.new.items) ≡ up_to t q.items.items ++ items_of (drop (i + 1) pages.old.items) }
+        → items_of bytes.now (drop i pages.new.items)
+        ≡ up_to t (held bytes.now q) ++ items_of bytes.now (drop (i + 1) pages.old.items) }
     ensures spare { spare_of pages.old.items (length pool.old.items) ≤ spare_of pages.new.items
         (length pool.new.items) }
     ensures dues { Shrunk i (dues_of pages.old.items) (dues_of pages.new.items) }
@@ -161,15 +177,16 @@ fn drop_at(pages: &mut VecDeque<Page>, pool: &mut Vec<VecDeque<StoredVersion>>, 
 
 /// The versions with commit above t go, and all others stay.
 pub(crate) fn drop_after(
+    bytes: &[u8],
     pages: &mut VecDeque<Page>,
-    pool: &mut Vec<VecDeque<StoredVersion>>,
+    pool: &mut Vec<VecDeque<Slot>>,
     least: &mut Vec<u64>,
     t: u64,
 )
-    requires store { IsStore pages.old pool.old }
+    requires store { IsStore bytes.now pages.old pool.old }
     requires least { Covers (dues_of pages.old.items) least.old.items }
-    ensures store { IsStore pages.new pool.new }
-    ensures items { items_of pages.new.items ≡ up_to t (items_of pages.old.items) }
+    ensures store { IsStore bytes.now pages.new pool.new }
+    ensures items { items_of bytes.now pages.new.items ≡ up_to t (items_of bytes.now pages.old.items) }
     ensures spare { spare_of pages.old.items (length pool.old.items) ≤ spare_of pages.new.items
         (length pool.new.items) }
     ensures least { Covers (dues_of pages.new.items) least.new.items }
@@ -178,7 +195,7 @@ pub(crate) fn drop_after(
     while i > 0 {
         i -= 1;
         let count = pages.len();
-        drop_at(pages, pool, i, t);
+        drop_at(bytes, pages, pool, i, t);
         settle(least, pages, i, count);
     }
 }

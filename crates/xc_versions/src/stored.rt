@@ -1,16 +1,18 @@
 // A version as it is kept, and the search among versions in order.
-ghost use Rattle.std.specs.Prelude.{◌≡◌, ◌<◌, ◌+◌, ◌≤◌, length, true};
+ghost use Rattle.std.specs.Prelude.{◌≡◌, length, map, filter, nat_le, true};
 ghost use Rattle.std.specs.VecDeque.{deque_capacity};
 ghost use Rattle.std.specs.Ordering.{is_gt};
-ghost use Rattle.xc_versions.specs.Stored.{stored_cmp, InOrder, IsNew, with_version, reaches, up_to};
+ghost use Rattle.xc_versions.specs.Stored.{stored_cmp, InOrder, reaches};
+ghost use Rattle.xc_versions.specs.Slots.{seen};
 ghost use Rattle.xc_versions.specs.Splits.{Splits};
-ghost use Rattle.xc_versions.specs.declared.stored.StoredVersion.{StoredVersion};
 
+use crate::arena::key_bytes;
 use std::cmp::Ordering;
 use std::collections::VecDeque;
 use xc_base::{Key, Value};
 
-/// A version of a row: what its key was set to, by which transaction, and when that committed.
+/// A version of a row: what its key was set to, by which transaction, and when that committed. Contracts speak of
+/// these, and pages keep a [`Slot`] of each.
 #[derive(Clone, Copy, Debug)]
 pub struct StoredVersion {
     /// When its transaction committed.
@@ -19,19 +21,29 @@ pub struct StoredVersion {
     pub place: u64,
     /// Its transaction's number, 0 for a write of one tablet.
     pub txn: u32,
-    /// The row's key, so near to the numbers that a comparison mostly reads one line of memory.
+    /// The row's key.
     pub key: Key,
     /// What the key was set to, or None where it was removed.
     pub value: Option<Value>,
 }
 
-impl StoredVersion {
+/// What a page keeps of a version. Its key and its value lie in the arena.
+#[derive(Clone, Copy, Debug)]
+pub(crate) struct Slot {
+    pub(crate) commit: u64,
+    pub(crate) place: u64,
+    pub(crate) txn: u32,
+    /// Where its operation begins.
+    pub(crate) at: u32,
+}
+
+impl Slot {
     // By the bytes of the key, then by commit, number and place.
     #[inline]
-    fn order(&self, other: &StoredVersion) -> Ordering
-        ensures { result ≡ stored_cmp self.now other.now }
+    fn order(&self, bytes: &[u8], other: &Slot) -> Ordering
+        ensures { result ≡ stored_cmp (seen bytes.now self.now) (seen bytes.now other.now) }
     {
-        match self.key.cmp(&other.key) {
+        match key_bytes(bytes, self.at).cmp(&key_bytes(bytes, other.at)) {
             Ordering::Equal => match self.commit.cmp(&other.commit) {
                 Ordering::Equal => match self.txn.cmp(&other.txn) {
                     Ordering::Equal => self.place.cmp(&other.place),
@@ -43,20 +55,20 @@ impl StoredVersion {
         }
     }
 
-    // Whether it stands behind the other.
+    /// Whether its version stands behind the other's.
     #[inline]
-    pub fn is_after(&self, other: &StoredVersion) -> bool
-        ensures { result ≡ is_gt (stored_cmp self.now other.now) }
+    pub(crate) fn is_after(&self, bytes: &[u8], other: &Slot) -> bool
+        ensures { result ≡ is_gt (stored_cmp (seen bytes.now self.now) (seen bytes.now other.now)) }
     {
-        self.order(other) == Ordering::Greater
+        self.order(bytes, other) == Ordering::Greater
     }
 
-    // Whether it is of a lesser key, or of this key with commit at most t.
+    /// Whether its version is of a lesser key, or of this key with commit at most t.
     #[inline]
-    pub fn reaches(&self, key: &Key, t: u64) -> bool
-        ensures { result ≡ reaches key.now t self.now }
+    pub(crate) fn reaches(&self, bytes: &[u8], key: &Key, t: u64) -> bool
+        ensures { result ≡ reaches key.now t (seen bytes.now self.now) }
     {
-        match self.key.cmp(key) {
+        match key_bytes(bytes, self.at).cmp(&key.bytes()) {
             Ordering::Less => true,
             Ordering::Equal => self.commit <= t,
             Ordering::Greater => false,
@@ -66,27 +78,28 @@ impl StoredVersion {
 
 // Whether all of the versions stand before this one: the last does.
 #[inline]
-fn is_behind_all(items: &VecDeque<StoredVersion>, version: &StoredVersion) -> bool
-    requires { InOrder items.now.items }
-    ensures { result ≡ true → Splits (λ x. is_gt (stored_cmp version.now x)) (length items.now.items) items.now.items }
+fn is_behind_all(bytes: &[u8], items: &VecDeque<Slot>, slot: &Slot) -> bool
+    requires { InOrder (map (seen bytes.now) items.now.items) }
+    ensures { result ≡ true → Splits (λ x. is_gt (stored_cmp (seen bytes.now slot.now) (seen bytes.now x)))
+        (length items.now.items) items.now.items }
 {
     let count = items.len();
-    count > 0 && version.is_after(&items[count - 1])
+    count > 0 && slot.is_after(bytes, &items[count - 1])
 }
 
 /// How many of the versions stand before this one. It is often the last of all.
-pub(crate) fn place_of(items: &VecDeque<StoredVersion>, version: &StoredVersion) -> usize
-    requires { InOrder items.now.items }
-    ensures { Splits (λ x. is_gt (stored_cmp version.now x)) result items.now.items }
+pub(crate) fn place_of(bytes: &[u8], items: &VecDeque<Slot>, slot: &Slot) -> usize
+    requires { InOrder (map (seen bytes.now) items.now.items) }
+    ensures { Splits (λ x. is_gt (stored_cmp (seen bytes.now slot.now) (seen bytes.now x))) result items.now.items }
 {
-    if is_behind_all(items, version) {
+    if is_behind_all(bytes, items, slot) {
         return items.len();
     }
     let mut low = 0;
     let mut high = items.len();
     while low < high {
         let middle = low + (high - low) / 2;
-        if version.is_after(&items[middle]) {
+        if slot.is_after(bytes, &items[middle]) {
             low = middle + 1;
         } else {
             high = middle;
@@ -96,15 +109,15 @@ pub(crate) fn place_of(items: &VecDeque<StoredVersion>, version: &StoredVersion)
 }
 
 /// How many of the versions are of lesser keys, or of this key with commit at most t.
-pub(crate) fn reached(items: &VecDeque<StoredVersion>, key: &Key, t: u64) -> usize
-    requires { InOrder items.now.items }
-    ensures { Splits (reaches key.now t) result items.now.items }
+pub(crate) fn reached(bytes: &[u8], items: &VecDeque<Slot>, key: &Key, t: u64) -> usize
+    requires { InOrder (map (seen bytes.now) items.now.items) }
+    ensures { Splits (λ x. reaches key.now t (seen bytes.now x)) result items.now.items }
 {
     let mut low = 0;
     let mut high = items.len();
     while low < high {
         let middle = low + (high - low) / 2;
-        if items[middle].reaches(key, t) {
+        if items[middle].reaches(bytes, key, t) {
             low = middle + 1;
         } else {
             high = middle;
@@ -114,8 +127,8 @@ pub(crate) fn reached(items: &VecDeque<StoredVersion>, key: &Key, t: u64) -> usi
 }
 
 /// The versions with commit above t go.
-pub(crate) fn drop_later(items: &mut VecDeque<StoredVersion>, t: u64)
-    ensures items { items.new.items ≡ up_to t items.old.items }
+pub(crate) fn drop_later(items: &mut VecDeque<Slot>, t: u64)
+    ensures items { items.new.items ≡ filter (λ x. nat_le x.commit t) items.old.items }
     ensures capacity { deque_capacity items.new ≡ deque_capacity items.old }
 {
     items.retain(|version| version.commit <= t);

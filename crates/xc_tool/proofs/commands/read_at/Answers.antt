@@ -1,18 +1,10 @@
-use Rattle.std.proofs.Common.{◌∙◌}
 use Rattle.xc_tool.proofs.StepLines.{read-at-line, read-early, read-late}
 use Rattle.xc_tool.proofs.commands.read_at.Goals as goal
 
 pub returns-in-Ok : goal.returns-in-Ok
 returns-in-Ok c =
-    λ logs m is st agree. let a =
-    c.in-Ok.ensures.shows logs m is st agree in read-at-line logs m c.args.u c.args.key.now _ _ (
-      a.0,
-      (
-        a.1.0,
-        c.copied.ensures
-            ∙ a.1.1,
-      ),
-    ) st
+    λ logs m is st agree.
+    read-at-line logs m c.args.u c.args.key.now _ _ (c.in-Ok.ensures.shows logs m is st agree) st
 
 pub returns-in-Err-Ahead : goal.returns-in-Err-Ahead
 returns-in-Err-Ahead c =

@@ -4,7 +4,8 @@ use Rattle.std.proofs.lemmas.List.{length-set, length-take-le, length-drop}
 use Rattle.std.proofs.lemmas.Bool.{ltb-true, ltb-false}
 use Rattle.xc_versions.specs.declared.page.Page.{Page}
 use Rattle.xc_versions.specs.Stored.{with_version}
-use Rattle.xc_versions.specs.Pages.{items_of, IsPage, spare_of}
+use Rattle.xc_versions.specs.Slots.{seen}
+use Rattle.xc_versions.specs.Pages.{held, items_of, IsPage, spare_of}
 use Rattle.xc_versions.proofs.AddLaws.{Grown, in_page, added-at, set-cut, insert-cut, spare-one, spare-two, pool-there, page-at, halves}
 use Rattle.xc_versions.proofs.AddLaws.{length-set-insert}
 use Rattle.xc_versions.proofs.DueLaws.{grew-one, grew-two}
@@ -13,37 +14,35 @@ use Rattle.xc_versions.proofs.pages.add_at.Goals.{After-pages-else-is_over-1, Af
 
 pub put-requires-clause-ordered : goal.put-requires-clause-ordered
 put-requires-clause-ordered c =
-    (in_page c.args.version c.args.pages.now.items c.args.i c.index_mut-page.result.now c.requires.store.paged c.requires.fresh
+    let b = c.args.bytes.now in
+    (in_page b (seen b c.args.slot) c.args.pages.now.items c.args.i c.index_mut-page.result.now c.requires.store.paged c.requires.fresh
     c.requires.within c.index_mut-page.ensures.value).0
-
-pub put-requires-clause-fresh : goal.put-requires-clause-fresh
-put-requires-clause-fresh c =
-    (in_page c.args.version c.args.pages.now.items c.args.i c.index_mut-page.result.now c.requires.store.paged c.requires.fresh
-    c.requires.within c.index_mut-page.ensures.value).1
 
 pub take_empty-requires-clause-some : goal.take_empty-requires-clause-some
 take_empty-requires-clause-some c =
+    let b = c.args.bytes.now in
     let q = c.index_mut-page.result.now in
-    let page = page-at c.args.pages.now.items c.args.i q c.requires.store.paged.pages c.requires.within c.index_mut-page.ensures.value in
+    let page = page-at b c.args.pages.now.items c.args.i q c.requires.store.paged.pages c.requires.within c.index_mut-page.ensures.value in
     let over = ltb-true 64 (length c.put.new.self.items.items) (sym c.if-is_over.ensures) in
     let full : length q.items.items ≡ 64 = let few = page.few in let long = c.put.ensures.len in omega arith in
     pool-there c.args.pages.now.items c.args.i q (length c.args.pool.now.items) c.requires.within c.index_mut-page.ensures.value full
     c.requires.room
 
 grown-one : (c : After-pages-else-is_over-1)
-    → Grown c.args.version c.args.pages.now.items (set c.args.pages.now.items c.args.i c.put.new.self)
+    → Grown c.args.bytes.now (seen c.args.bytes.now c.args.slot) c.args.pages.now.items (set c.args.pages.now.items c.args.i c.put.new.self)
 grown-one c =
+    let b = c.args.bytes.now in
     let old = c.args.pages.now.items in
     let q = c.index_mut-page.result.now in
     let r = c.put.new.self in
-    let page = page-at old c.args.i q c.requires.store.paged.pages c.requires.within c.index_mut-page.ensures.value in
+    let page = page-at b old c.args.i q c.requires.store.paged.pages c.requires.within c.index_mut-page.ensures.value in
     let fits = ltb-false 64 (length r.items.items) (sym c.if-is_over.ensures) in
     let long = c.put.ensures.len in
-    let is_page : IsPage r = record { some = omega arith; few = fits; room = c.put.ensures.room } in
-    subst (λ (ps : List Page). Grown c.args.version old ps) (sym (set-cut old c.args.i r c.requires.within))
-    (added-at c.args.version old c.args.i q (r ∷ []) c.requires.store.paged c.requires.fresh c.requires.within c.requires.around
+    let is_page : IsPage b r = record { some = omega arith; few = fits; room = c.put.ensures.room; lies = c.put.ensures.lie } in
+    subst (λ (ps : List Page). Grown b (seen b c.args.slot) old ps) (sym (set-cut old c.args.i r c.requires.within))
+    (added-at b (seen b c.args.slot) old c.args.i q (r ∷ []) c.requires.store.paged c.requires.fresh c.requires.within c.requires.around
     c.index_mut-page.ensures.value
-    (append-nil r.items.items ∙ c.put.ensures.items) (is_page, tt) (c.put.ensures.due, tt))
+    (append-nil (held b r) ∙ c.put.ensures.items) (is_page, tt) (c.put.ensures.due, tt))
 
 pub returns-else-is_over-clause-store : goal.returns-else-is_over-clause-store
 returns-else-is_over-clause-store c =
@@ -57,7 +56,8 @@ returns-else-is_over-clause-store c =
     }
 
 pub returns-else-is_over-clause-items : goal.returns-else-is_over-clause-items
-returns-else-is_over-clause-items c = (grown-one c).items
+returns-else-is_over-clause-items c =
+    (grown-one c).items
 
 pub returns-else-is_over-clause-spare : goal.returns-else-is_over-clause-spare
 returns-else-is_over-clause-spare c =
@@ -68,8 +68,9 @@ returns-else-is_over-clause-spare c =
 
 full-page : (c : After-insert_at) → length c.index_mut-page.result.now.items.items ≡ 64
 full-page c =
+    let b = c.args.bytes.now in
     let q = c.index_mut-page.result.now in
-    let page = page-at c.args.pages.now.items c.args.i q c.requires.store.paged.pages c.requires.within c.index_mut-page.ensures.value in
+    let page = page-at b c.args.pages.now.items c.args.i q c.requires.store.paged.pages c.requires.within c.index_mut-page.ensures.value in
     let over = ltb-true 64 (length c.put.new.self.items.items) (sym c.if-is_over.ensures) in
     let few = page.few in
     let long = c.put.ensures.len in
@@ -78,19 +79,22 @@ full-page c =
 new-pages : (c : After-insert_at)
     → c.insert_at.new.items.items ≡ take c.args.i c.args.pages.now.items ++
     ((c.split-upper.new.self ∷ c.split-upper.result ∷ []) ++ drop (c.args.i + 1) c.args.pages.now.items)
-new-pages c = c.insert_at.ensures.items
+new-pages c =
+    c.insert_at.ensures.items
     ∙ insert-cut c.args.pages.now.items c.args.i c.split-upper.new.self c.split-upper.result c.requires.within
 
-grown-two : (c : After-insert_at) → Grown c.args.version c.args.pages.now.items c.insert_at.new.items.items
+grown-two : (c : After-insert_at) → Grown c.args.bytes.now (seen c.args.bytes.now c.args.slot) c.args.pages.now.items
+    c.insert_at.new.items.items
 grown-two c =
+    let b = c.args.bytes.now in
     let old = c.args.pages.now.items in
     let q = c.index_mut-page.result.now in
     let r = c.split-upper.new.self in
     let s = c.split-upper.result in
-    let whole : items_of (r ∷ s ∷ []) ≡ with_version c.args.version q.items.items =
-    halves c.put.new.self.items.items r s c.split-upper.ensures.lower c.split-upper.ensures.upper ∙ c.put.ensures.items in
-    subst (λ (ps : List Page). Grown c.args.version old ps) (sym (new-pages c))
-    (added-at c.args.version old c.args.i q (r ∷ s ∷ []) c.requires.store.paged c.requires.fresh c.requires.within c.requires.around
+    let whole : items_of b (r ∷ s ∷ []) ≡ with_version (seen b c.args.slot) (held b q) =
+    halves b c.put.new.self.items.items r s c.split-upper.ensures.lower c.split-upper.ensures.upper ∙ c.put.ensures.items in
+    subst (λ (ps : List Page). Grown b (seen b c.args.slot) old ps) (sym (new-pages c))
+    (added-at b (seen b c.args.slot) old c.args.i q (r ∷ s ∷ []) c.requires.store.paged c.requires.fresh c.requires.within c.requires.around
     c.index_mut-page.ensures.value
     whole (c.split-upper.ensures.lower_page, (c.split-upper.ensures.upper_page, tt)) (
       c.split-upper.ensures.lower_due
@@ -115,7 +119,8 @@ returns-then-is_over-clause-store c =
     }
 
 pub returns-then-is_over-clause-items : goal.returns-then-is_over-clause-items
-returns-then-is_over-clause-items c = (grown-two c).items
+returns-then-is_over-clause-items c =
+    (grown-two c).items
 
 pub returns-then-is_over-clause-spare : goal.returns-then-is_over-clause-spare
 returns-then-is_over-clause-spare c =
@@ -136,11 +141,16 @@ returns-then-is_over-clause-spare c =
 
 pub returns-then-is_over-clause-dues : goal.returns-then-is_over-clause-dues
 returns-then-is_over-clause-dues c =
-    grew-two c.args.pages.now.items c.insert_at.new.items.items c.args.i c.args.version.commit c.index_mut-page.result.now
+    grew-two c.args.pages.now.items c.insert_at.new.items.items c.args.i c.args.slot.commit c.index_mut-page.result.now
     c.split-upper.new.self c.split-upper.result c.requires.within c.index_mut-page.ensures.value
     (c.split-upper.ensures.lower_due ∙ c.put.ensures.due) (c.split-upper.ensures.upper_due ∙ c.put.ensures.due) (new-pages c)
 
 pub returns-else-is_over-clause-dues : goal.returns-else-is_over-clause-dues
 returns-else-is_over-clause-dues c =
-    grew-one c.args.pages.now.items c.args.i c.args.version.commit c.index_mut-page.result.now c.put.new.self c.requires.within
+    grew-one c.args.pages.now.items c.args.i c.args.slot.commit c.index_mut-page.result.now c.put.new.self c.requires.within
     c.index_mut-page.ensures.value c.put.ensures.due
+
+pub put-requires-clause-all_lie : goal.put-requires-clause-all_lie
+put-requires-clause-all_lie c =
+    (page-at c.args.bytes.now c.args.pages.now.items c.args.i c.index_mut-page.result.now c.requires.store.paged.pages c.requires.within
+    c.index_mut-page.ensures.value).lies

@@ -22,5 +22,5 @@ returns-clause-room c =
     let less : c.saturating_sub-more.result ≡ c.pages_for-most.result - length c.args.pool.now.items =
     c.saturating_sub-more.ensures ∙ ap (λ k. c.pages_for-most.result - k) held in
     subst (λ (qs : List Page). n ≤ spare_of qs m) (sym c.reserve.ensures.items)
-    (spare-enough ps n m c.requires.paged.pages (omega arith)))
+    (spare-enough c.args.bytes.now ps n m c.requires.paged.pages (omega arith)))
     c.add_empty.ensures.all

@@ -1,44 +1,72 @@
-use Rattle.std.proofs.Common.{◌<◌, ◌-◌, length, ap, sym, arith, refl}
+use Rattle.std.proofs.Common.{◌≡◌, ℕ, ◌<◌, ◌-◌, List, length, get_or, ap, sym, subst, arith, refl}
+use Rattle.xc_record.proofs.ListLaws.{Each}
+use Rattle.xc_versions.specs.declared.stored.Slot.{Slot}
+use Rattle.xc_versions.specs.declared.page.Page.{Page}
+use Rattle.xc_versions.specs.Slots.{seen, Lies}
+use Rattle.xc_versions.proofs.SlotLaws.{splits-map, read-map}
+use Rattle.xc_versions.proofs.SplitLaws.{each-at}
+use Rattle.xc_versions.proofs.AddLaws.{page-at}
 use Rattle.xc_record.specs.Kept.{last_of}
 use Rattle.xc_versions.specs.Stored.{reaches}
-use Rattle.xc_versions.specs.Pages.{items_of}
+use Rattle.xc_versions.specs.Pages.{held, items_of, IsPage}
 use Rattle.xc_versions.proofs.ShownLaws.{reaches-falls}
 use Rattle.xc_versions.proofs.PageLaws.{heads-none, around-some, last-passing, first-passes, none-passed, page-ordered}
 use Rattle.xc_versions.proofs.pages.last_reaching.Goals as goal
 
-pub returns-then-begin-eq0 : goal.returns-then-begin-eq0
-returns-then-begin-eq0 c =
+pub returns-then-begin-eq0-clause-last : goal.returns-then-begin-eq0-clause-last
+returns-then-begin-eq0-clause-last c =
+    let b = c.args.bytes.now in
     let k = c.args.key.now in
     let ps = c.args.pages.now.items in
     sym (ap last_of
-    (heads-none (reaches k c.args.t) ps c.pages_reaching-begin.result c.requires.pages
-    (reaches-falls k c.args.t (items_of ps) c.requires.ordered) c.pages_reaching-begin.ensures c.if-begin-eq0.true))
+    (heads-none b (reaches k c.args.t) ps c.pages_reaching-begin.result c.requires.pages
+    (reaches-falls k c.args.t (items_of b ps) c.requires.ordered) c.pages_reaching-begin.ensures c.if-begin-eq0.true))
 
 pub reached-reached-requires : goal.reached-reached-requires
 reached-reached-requires c =
+    let b = c.args.bytes.now in
     let w = c.pages_reaching-begin.ensures.within in
-    (page-ordered c.args.pages.now.items (c.pages_reaching-begin.result - 1) c.index-page.result.now (omega arith) c.index-page.ensures
+    (page-ordered b c.args.pages.now.items (c.pages_reaching-begin.result - 1) c.index-page.result.now (omega arith) c.index-page.ensures
     c.requires.ordered)
 
-pub returns-then-reached-eq0 : goal.returns-then-reached-eq0
-returns-then-reached-eq0 c =
+pub returns-then-reached-eq0-clause-last : goal.returns-then-reached-eq0-clause-last
+returns-then-reached-eq0-clause-last c =
+    let b = c.args.bytes.now in
     let k = c.args.key.now in
     let p = reaches k c.args.t in
-    let first = first-passes p c.args.pages.now.items c.pages_reaching-begin.result (c.pages_reaching-begin.result - 1)
+    let first = first-passes b p c.args.pages.now.items c.pages_reaching-begin.result (c.pages_reaching-begin.result - 1)
     c.index-page.result.now c.pages_reaching-begin.ensures (omega arith) c.index-page.ensures in
-    let split = c.reached-reached.ensures in
-    absurd (none-passed p c.index-page.result.now.items.items c.reached-reached.result split c.if-reached-eq0.true first)
+    let split = splits-map (seen b) p c.reached-reached.result c.index-page.result.now.items.items c.reached-reached.ensures in
+    absurd (none-passed p (held b c.index-page.result.now) c.reached-reached.result split c.if-reached-eq0.true first)
 
-pub returns : goal.returns
-returns c =
+last-slot : (b : List ℕ) (ps : List Page) (i m : ℕ) (q : Page) (x : Slot) → Each (IsPage b) ps → i < length ps → q ≡ get_or ps i q
+    → m < length q.items.items → x ≡ get_or q.items.items m x → Lies b x.at
+last-slot b ps i m q x g h e l f =
+    subst (λ (s : Slot). Lies b s.at) (sym f) (each-at (λ (s : Slot). Lies b s.at) q.items.items m x (page-at b ps i q g h e).lies l)
+
+pub returns-clause-last : goal.returns-clause-last
+returns-clause-last c =
+    let b = c.args.bytes.now in
     let k = c.args.key.now in
     let p = reaches k c.args.t in
     let ps = c.args.pages.now.items in
+    let slots = c.index-page.result.now.items.items in
     let w = c.pages_reaching-begin.ensures.within in
     let i = c.pages_reaching-begin.result - 1 in
-    let split = c.reached-reached.ensures in
+    let m = c.reached-reached.result in
+    let few = c.reached-reached.ensures.within in
+    let split = splits-map (seen b) p m slots c.reached-reached.ensures in
     let within : i < length ps = omega arith in
-    let a = around-some p ps c.pages_reaching-begin.result i c.requires.pages (reaches-falls k c.args.t (items_of ps) c.requires.ordered)
+    let a = around-some b p ps c.pages_reaching-begin.result i c.requires.pages
+    (reaches-falls k c.args.t (items_of b ps) c.requires.ordered)
     c.pages_reaching-begin.ensures refl within in
-    sym (last-passing p ps i c.index-page.result.now c.reached-reached.result c.index.result.now within c.index-page.ensures a split
-    (omega arith) c.index.ensures)
+    sym (last-passing b p ps i c.index-page.result.now m (seen b c.index.result.now) within c.index-page.ensures a split (omega arith)
+    (read-map (seen b) slots (m - 1) c.index.result.now (omega arith) c.index.ensures))
+
+pub returns-clause-lies : goal.returns-clause-lies
+returns-clause-lies c =
+    let ps = c.args.pages.now.items in
+    let w = c.pages_reaching-begin.ensures.within in
+    let few = c.reached-reached.ensures.within in
+    last-slot c.args.bytes.now ps (c.pages_reaching-begin.result - 1) (c.reached-reached.result - 1) c.index-page.result.now
+    c.index.result.now c.requires.pages (omega arith) c.index-page.ensures (omega arith) c.index.ensures

@@ -1,26 +1,44 @@
-use Rattle.std.proofs.Common.{◌≡◌, ℕ, ◌+◌, ◌<◌, List, length, cond, ap, sym, ◌∙◌, subst, arith}
+use Rattle.std.proofs.Common.{◌≡◌, ℕ, ◌+◌, ◌<◌, List, length, map, cond, ap, sym, ◌∙◌, subst, arith}
 use Rattle.std.proofs.lemmas.Bool.{le-leb, lt-leb}
+use Rattle.std.proofs.lemmas.List.{length-map}
 use Rattle.xc_record.specs.Rows.{put_row}
+use Rattle.xc_versions.specs.Slots.{seen}
 use Rattle.xc_versions.proofs.SplitLaws.{deque-long}
-use Rattle.xc_versions.proofs.RowsSeenLaws.{Seen, after_version, seen-more}
+use Rattle.xc_versions.proofs.SlotLaws.{read-map}
+use Rattle.xc_versions.proofs.RowsSeenLaws.{Seen, after_version, seen-more, seen-under}
 use Rattle.xc_versions.proofs.rows.put_versions.Goals as goal
-use Rattle.xc_versions.proofs.rows.put_versions.Goals.{then-version-t+in_ok-put_version, else-version-t}
+use Rattle.xc_versions.proofs.rows.put_versions.Goals.{then-slot-t+in_ok-put_version, else-slot-t}
+
+pub put_version-requires-clause-under : goal.put_version-requires-clause-under
+put_version-requires-clause-under c =
+    let b = c.args.bytes.now in
+    let slots = c.args.slots.now.items in
+    let long = deque-long c.args.slots.now in
+    let below = c.loop-i-test.true in
+    let end = c.len-i-end.ensures in
+    let count = length-map slots (seen b) in
+    seen-under c.args.t c.args.rows.now.items c.loop-i.rows.items (map (seen b) slots) c.loop-i.i (seen b c.index-slot.result.now)
+    c.loop-i.invariant (omega arith) (read-map (seen b) slots c.loop-i.i c.index-slot.result.now (omega arith) c.index-slot.ensures)
 
 pub loop-i-preserved : goal.loop-i-preserved
 loop-i-preserved c =
+    let b = c.args.bytes.now in
     let t = c.args.t in
-    let x = c.index-version.result.now in
+    let slots = c.args.slots.now.items in
+    let versions = map (seen b) slots in
+    let x = seen b c.index-slot.result.now in
     let rows = c.loop-i.rows.items in
-    let within : c.loop-i.i < length c.args.versions.now.items =
-    let long = deque-long c.args.versions.now in let below = c.loop-i-test.true in let end = c.len-i-end.ensures in omega arith in
-    let next : Seen t c.args.rows.now.items (after_version t x rows) c.args.versions.now.items (c.loop-i.i + 1) =
-    seen-more t c.args.rows.now.items rows c.args.versions.now.items c.loop-i.i x c.loop-i.invariant
-    within c.index-version.ensures
+    let count = length-map slots (seen b) in
+    let within : c.loop-i.i < length slots =
+    let long = deque-long c.args.slots.now in let below = c.loop-i-test.true in let end = c.len-i-end.ensures in omega arith in
+    let next : Seen t c.args.rows.now.items (after_version t x rows) versions (c.loop-i.i + 1) =
+    seen-more t c.args.rows.now.items rows versions c.loop-i.i x c.loop-i.invariant
+    (omega arith) (read-map (seen b) slots c.loop-i.i c.index-slot.result.now within c.index-slot.ensures)
     in
-    let after : after_version t x rows ≡ c.if-version-t.rows.items = elim c.if-version-t.branch [
-      | then-version-t+in_ok-put_version w ↦ ap (λ b. cond b (put_row x.key x.value rows) rows) (le-leb x.commit t w.if-version-t.true)
+    let after : after_version t x rows ≡ c.if-slot-t.rows.items = elim c.if-slot-t.branch [
+      | then-slot-t+in_ok-put_version w ↦ ap (λ b. cond b (put_row x.key x.value rows) rows) (le-leb x.commit t w.if-slot-t.true)
           ∙ sym (ap (λ v. v.items) w.rows-is ∙ w.in_ok-put_version.ensures)
-      | else-version-t w ↦ ap (λ b. cond b (put_row x.key x.value rows) rows) (lt-leb x.commit t w.if-version-t.false)
+      | else-slot-t w ↦ ap (λ b. cond b (put_row x.key x.value rows) rows) (lt-leb x.commit t w.if-slot-t.false)
           ∙ sym (ap (λ v. v.items) w.rows-is)
     ] in
-    subst (λ (r : List (List ℕ × List ℕ)). Seen t c.args.rows.now.items r c.args.versions.now.items (c.loop-i.i + 1)) after next
+    subst (λ (r : List (List ℕ × List ℕ)). Seen t c.args.rows.now.items r versions (c.loop-i.i + 1)) after next

@@ -1,12 +1,16 @@
-use Rattle.std.proofs.Common.{◌≡◌, ◌+◌, ◌<◌, ◌≤◌, List, [], ◌∷◌, ◌++◌, length, take, drop, ap, sym, ◌∙◌, subst, arith, append-nil}
+use Rattle.std.proofs.Common.{◌≡◌, ◌+◌, ◌<◌, ◌≤◌, List, [], ◌∷◌, ◌++◌, length, take, drop, map, ap, sym, ◌∙◌, subst, arith, append-nil}
 use Rattle.std.proofs.Common.{vec_capacity, deque_capacity}
 use Rattle.std.specs.Prelude.{nat_le}
 use Rattle.std.proofs.lemmas.Grind.{common_steps}
-use Rattle.std.proofs.lemmas.List.{length-set, nil_from_length, get_or_default}
+use Rattle.std.proofs.lemmas.List.{length-set, nil_from_length, get_or_default, drop_at, length-take-le}
 use Rattle.xc_versions.specs.declared.stored.StoredVersion.{StoredVersion}
 use Rattle.xc_versions.specs.declared.page.Page.{Page}
 use Rattle.xc_versions.specs.Stored.{up_to}
-use Rattle.xc_versions.specs.Pages.{items_of, IsPage, IsPaged, Idle, spare_of}
+use Rattle.xc_record.proofs.ListLaws.{Each}
+use Rattle.xc_versions.specs.declared.stored.Slot.{Slot}
+use Rattle.xc_versions.specs.Slots.{seen, Lies}
+use Rattle.xc_versions.proofs.SlotLaws.{map-filter, each-filtered}
+use Rattle.xc_versions.specs.Pages.{held, items_of, IsPage, IsPaged, Idle, spare_of}
 use Rattle.xc_versions.proofs.AddLaws.{set-cut, page-at}
 use Rattle.xc_versions.proofs.SubLaws.{Sub, sub-filter, sub-behind, idle-sub}
 use Rattle.xc_versions.proofs.ShrinkLaws.{shrunk-at, remove-cut, length-removed, behind-removed, idle-at, dues-one, spare-shrunk}
@@ -16,26 +20,30 @@ use Rattle.xc_versions.proofs.shrink.drop_at.Goals as goal
 use Rattle.xc_versions.proofs.shrink.drop_at.Goals.{After-free}
 
 new-pages : (c : After-free) → c.free.new.pages.items ≡ take c.args.i c.args.pages.now.items ++ drop (c.args.i + 1) c.args.pages.now.items
-new-pages c = c.free.ensures.pages ∙ remove-cut c.args.pages.now.items c.args.i _ c.requires.within
+new-pages c =
+    c.free.ensures.pages ∙ remove-cut c.args.pages.now.items c.args.i _ c.requires.within
 
 -- none is left of the page
-none-left : (c : After-free) → up_to c.args.t c.index_mut-page.result.now.items.items ≡ []
+none-left : (c : After-free) → up_to c.args.t (held c.args.bytes.now c.index_mut-page.result.now) ≡ []
 none-left c =
+    let b = c.args.bytes.now in
     let empty : length c.drop_later.new.items.items ≡ 0 = grind (arith, common_steps) in
-    sym c.drop_later.ensures.items ∙ nil_from_length c.drop_later.new.items.items empty
+    sym (map-filter (seen b) (λ x. nat_le x.commit c.args.t) c.index_mut-page.result.now.items.items)
+    ∙ ap (map (seen b)) (sym c.drop_later.ensures.items ∙ nil_from_length c.drop_later.new.items.items empty)
 
 pub returns-then-is_empty-clause-store : goal.returns-then-is_empty-clause-store
 returns-then-is_empty-clause-store c =
+    let b = c.args.bytes.now in
     let old = c.args.pages.now.items in
     let i = c.args.i in
     let q = c.index_mut-page.result.now in
-    let rest = items_of (drop (i + 1) old) in
-    let sub : Sub rest (q.items.items ++ rest) =
-    subst (λ (w : List StoredVersion). Sub (w ++ rest) (q.items.items ++ rest)) (none-left c)
-    (sub-behind (up_to c.args.t q.items.items) q.items.items rest (sub-filter (λ x. nat_le x.commit c.args.t) q.items.items))
+    let rest = items_of b (drop (i + 1) old) in
+    let sub : Sub rest (held b q ++ rest) =
+    subst (λ (w : List StoredVersion). Sub (w ++ rest) (held b q ++ rest)) (none-left c)
+    (sub-behind (up_to c.args.t (held b q)) (held b q) rest (sub-filter (λ x. nat_le x.commit c.args.t) (held b q)))
     in
-    let paged : IsPaged (take i old ++ drop (i + 1) old) [] =
-    shrunk-at old i q [] c.requires.store.paged c.requires.within c.index_mut-page.ensures.value sub tt (λ o. tt) in
+    let paged : IsPaged b (take i old ++ drop (i + 1) old) [] =
+    shrunk-at b old i q [] c.requires.store.paged c.requires.within c.index_mut-page.ensures.value sub tt (λ o. tt) in
     let long = length-removed old i c.requires.within in
     let count : length c.free.new.pages.items ≡ length (take i old ++ drop (i + 1) old) = ap length (new-pages c) in
     let more : length c.free.new.pool.items ≡ length c.args.pool.now.items + 1 = c.free.ensures.len in
@@ -44,7 +52,7 @@ returns-then-is_empty-clause-store c =
     let pages_room = c.requires.store.room.pages_room in
     let pool_room = c.requires.store.room.pool_room in
     record {
-      paged = subst (λ (ps : List Page). IsPaged ps []) (sym (new-pages c)) paged;
+      paged = subst (λ (ps : List Page). IsPaged b ps []) (sym (new-pages c)) paged;
       empty = c.free.ensures.empty;
       room = record
           { pages_room = omega arith; pool_room = omega arith };
@@ -52,13 +60,14 @@ returns-then-is_empty-clause-store c =
 
 pub returns-then-is_empty-clause-tail : goal.returns-then-is_empty-clause-tail
 returns-then-is_empty-clause-tail c p e =
+    let b = c.args.bytes.now in
     let old = c.args.pages.now.items in
     let i = c.args.i in
     let q = c.index_mut-page.result.now in
-    let rest = items_of (drop (i + 1) old) in
+    let rest = items_of b (drop (i + 1) old) in
     let same : p ≡ q = e ∙ get_or_default old i p q c.requires.within ∙ sym c.index_mut-page.ensures.value in
-    ap (λ ps. items_of (drop i ps)) (new-pages c) ∙ ap items_of (behind-removed old i c.requires.within)
-    ∙ sym (ap (λ w. w ++ rest) (none-left c)) ∙ ap (λ (x : Page). up_to c.args.t x.items.items ++ rest) (sym same)
+    ap (λ ps. items_of b (drop i ps)) (new-pages c) ∙ ap (items_of b) (behind-removed old i c.requires.within)
+    ∙ sym (ap (λ w. w ++ rest) (none-left c)) ∙ ap (λ (x : Page). up_to c.args.t (held b x) ++ rest) (sym same)
 
 pub returns-then-is_empty-clause-spare : goal.returns-then-is_empty-clause-spare
 returns-then-is_empty-clause-spare c =
@@ -70,37 +79,42 @@ returns-then-is_empty-clause-spare c =
 
 pub returns-else-is_empty-clause-store : goal.returns-else-is_empty-clause-store
 returns-else-is_empty-clause-store c =
+    let b = c.args.bytes.now in
     let old = c.args.pages.now.items in
     let i = c.args.i in
     let q = c.index_mut-page.result.now in
     let r : Page = record { items = c.drop_later.new.items; due = q.due } in
-    let rest = items_of (drop (i + 1) old) in
-    let flat : items_of (r ∷ []) ++ rest ≡ up_to c.args.t q.items.items ++ rest =
-    ap (λ w. w ++ rest) (append-nil r.items.items ∙ c.drop_later.ensures.items) in
-    let part = sub-filter (λ x. nat_le x.commit c.args.t) q.items.items in
-    let sub : Sub (items_of (r ∷ []) ++ rest) (q.items.items ++ rest) =
-    subst (λ (w : List StoredVersion). Sub w (q.items.items ++ rest)) (sym flat)
-    (sub-behind (up_to c.args.t q.items.items) q.items.items rest part) in
-    let page = page-at old i q c.requires.store.paged.pages c.requires.within c.index_mut-page.ensures.value in
+    let rest = items_of b (drop (i + 1) old) in
+    let left : held b r ≡ up_to c.args.t (held b q) =
+    ap (map (seen b)) c.drop_later.ensures.items ∙ map-filter (seen b) (λ x. nat_le x.commit c.args.t) q.items.items in
+    let flat : items_of b (r ∷ []) ++ rest ≡ up_to c.args.t (held b q) ++ rest =
+    ap (λ w. w ++ rest) (append-nil (held b r) ∙ left) in
+    let part = sub-filter (λ x. nat_le x.commit c.args.t) (held b q) in
+    let sub : Sub (items_of b (r ∷ []) ++ rest) (held b q ++ rest) =
+    subst (λ (w : List StoredVersion). Sub w (held b q ++ rest)) (sym flat)
+    (sub-behind (up_to c.args.t (held b q)) (held b q) rest part) in
+    let page = page-at b old i q c.requires.store.paged.pages c.requires.within c.index_mut-page.ensures.value in
     let some : 0 < length r.items.items = grind (arith, common_steps) in
     let few = page.few in
     let shorter : length r.items.items ≤ length q.items.items =
-    rw c.drop_later.ensures.items (length-kept (λ x. nat_le x.commit c.args.t) q.items.items) in
+    rw c.drop_later.ensures.items (length-kept (λ (x : Slot). nat_le x.commit c.args.t) q.items.items) in
     let room : 65 ≤ deque_capacity r.items =
     let cap : deque_capacity r.items ≡ deque_capacity q.items = c.drop_later.ensures.capacity in let was = page.room in omega arith in
-    let is_page : IsPage r = record { some = some; few = omega arith; room = room } in
-    let paged : IsPaged (take i old ++ ((r ∷ []) ++ drop (i + 1) old)) [] =
-    shrunk-at old i q (r ∷ []) c.requires.store.paged c.requires.within c.index_mut-page.ensures.value sub (is_page, tt)
-    (λ o. dues-one r rest
-    (λ u l. subst (λ (w : List StoredVersion). Idle u w rest) (sym c.drop_later.ensures.items)
-    (idle-sub u (up_to c.args.t q.items.items) q.items.items rest part
-    (idle-at old i q c.requires.store.paged c.requires.within c.index_mut-page.ensures.value u l))))
+    let lie = subst (λ (xs : List Slot). Each (λ s. Lies b s.at) xs) (sym c.drop_later.ensures.items)
+    (each-filtered (λ (s : Slot). Lies b s.at) (λ x. nat_le x.commit c.args.t) q.items.items page.lies) in
+    let is_page : IsPage b r = record { some = some; few = omega arith; room = room; lies = lie } in
+    let paged : IsPaged b (take i old ++ ((r ∷ []) ++ drop (i + 1) old)) [] =
+    shrunk-at b old i q (r ∷ []) c.requires.store.paged c.requires.within c.index_mut-page.ensures.value sub (is_page, tt)
+    (λ o. dues-one b r rest
+    (λ u l. subst (λ (w : List StoredVersion). Idle u w rest) (sym left)
+    (idle-sub u (up_to c.args.t (held b q)) (held b q) rest part
+    (idle-at b old i q c.requires.store.paged c.requires.within c.index_mut-page.ensures.value u l))))
     in
     let long = length-set old i r in
     let pages_room = c.requires.store.room.pages_room in
     let pool_room = c.requires.store.room.pool_room in
     record {
-      paged = subst (λ (ps : List Page). IsPaged ps []) (sym (set-cut old i r c.requires.within)) paged;
+      paged = subst (λ (ps : List Page). IsPaged b ps []) (sym (set-cut old i r c.requires.within)) paged;
       empty =
           c.requires.store.empty;
       room = record { pages_room = omega arith; pool_room = omega arith };
@@ -114,12 +128,30 @@ returns-else-is_empty-clause-spare c =
     let r : Page = record { items = c.drop_later.new.items; due = q.due } in
     subst (λ (ps : List Page). spare_of old n ≤ spare_of ps n) (sym (set-cut old c.args.i r c.requires.within))
     (spare-shrunk old c.args.i q r n c.requires.within c.index_mut-page.ensures.value
-    (rw c.drop_later.ensures.items (length-kept (λ x. nat_le x.commit c.args.t) q.items.items)))
+    (rw c.drop_later.ensures.items (length-kept (λ (x : Slot). nat_le x.commit c.args.t) q.items.items)))
 
 pub returns-then-is_empty-clause-dues : goal.returns-then-is_empty-clause-dues
-returns-then-is_empty-clause-dues c = shrunk-gone c.args.pages.now.items c.free.new.pages.items c.args.i (new-pages c)
+returns-then-is_empty-clause-dues c =
+    shrunk-gone c.args.pages.now.items c.free.new.pages.items c.args.i (new-pages c)
 
 pub returns-else-is_empty-clause-dues : goal.returns-else-is_empty-clause-dues
 returns-else-is_empty-clause-dues c =
     let r : Page = record { items = c.drop_later.new.items; due = c.index_mut-page.result.now.due } in
     shrunk-set c.args.pages.now.items c.args.i r c.requires.within
+
+pub returns-else-is_empty-clause-tail : goal.returns-else-is_empty-clause-tail
+returns-else-is_empty-clause-tail c p e =
+    let b = c.args.bytes.now in
+    let t = c.args.t in
+    let old = c.args.pages.now.items in
+    let i = c.args.i in
+    let q = c.index_mut-page.result.now in
+    let r : Page = record { items = c.drop_later.new.items; due = q.due } in
+    let rest = items_of b (drop (i + 1) old) in
+    let within = c.requires.within in
+    let left : held b r ≡ up_to t (held b q) =
+    ap (map (seen b)) c.drop_later.ensures.items ∙ map-filter (seen b) (λ x. nat_le x.commit t) q.items.items in
+    let same : p ≡ q = e ∙ get_or_default old i p q within ∙ sym c.index_mut-page.ensures.value in
+    ap (λ ps. items_of b (drop i ps)) (set-cut old i r within)
+    ∙ ap (items_of b) (drop_at (take i old) (r ∷ drop (i + 1) old) i (length-take-le i old (omega arith)))
+    ∙ ap (λ w. w ++ rest) left ∙ ap (λ (x : Page). up_to t (held b x) ++ rest) (sym same)

@@ -4,7 +4,7 @@ use Rattle.xc_versions.specs.declared.page.Page.{Page}
 use Rattle.xc_versions.specs.Dues.{dues_of}
 use Rattle.xc_versions.proofs.DueLaws.{passed-by}
 use Rattle.xc_versions.specs.Stored.{kept, pruned_before}
-use Rattle.xc_versions.specs.Pages.{items_of}
+use Rattle.xc_versions.specs.Pages.{held, items_of}
 use Rattle.xc_versions.proofs.VersionLaws.{kept-before}
 use Rattle.xc_versions.proofs.ShrinkLaws.{Walked, walked-some, order-at}
 use Rattle.xc_versions.proofs.shrink.prune.Goals as goal
@@ -14,6 +14,7 @@ both h k = omega arith
 
 pub loop-i-preserved-then-cutoff-least_of : goal.loop-i-preserved-then-cutoff-least_of
 loop-i-preserved-then-cutoff-least_of c =
+    let b = c.args.bytes.now in
     let i = c.loop-i.i in
     let u = c.args.cutoff in
     let old = c.args.pages.now.items in
@@ -27,7 +28,7 @@ loop-i-preserved-then-cutoff-least_of c =
     record {
       store = c.loop-i.invariant.store;
       least = c.loop-i.invariant.least;
-      walked = passed-by u old mid first i c.requires.store.paged c.loop-i.invariant.store.paged w (omega arith)
+      walked = passed-by b u old mid first i c.requires.store.paged c.loop-i.invariant.store.paged w (omega arith)
           (λ k l m.
           let group : k / 64 ≡ (i - 1) / 64 = omega arith in
           let held = c.loop-i.invariant.least k (omega arith) in
@@ -39,18 +40,19 @@ loop-i-preserved-then-cutoff-least_of c =
 
 pub loop-i-preserved : goal.loop-i-preserved
 loop-i-preserved c =
+    let b = c.args.bytes.now in
     let i = c.loop-i.i - 1 in
     let u = c.args.cutoff in
     let old = c.args.pages.now.items in
     let same : c.loop-i.i ≡ i + 1 = omega arith in
-    let before = subst (λ (k : ℕ). Walked (kept u) old c.loop-i.pages.items k) same c.loop-i.invariant.walked in
+    let before = subst (λ (k : ℕ). Walked b (kept u) old c.loop-i.pages.items k) same c.loop-i.invariant.walked in
     let within = before.within in
     record {
       store = c.prune_page.ensures.store;
       least = c.prune_page.ensures.least;
-      walked = walked-some (kept u) (pruned_before u) old c.loop-i.pages.items c.prune_page.new.pages.items i before
+      walked = walked-some b (kept u) (pruned_before u) old c.loop-i.pages.items c.prune_page.new.pages.items i before
           c.prune_page.ensures.front c.prune_page.ensures.tail
-          (λ q e. sym (kept-before u q.items.items (items_of (drop (i + 1) old))
-          (order-at old i q c.requires.store.paged (omega arith) e)));
+          (λ q e. sym (kept-before u (held b q) (items_of b (drop (i + 1) old))
+          (order-at b old i q c.requires.store.paged (omega arith) e)));
       spare = (let a = c.loop-i.invariant.spare in let b = c.prune_page.ensures.spare in both a b);
     }

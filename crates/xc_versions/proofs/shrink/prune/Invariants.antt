@@ -8,9 +8,9 @@ use Rattle.xc_versions.proofs.shrink.prune.Given as goal
 
 abbrev pub invariant-loop-i : goal.invariant-loop-i
 invariant-loop-i l = record {
-  store : IsStore l.pages l.pool;
+  store : IsStore l.bytes l.pages l.pool;
   least : Covers (dues_of l.pages.items) l.least.items;
-  walked : Walked (kept l.cutoff) l.initial.pages.items l.pages.items l.i;
+  walked : Walked l.bytes (kept l.cutoff) l.initial.pages.items l.pages.items l.i;
   spare : spare_of l.initial.pages.items (length l.initial.pool.items) ≤ spare_of l.pages.items (length l.pool.items);
 }
 

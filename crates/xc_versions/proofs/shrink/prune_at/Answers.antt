@@ -1,4 +1,4 @@
-use Rattle.std.proofs.Common.{◌≡◌, ◌+◌, ◌<◌, ◌≤◌, List, [], ◌∷◌, ◌++◌, length, take, drop, ap, sym, ◌∙◌, subst, arith, append-nil}
+use Rattle.std.proofs.Common.{◌≡◌, ◌+◌, ◌<◌, ◌≤◌, List, [], ◌∷◌, ◌++◌, length, take, drop, map, ap, sym, ◌∙◌, subst, arith, append-nil}
 use Rattle.std.proofs.Common.{vec_capacity, deque_capacity}
 use Rattle.std.proofs.lemmas.Grind.{common_steps}
 use Rattle.std.proofs.lemmas.Bool.{ltb-true}
@@ -6,7 +6,8 @@ use Rattle.std.proofs.lemmas.List.{length-set, nil_from_length, get_or_default}
 use Rattle.xc_versions.specs.declared.stored.StoredVersion.{StoredVersion}
 use Rattle.xc_versions.specs.declared.page.Page.{Page}
 use Rattle.xc_versions.specs.Stored.{InOrder, pruned_before}
-use Rattle.xc_versions.specs.Pages.{items_of, IsPage, IsPaged, spare_of}
+use Rattle.xc_versions.specs.Slots.{seen}
+use Rattle.xc_versions.specs.Pages.{held, items_of, IsPage, IsPaged, spare_of}
 use Rattle.xc_versions.proofs.AddLaws.{set-cut, page-at}
 use Rattle.xc_versions.proofs.PageLaws.{items-from}
 use Rattle.xc_versions.proofs.SubLaws.{Sub, sub-pruned}
@@ -18,32 +19,35 @@ use Rattle.xc_versions.proofs.shrink.prune_at.Goals.{After-free}
 
 pub returns-then-is_idle-clause-tail : goal.returns-then-is_idle-clause-tail
 returns-then-is_idle-clause-tail c q e =
+    let b = c.args.bytes.now in
     let old = c.args.pages.now.items in
-    let rest = items_of (drop (c.args.i + 1) old) in
+    let rest = items_of b (drop (c.args.i + 1) old) in
     let paged = c.requires.store.paged in
     let early = ltb-true c.args.cutoff q.due (sym (c.if-is_idle.ensures q e)) in
-    items-from old c.args.i q c.requires.within e
-    ∙ sym (pruned-idle c.args.cutoff q.items.items rest (order-at old c.args.i q paged c.requires.within e)
-    (idle-at old c.args.i q paged c.requires.within e c.args.cutoff early))
+    items-from b old c.args.i q c.requires.within e
+    ∙ sym (pruned-idle c.args.cutoff (held b q) rest (order-at b old c.args.i q paged c.requires.within e)
+    (idle-at b old c.args.i q paged c.requires.within e c.args.cutoff early))
 
 new-pages : (c : After-free) → c.free.new.pages.items ≡ take c.args.i c.args.pages.now.items ++ drop (c.args.i + 1) c.args.pages.now.items
-new-pages c = c.free.ensures.pages ∙ remove-cut c.args.pages.now.items c.args.i c.prune.new.self c.requires.within
+new-pages c =
+    c.free.ensures.pages ∙ remove-cut c.args.pages.now.items c.args.i c.prune-dead.new.self c.requires.within
 
 pub returns-then-is_empty-clause-store : goal.returns-then-is_empty-clause-store
 returns-then-is_empty-clause-store c =
+    let b = c.args.bytes.now in
     let old = c.args.pages.now.items in
     let i = c.args.i in
     let q = c.index_mut-page.result.now in
-    let r = c.prune.new.self in
-    let rest = items_of (drop (i + 1) old) in
+    let r = c.prune-dead.new.self in
+    let rest = items_of b (drop (i + 1) old) in
     let empty : length r.items.items ≡ 0 = grind (arith, common_steps) in
-    let none : r.items.items ≡ [] = nil_from_length r.items.items empty in
-    let all_left = c.prune.ensures.items rest (sym (c.first_from-next.ensures)) in
-    let gone : pruned_before c.args.cutoff q.items.items rest ≡ rest = sym all_left ∙ ap (λ w. w ++ rest) none in
-    let sub : Sub rest (q.items.items ++ rest) =
-    subst (λ (w : List StoredVersion). Sub w (q.items.items ++ rest)) gone (sub-pruned c.args.cutoff q.items.items rest) in
-    let paged : IsPaged (take i old ++ drop (i + 1) old) [] =
-    shrunk-at old i q [] c.requires.store.paged c.requires.within c.index_mut-page.ensures.value sub tt (λ o. tt) in
+    let none : held b r ≡ [] = ap (map (seen b)) (nil_from_length r.items.items empty) in
+    let all_left = c.prune-dead.ensures.items rest (sym c.first_from-next.ensures) in
+    let gone : pruned_before c.args.cutoff (held b q) rest ≡ rest = sym all_left ∙ ap (λ w. w ++ rest) none in
+    let sub : Sub rest (held b q ++ rest) =
+    subst (λ (w : List StoredVersion). Sub w (held b q ++ rest)) gone (sub-pruned c.args.cutoff (held b q) rest) in
+    let paged : IsPaged b (take i old ++ drop (i + 1) old) [] =
+    shrunk-at b old i q [] c.requires.store.paged c.requires.within c.index_mut-page.ensures.value sub tt (λ o. tt) in
     let long = length-removed old i c.requires.within in
     let count : length c.free.new.pages.items ≡ length (take i old ++ drop (i + 1) old) = ap length (new-pages c) in
     let more : length c.free.new.pool.items ≡ length c.args.pool.now.items + 1 = c.free.ensures.len in
@@ -52,7 +56,7 @@ returns-then-is_empty-clause-store c =
     let pages_room = c.requires.store.room.pages_room in
     let pool_room = c.requires.store.room.pool_room in
     record {
-      paged = subst (λ (ps : List Page). IsPaged ps []) (sym (new-pages c)) paged;
+      paged = subst (λ (ps : List Page). IsPaged b ps []) (sym (new-pages c)) paged;
       empty = c.free.ensures.empty;
       room = record
           { pages_room = omega arith; pool_room = omega arith };
@@ -60,17 +64,18 @@ returns-then-is_empty-clause-store c =
 
 pub returns-then-is_empty-clause-tail : goal.returns-then-is_empty-clause-tail
 returns-then-is_empty-clause-tail c p e =
+    let b = c.args.bytes.now in
     let old = c.args.pages.now.items in
     let i = c.args.i in
     let q = c.index_mut-page.result.now in
-    let r = c.prune.new.self in
-    let rest = items_of (drop (i + 1) old) in
+    let r = c.prune-dead.new.self in
+    let rest = items_of b (drop (i + 1) old) in
     let empty : length r.items.items ≡ 0 = grind (arith, common_steps) in
-    let none : r.items.items ≡ [] = nil_from_length r.items.items empty in
+    let none : held b r ≡ [] = ap (map (seen b)) (nil_from_length r.items.items empty) in
     let same : p ≡ q = e ∙ get_or_default old i p q c.requires.within ∙ sym c.index_mut-page.ensures.value in
-    let all_left = c.prune.ensures.items rest (sym (c.first_from-next.ensures)) in
-    ap (λ ps. items_of (drop i ps)) (new-pages c) ∙ ap items_of (behind-removed old i c.requires.within)
-    ∙ sym (ap (λ w. w ++ rest) none) ∙ all_left ∙ ap (λ (x : Page). pruned_before c.args.cutoff x.items.items rest) (sym same)
+    let all_left = c.prune-dead.ensures.items rest (sym c.first_from-next.ensures) in
+    ap (λ ps. items_of b (drop i ps)) (new-pages c) ∙ ap (items_of b) (behind-removed old i c.requires.within)
+    ∙ sym (ap (λ w. w ++ rest) none) ∙ all_left ∙ ap (λ (x : Page). pruned_before c.args.cutoff (held b x) rest) (sym same)
 
 pub returns-then-is_empty-clause-spare : goal.returns-then-is_empty-clause-spare
 returns-then-is_empty-clause-spare c =
@@ -82,33 +87,34 @@ returns-then-is_empty-clause-spare c =
 
 pub returns-else-is_empty-clause-store : goal.returns-else-is_empty-clause-store
 returns-else-is_empty-clause-store c =
+    let b = c.args.bytes.now in
     let old = c.args.pages.now.items in
     let i = c.args.i in
     let q = c.index_mut-page.result.now in
-    let r = c.prune.new.self in
-    let rest = items_of (drop (i + 1) old) in
-    let head = sym (c.first_from-next.ensures) in
-    let all_left = c.prune.ensures.items rest head in
-    let flat : items_of (r ∷ []) ++ rest ≡ r.items.items ++ rest = ap (λ w. w ++ rest) (append-nil r.items.items) in
-    let sub : Sub (items_of (r ∷ []) ++ rest) (q.items.items ++ rest) =
-    subst (λ (w : List StoredVersion). Sub w (q.items.items ++ rest)) (sym (flat
-    ∙ all_left)) (sub-pruned c.args.cutoff q.items.items rest) in
-    let page = page-at old i q c.requires.store.paged.pages c.requires.within c.index_mut-page.ensures.value in
+    let r = c.prune-dead.new.self in
+    let rest = items_of b (drop (i + 1) old) in
+    let head = sym c.first_from-next.ensures in
+    let all_left = c.prune-dead.ensures.items rest head in
+    let flat : items_of b (r ∷ []) ++ rest ≡ held b r ++ rest = ap (λ w. w ++ rest) (append-nil (held b r)) in
+    let sub : Sub (items_of b (r ∷ []) ++ rest) (held b q ++ rest) =
+    subst (λ (w : List StoredVersion). Sub w (held b q ++ rest)) (sym (flat
+    ∙ all_left)) (sub-pruned c.args.cutoff (held b q) rest) in
+    let page = page-at b old i q c.requires.store.paged.pages c.requires.within c.index_mut-page.ensures.value in
     let some : 0 < length r.items.items = grind (arith, common_steps) in
     let few = page.few in
-    let shorter : length r.items.items ≤ length q.items.items = c.prune.ensures.len in
+    let shorter : length r.items.items ≤ length q.items.items = c.prune-dead.ensures.len in
     let room : 65 ≤ deque_capacity r.items =
-    let cap : deque_capacity r.items ≡ deque_capacity q.items = c.prune.ensures.capacity in let was = page.room in omega arith in
-    let is_page : IsPage r = record { some = some; few = omega arith; room = room } in
-    let paged : IsPaged (take i old ++ ((r ∷ []) ++ drop (i + 1) old)) [] =
-    shrunk-at old i q (r ∷ []) c.requires.store.paged c.requires.within c.index_mut-page.ensures.value sub (is_page, tt)
-    (λ o. dues-one r rest (λ u l. idle-from-next u r.items.items rest (subst InOrder flat o) (c.prune.ensures.idle u rest head l)))
+    let cap : deque_capacity r.items ≡ deque_capacity q.items = c.prune-dead.ensures.capacity in let was = page.room in omega arith in
+    let is_page : IsPage b r = record { some = some; few = omega arith; room = room; lies = c.prune-dead.ensures.lie } in
+    let paged : IsPaged b (take i old ++ ((r ∷ []) ++ drop (i + 1) old)) [] =
+    shrunk-at b old i q (r ∷ []) c.requires.store.paged c.requires.within c.index_mut-page.ensures.value sub (is_page, tt)
+    (λ o. dues-one b r rest (λ u l. idle-from-next u (held b r) rest (subst InOrder flat o) (c.prune-dead.ensures.idle u rest head l)))
     in
     let long = length-set old i r in
     let pages_room = c.requires.store.room.pages_room in
     let pool_room = c.requires.store.room.pool_room in
     record {
-      paged = subst (λ (ps : List Page). IsPaged ps []) (sym (set-cut old i r c.requires.within)) paged;
+      paged = subst (λ (ps : List Page). IsPaged b ps []) (sym (set-cut old i r c.requires.within)) paged;
       empty =
           c.requires.store.empty;
       room = record { pages_room = omega arith; pool_room = omega arith };
@@ -118,12 +124,19 @@ pub returns-else-is_empty-clause-spare : goal.returns-else-is_empty-clause-spare
 returns-else-is_empty-clause-spare c =
     let old = c.args.pages.now.items in
     let n = length c.args.pool.now.items in
-    subst (λ (ps : List Page). spare_of old n ≤ spare_of ps n) (sym (set-cut old c.args.i c.prune.new.self c.requires.within))
-    (spare-shrunk old c.args.i c.index_mut-page.result.now c.prune.new.self n c.requires.within c.index_mut-page.ensures.value
-    c.prune.ensures.len)
+    subst (λ (ps : List Page). spare_of old n ≤ spare_of ps n) (sym (set-cut old c.args.i c.prune-dead.new.self c.requires.within))
+    (spare-shrunk old c.args.i c.index_mut-page.result.now c.prune-dead.new.self n c.requires.within c.index_mut-page.ensures.value
+    c.prune-dead.ensures.len)
 
 pub returns-then-is_empty-clause-dues : goal.returns-then-is_empty-clause-dues
-returns-then-is_empty-clause-dues c = shrunk-gone c.args.pages.now.items c.free.new.pages.items c.args.i (new-pages c)
+returns-then-is_empty-clause-dues c =
+    shrunk-gone c.args.pages.now.items c.free.new.pages.items c.args.i (new-pages c)
 
 pub returns-else-is_empty-clause-dues : goal.returns-else-is_empty-clause-dues
-returns-else-is_empty-clause-dues c = shrunk-set c.args.pages.now.items c.args.i c.prune.new.self c.requires.within
+returns-else-is_empty-clause-dues c =
+    shrunk-set c.args.pages.now.items c.args.i c.prune-dead.new.self c.requires.within
+
+pub prune-dead-requires : goal.prune-dead-requires
+prune-dead-requires c =
+    (page-at c.args.bytes.now c.args.pages.now.items c.args.i c.index_mut-page.result.now c.requires.store.paged.pages c.requires.within
+    c.index_mut-page.ensures.value).lies

@@ -13,4 +13,4 @@ returns-clause-least c =
     let within = c.requires.within in
     let s = c.settle.ensures in
     let r = c.raise_at.ensures in
-    r (s (dues_of old) long (omega arith) c.prune_at.ensures.dues c.requires.least)
+    r (s (dues_of old) long (omega arith) c.prune_at-dead.ensures.dues c.requires.least)

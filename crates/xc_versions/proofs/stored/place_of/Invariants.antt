@@ -1,11 +1,12 @@
 use Rattle.std.proofs.Common.{◌-◌}
 use Rattle.std.specs.Ordering.{is_gt}
 use Rattle.xc_versions.specs.Stored.{stored_cmp}
+use Rattle.xc_versions.specs.Slots.{seen}
 use Rattle.xc_versions.proofs.SplitLaws.{Narrows}
 use Rattle.xc_versions.proofs.stored.place_of.Given as goal
 
 abbrev pub invariant-loop-low : goal.invariant-loop-low
-invariant-loop-low l = Narrows (λ x. is_gt (stored_cmp l.version x)) l.low l.high l.items.items
+invariant-loop-low l = Narrows (λ x. is_gt (stored_cmp (seen l.bytes l.slot) (seen l.bytes x))) l.low l.high l.items.items
 
 abbrev pub decreases-loop-low : goal.decreases-loop-low
 decreases-loop-low l = l.high - l.low

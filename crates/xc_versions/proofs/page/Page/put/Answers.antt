@@ -1,7 +1,26 @@
-use Rattle.std.proofs.Common.{◌∙◌}
+use Rattle.std.proofs.Common.{◌∙◌, subst, sym, ap, List}
+use Rattle.xc_versions.specs.declared.stored.Slot.{Slot}
+use Rattle.xc_versions.specs.Slots.{seen, Lies}
+use Rattle.std.specs.Ordering.{is_gt}
+use Rattle.xc_versions.specs.Stored.{stored_cmp}
+use Rattle.xc_record.proofs.ListLaws.{Each}
 use Rattle.xc_versions.proofs.SplitLaws.{insert-with}
+use Rattle.xc_versions.proofs.SlotLaws.{splits-map, map-insert, each-inserted}
+use Rattle.std.specs.Prelude.{map}
 use Rattle.xc_versions.proofs.page.Page.put.Goals as goal
 
 pub returns-clause-items : goal.returns-clause-items
 returns-clause-items c =
-    c.insert_at.ensures.items ∙ insert-with c.args.version c.place_of-at.result c.args.self.now.items.items c.place_of-at.ensures
+    let b = c.args.bytes.now in
+    let v = seen b c.args.slot in
+    let xs = c.args.self.now.items.items in
+    let n = c.place_of-at.result in
+    ap (map (seen b)) c.insert_at.ensures.items ∙ map-insert (seen b) xs n c.args.slot
+    ∙ insert-with v n (map (seen b) xs) (splits-map (seen b) (λ x. is_gt (stored_cmp v x)) n xs c.place_of-at.ensures)
+
+pub returns-clause-lie : goal.returns-clause-lie
+returns-clause-lie c =
+    let b = c.args.bytes.now in
+    subst (λ (xs : List Slot). Each (λ s. Lies b s.at) xs) (sym {A = List Slot} c.insert_at.ensures.items)
+    (each-inserted (λ (s : Slot). Lies b s.at) c.args.self.now.items.items c.place_of-at.result c.args.slot c.requires.all_lie
+    c.requires.lies)

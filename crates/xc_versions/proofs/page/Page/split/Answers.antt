@@ -1,5 +1,10 @@
 use Rattle.std.proofs.Common.{◌≡◌, length, ap, ◌∙◌, arith}
 use Rattle.std.proofs.lemmas.List.{length-take-le, length-drop}
+use Rattle.std.proofs.Common.{List, sym, subst}
+use Rattle.xc_record.proofs.ListLaws.{Each}
+use Rattle.xc_versions.specs.declared.stored.Slot.{Slot}
+use Rattle.xc_versions.specs.Slots.{Lies}
+use Rattle.xc_versions.proofs.SlotLaws.{each-taken}
 use Rattle.xc_versions.proofs.page.Page.split.Goals as goal
 
 pub returns-clause-lower_page : goal.returns-clause-lower_page
@@ -9,7 +14,14 @@ returns-clause-lower_page c =
     ap length c.move_behind.ensures.lower ∙ length-take-le 32 c.args.self.now.items.items (omega arith) in
     let room = c.requires.room in
     let same = c.move_behind.ensures.lower_capacity in
-    record { some = omega arith; few = omega arith; room = omega arith }
+    let b = c.args.bytes.now in
+    let lie = each-taken (λ (s : Slot). Lies b s.at) 32 c.args.self.now.items.items c.requires.lie in
+    record {
+      some = omega arith;
+      few = omega arith;
+      room = omega arith;
+      lies = subst (λ (xs : List Slot). Each (λ s. Lies b s.at) xs) (sym c.move_behind.ensures.lower) lie.0;
+    }
 
 pub returns-clause-upper_page : goal.returns-clause-upper_page
 returns-clause-upper_page c =
@@ -18,4 +30,11 @@ returns-clause-upper_page c =
     ap length c.move_behind.ensures.upper ∙ length-drop 32 c.args.self.now.items.items ∙ omega arith in
     let room = c.requires.empty.room in
     let same = c.move_behind.ensures.upper_capacity in
-    record { some = omega arith; few = omega arith; room = omega arith }
+    let b = c.args.bytes.now in
+    let lie = each-taken (λ (s : Slot). Lies b s.at) 32 c.args.self.now.items.items c.requires.lie in
+    record {
+      some = omega arith;
+      few = omega arith;
+      room = omega arith;
+      lies = subst (λ (xs : List Slot). Each (λ s. Lies b s.at) xs) (sym c.move_behind.ensures.upper) lie.1;
+    }

@@ -1,0 +1,184 @@
+-- An operation that lies in bytes is read back, and bytes behind it change nothing.
+use Rattle.std.proofs.Common.{◌≡◌, ℕ, ◌+◌, ◌<◌, ◌≤◌, ◌==◌, true, false, List, [], ◌∷◌, ◌++◌, length, get_or, take, drop, min, ◌-◌, nat_lt}
+use Rattle.std.proofs.Common.{⊎_elim, Some, None, refl, sym, ap, subst, ◌∙◌}
+use Rattle.std.proofs.Common.{arith, append_assoc, append-nil, length-append, Option}
+use Rattle.std.proofs.Math.Seq.{take-append_seam, drop-append_seam}
+use Rattle.std.proofs.lemmas.Bool.Decides.{nat_tests}
+use Rattle.std.proofs.lemmas.Bool.{and_parts, cases_Bool, ltb-true, ltb-false}
+use Rattle.std.proofs.lemmas.List.{drop_all, take_all, length-drop, nil_from_length}
+use Rattle.std.specs.Option.{option_map_or}
+use Rattle.xc_base.specs.Names.{is_key, is_value}
+use Rattle.xc_record.specs.Path.{Written}
+use Rattle.xc_record.specs.declared.record.Op.{Op}
+use Rattle.xc_record.specs.Packed.{encode_value, encode_op, is_op, text_of, after_text, value_of, after_value, after_op, HasText, HasValue}
+use Rattle.xc_record.specs.Packed.{IsAt}
+use Rattle.xc_versions.specs.Slots.{key_at, value_at, op_at, Lies}
+
+-- ---- one text, one value in front
+
+text-front : (t rest : List ℕ) → text_of (length t ∷ (t ++ rest)) ≡ t
+text-front t rest = take-append_seam t rest
+
+after_text-front : (t rest : List ℕ) → after_text (length t ∷ (t ++ rest)) ≡ rest
+after_text-front t rest = drop-append_seam t rest
+
+has_text-front : (t rest : List ℕ) → HasText (length t ∷ (t ++ rest))
+has_text-front t rest = let e = length-append t rest in omega arith
+
+value-front : (v : Option (List ℕ)) (rest : List ℕ) → value_of (encode_value v ++ rest) ≡ v
+value-front None rest = refl
+value-front (Some t) rest = ap (λ t. Some t) (text-front t rest)
+
+after_value-front : (v : Option (List ℕ)) (rest : List ℕ) → after_value (encode_value v ++ rest) ≡ rest
+after_value-front None rest = refl
+after_value-front (Some t) rest = after_text-front t rest
+
+has_value-front : (v : Option (List ℕ)) (rest : List ℕ) → option_map_or is_value v true ≡ true → HasValue (encode_value v ++ rest)
+has_value-front None rest e = record { some = omega arith; text = λ h. absurd (h refl); value = refl }
+has_value-front (Some t) rest e = record { some = omega arith; text = λ h. has_text-front t rest; value = rw (text-front t rest) e }
+
+-- ---- an operation in front, and at a place
+
+record IsFront (op : Op) (rest bytes : List ℕ) : Type 0 where
+  is_at : IsAt bytes
+  key : text_of bytes ≡ op.key
+  value : value_of (after_text bytes) ≡ op.value
+  after : after_op bytes ≡ rest
+
+front : (op : Op) (rest : List ℕ) → is_op op ≡ true → IsFront op rest (encode_op op ++ rest)
+front op rest e =
+    let shape : encode_op op ++ rest ≡ length op.key ∷ (op.key ++ (encode_value op.value ++ rest)) =
+    ap (λ xs. length op.key ∷ xs) (append_assoc op.key (encode_value op.value) rest) in
+    let after : after_text (length op.key ∷ (op.key ++ (encode_value op.value ++ rest))) ≡ encode_value op.value ++ rest =
+    after_text-front op.key (encode_value op.value ++ rest) in
+    let key = text-front op.key (encode_value op.value ++ rest) in
+    let good = and_parts (is_key op.key) (option_map_or is_value op.value true) e in
+    rw shape (record {
+      is_at = record {
+        text = has_text-front op.key (encode_value op.value ++ rest);
+        key = rw key good.0;
+        has_value = rw after (has_value-front op.value rest good.1);
+      };
+      key = key;
+      value = rw after (value-front op.value rest);
+      after = rw after (after_value-front op.value rest);
+    })
+
+there : (bytes : List ℕ) (at : ℕ) (l : Lies bytes at) → drop at bytes ≡ encode_op l.op ++ l.behind
+there bytes at l =
+    ap (drop at) l.is ∙ ap (λ n. drop n (l.before ++ (encode_op l.op ++ l.behind))) (sym l.place)
+    ∙ drop-append_seam l.before (encode_op l.op ++ l.behind)
+
+pub lies-is_at : (bytes : List ℕ) (at : ℕ) → Lies bytes at → IsAt (drop at bytes)
+lies-is_at bytes at l = subst IsAt (sym (there bytes at l)) (front l.op l.behind l.well).is_at
+
+pub lies-within : (bytes : List ℕ) (at : ℕ) → Lies bytes at → at ≤ length bytes
+lies-within bytes at l =
+    let whole = ap length l.is in
+    let parts = length-append l.before (encode_op l.op ++ l.behind) in
+    let place = l.place in
+    omega arith
+
+pub lies-key : (bytes : List ℕ) (at : ℕ) (l : Lies bytes at) → key_at bytes at ≡ l.op.key
+unfolding key_at
+lies-key bytes at l = ap text_of (there bytes at l) ∙ (front l.op l.behind l.well).key
+
+pub lies-value : (bytes : List ℕ) (at : ℕ) (l : Lies bytes at) → value_at bytes at ≡ l.op.value
+unfolding value_at
+lies-value bytes at l = ap (λ b. value_of (after_text b)) (there bytes at l) ∙ (front l.op l.behind l.well).value
+
+abbrev op_with : List ℕ → Written → Op
+op_with k v = record { key = k; value = v }
+
+pub lies-op : (bytes : List ℕ) (at : ℕ) (l : Lies bytes at) → op_at bytes at ≡ l.op
+lies-op bytes at l = ap (λ k. op_with k (value_at bytes at)) (lies-key bytes at l) ∙ ap (op_with l.op.key) (lies-value bytes at l)
+
+-- the bytes of the operation, cut off before those behind it
+pub lies-cut : (bytes : List ℕ) (at : ℕ) (rest : List ℕ) → Lies bytes at → rest ≡ drop at bytes
+    → take (length rest - length (after_op rest)) rest ≡ encode_op (op_at bytes at)
+lies-cut bytes at rest l e =
+    let f = front l.op l.behind l.well in
+    let is : rest ≡ encode_op l.op ++ l.behind = e ∙ there bytes at l in
+    let behind : after_op rest ≡ l.behind = ap after_op is ∙ f.after in
+    let whole = ap length is in
+    let parts = length-append (encode_op l.op) l.behind in
+    let tail = ap length behind in
+    let count : length rest - length (after_op rest) ≡ length (encode_op l.op) = omega arith in
+    ap (λ n. take n rest) count ∙ ap (take (length (encode_op l.op))) is ∙ take-append_seam (encode_op l.op) l.behind
+    ∙ sym (ap encode_op (lies-op bytes at l))
+
+-- ---- more bytes behind
+
+pub lies-more : (bytes more : List ℕ) (at : ℕ) → Lies bytes at → Lies (bytes ++ more) at
+lies-more bytes more at l = record {
+  before = l.before;
+  op = l.op;
+  behind = l.behind ++ more;
+  is = ap (λ w. w ++ more) l.is ∙ append_assoc l.before (encode_op l.op ++ l.behind) more
+      ∙ ap (λ w. l.before ++ w) (append_assoc (encode_op l.op) l.behind more);
+  place = l.place;
+  well = l.well;
+}
+
+pub key_at-more : (bytes more : List ℕ) (at : ℕ) → Lies bytes at → key_at (bytes ++ more) at ≡ key_at bytes at
+unfolding lies-more
+key_at-more bytes more at l = lies-key (bytes ++ more) at (lies-more bytes more at l) ∙ sym (lies-key bytes at l)
+
+pub value_at-more : (bytes more : List ℕ) (at : ℕ) → Lies bytes at → value_at (bytes ++ more) at ≡ value_at bytes at
+unfolding lies-more
+value_at-more bytes more at l = lies-value (bytes ++ more) at (lies-more bytes more at l) ∙ sym (lies-value bytes at l)
+
+-- the operation that was put last
+pub lies-last : (bytes : List ℕ) (op : Op) → is_op op ≡ true → Lies (bytes ++ encode_op op) (length bytes)
+lies-last bytes op w = record {
+  before = bytes;
+  op = op;
+  behind = [];
+  is = ap (λ w. bytes ++ w) (sym (append-nil (encode_op op)));
+  place = refl;
+  well = w;
+}
+
+-- ---- a place behind the last byte
+
+drop-clip : (xs : List ℕ) (n m : ℕ) → m ≡ min (length xs) n → drop m xs ≡ drop n xs
+drop-clip xs n m e =
+    ⊎_elim {C = drop m xs ≡ drop n xs}
+    (λ t. let l = ltb-true n (length xs) t in let same : m ≡ n = omega arith in ap (λ k. drop k xs) same)
+    (λ f. let l = ltb-false n (length xs) f in drop_all m xs (omega arith) ∙ sym (drop_all n xs (omega arith)))
+    (cases_Bool (nat_lt n (length xs)))
+
+take-clip : (xs : List ℕ) (n m : ℕ) → m ≡ min (length xs) n → take m xs ≡ take n xs
+take-clip xs n m e =
+    ⊎_elim {C = take m xs ≡ take n xs}
+    (λ t. let l = ltb-true n (length xs) t in let same : m ≡ n = omega arith in ap (λ k. take k xs) same)
+    (λ f. let l = ltb-false n (length xs) f in take_all m xs (omega arith) ∙ sym (take_all n xs (omega arith)))
+    (cases_Bool (nat_lt n (length xs)))
+
+-- the bytes from the place on, as the code cuts them out
+pub rest-from : (bytes : List ℕ) (at from : ℕ) → from ≡ min (length bytes) at → take (length bytes - from) (drop from bytes) ≡ drop at bytes
+rest-from bytes at from e =
+    let long = length-drop from bytes in take_all (length bytes - from) (drop from bytes) (omega arith) ∙ drop-clip bytes at from e
+
+pub key_at-none : (bytes : List ℕ) (at : ℕ) (rest : List ℕ) → rest ≡ drop at bytes → true ≡ (length rest == 0) → rest ≡ key_at bytes at
+unfolding key_at
+key_at-none bytes at rest e t =
+    let empty : length rest ≡ 0 = grind (arith, nat_tests) in
+    let none = nil_from_length rest empty in
+    none ∙ ap text_of (sym none) ∙ ap text_of e
+
+pub key_at-some : (bytes : List ℕ) (at last : ℕ) (rest : List ℕ) → rest ≡ drop at bytes → false ≡ (length rest == 0)
+    → last ≡ min (length rest) (1 + get_or rest 0 0) → take (last - 1) (drop 1 rest) ≡ key_at bytes at
+unfolding key_at
+key_at-some bytes at last rest e t l =
+    let some : 0 < length rest = grind (arith, nat_tests) in
+    let long = length-drop 1 rest in
+    take-clip (drop 1 rest) (get_or rest 0 0) (last - 1) (omega arith) ∙ ap text_of e
+
+pub last-key : (bytes : List ℕ) (op : Op) → is_op op ≡ true → key_at (bytes ++ encode_op op) (length bytes) ≡ op.key
+unfolding lies-last
+last-key bytes op w = lies-key (bytes ++ encode_op op) (length bytes) (lies-last bytes op w)
+
+pub last-value : (bytes : List ℕ) (op : Op) → is_op op ≡ true → value_at (bytes ++ encode_op op) (length bytes) ≡ op.value
+unfolding lies-last
+last-value bytes op w = lies-value (bytes ++ encode_op op) (length bytes) (lies-last bytes op w)

@@ -1,0 +1,8 @@
+use Rattle.std.proofs.Common.{ap, ◌∙◌}
+use Rattle.xc_record.specs.Packed.{text_of}
+use Rattle.xc_versions.specs.Slots.{key_at}
+use Rattle.xc_versions.proofs.arena.key.Goals as goal
+
+pub returns : goal.returns
+unfolding key_at
+returns c = c.of.ensures ∙ c.text.ensures ∙ ap text_of c.from.ensures.same

@@ -1,0 +1,162 @@
+// The bytes of operations one behind another: for each its key, as a text, and then a 0, or a 1 and the value, as a
+// text. A text is its length and then its bytes.
+ghost use Rattle.std.specs.Prelude.{◌≡◌, ◌<◌, ◌≤◌, ◌+◌, ◌*◌, ◌++◌, ◌∷◌, length, drop, min, true, OnOk, vec_len};
+ghost use Rattle.std.specs.Prelude.{vec_capacity};
+ghost use Rattle.xc_record.specs.Packed.{encode_op, is_op, HasText, HasValue, IsAt};
+ghost use Rattle.xc_record.specs.Packed.{after_text, after_value, text_of, value_of};
+ghost use Rattle.xc_versions.specs.Slots.{Lies, key_at, value_at, op_at};
+
+use xc_base::{Key, NoMemory, Value};
+
+/// The most bytes of an operation.
+const OP_BYTES: usize = 99;
+
+/// The most bytes of all operations, so that a u32 says where each begins.
+pub(crate) const ARENA_BYTES: usize = 0xffff_ffff;
+
+/// The bytes of the key at the place. Behind the last byte there are none.
+#[inline]
+pub(crate) fn key_bytes(bytes: &[u8], at: u32) -> &[u8]
+    ensures { result.now ≡ key_at bytes.now at }
+{
+    let from = bytes.len().min(at as usize);
+    let rest = &bytes[from..];
+    if rest.is_empty() {
+        return rest;
+    }
+    let end = rest.len().min(1 + rest[0] as usize);
+    &rest[1..end]
+}
+
+#[inline]
+fn text(bytes: &[u8]) -> &[u8]
+    requires { HasText bytes.now }
+    ensures { result.now ≡ text_of bytes.now }
+{
+    &bytes[1..1 + bytes[0] as usize]
+}
+
+#[inline]
+fn after_text(bytes: &[u8]) -> &[u8]
+    requires { HasText bytes.now }
+    ensures { result.now ≡ after_text bytes.now }
+{
+    &bytes[1 + bytes[0] as usize..]
+}
+
+#[inline]
+fn value(bytes: &[u8]) -> Option<Value>
+    requires { HasValue bytes.now }
+    ensures { result ≡ value_of bytes.now }
+{
+    if bytes[0] == 0 {
+        None
+    } else {
+        Some(Value::of(text(&bytes[1..])))
+    }
+}
+
+#[inline]
+fn after_value(bytes: &[u8]) -> &[u8]
+    requires { HasValue bytes.now }
+    ensures { result.now ≡ after_value bytes.now }
+{
+    if bytes[0] == 0 {
+        &bytes[1..]
+    } else {
+        after_text(&bytes[1..])
+    }
+}
+
+// The bytes from the place on.
+#[inline]
+fn from(bytes: &[u8], at: u32) -> &[u8]
+    requires { Lies bytes.now at }
+    ensures same { result.now ≡ drop at bytes.now }
+    ensures op { IsAt result.now }
+{
+    &bytes[at as usize..]
+}
+
+/// The key of the operation at the place.
+pub(crate) fn key(bytes: &[u8], at: u32) -> Key
+    requires { Lies bytes.now at }
+    ensures { result ≡ key_at bytes.now at }
+{
+    Key::of(text(from(bytes, at)))
+}
+
+/// The value of the operation at the place.
+pub(crate) fn value_of(bytes: &[u8], at: u32) -> Option<Value>
+    requires { Lies bytes.now at }
+    ensures { result ≡ value_at bytes.now at }
+{
+    value(after_text(from(bytes, at)))
+}
+
+/// The bytes of the operation at the place.
+pub(crate) fn op_bytes(bytes: &[u8], at: u32) -> &[u8]
+    requires { Lies bytes.now at }
+    ensures { result.now ≡ encode_op (op_at bytes.now at) }
+{
+    let rest = from(bytes, at);
+    let behind = after_value(after_text(rest));
+    &rest[..rest.len() - behind.len()]
+}
+
+// Puts a text last, for which there is room.
+#[inline]
+fn put_text(bytes: &mut Vec<u8>, text: &[u8])
+    requires short { length text.now < 256 }
+    requires room { vec_len bytes.old + 1 + length text.now ≤ vec_capacity bytes.old }
+    ensures items { bytes.new.items ≡ bytes.old.items ++ length text.now ∷ text.now }
+    ensures len { vec_len bytes.new ≡ vec_len bytes.old + 1 + length text.now }
+    ensures capacity { vec_capacity bytes.old ≤ vec_capacity bytes.new }
+{
+    bytes.push_reserved(text.len() as u8);
+    let _ = bytes.extend_from_slice(text);
+}
+
+/// Puts bytes last, for which there is room.
+pub(crate) fn put_bytes(bytes: &mut Vec<u8>, more: &[u8])
+    requires { vec_len bytes.old + length more.now ≤ vec_capacity bytes.old }
+    ensures items { bytes.new.items ≡ bytes.old.items ++ more.now }
+    ensures len { vec_len bytes.new ≡ vec_len bytes.old + length more.now }
+    ensures capacity { vec_capacity bytes.old ≤ vec_capacity bytes.new }
+{
+    let _ = bytes.extend_from_slice(more);
+}
+
+/// Puts an operation last, for which there is room.
+pub(crate) fn put_op(bytes: &mut Vec<u8>, key: &Key, value: &Option<Value>)
+    requires room { vec_len bytes.old + 99 ≤ vec_capacity bytes.old }
+    ensures items { bytes.new.items ≡ bytes.old.items ++ encode_op (record { key = key.now; value = value.now }) }
+    ensures well { is_op (record { key = key.now; value = value.now }) ≡ true }
+    ensures len { vec_len bytes.new ≤ vec_len bytes.old + 99 }
+    ensures capacity { vec_capacity bytes.old ≤ vec_capacity bytes.new }
+{
+    put_text(bytes, key.bytes());
+    match value {
+        None => bytes.push_reserved(0),
+        Some(value) => {
+            bytes.push_reserved(1);
+            put_text(bytes, value.bytes());
+        }
+    }
+}
+
+/// Makes room for n operations more, of the most bytes. Where a u32 wouldn't say where each begins, there is none.
+pub(crate) fn reserve_ops(bytes: &mut Vec<u8>, n: usize) -> Result<(), NoMemory>
+    ensures items { bytes.new.items ≡ bytes.old.items }
+    ensures len { vec_len bytes.new ≡ vec_len bytes.old }
+    ensures capacity { vec_capacity bytes.old ≤ vec_capacity bytes.new }
+    ensures room { OnOk result (vec_len bytes.old + 99 * n ≤ min (vec_capacity bytes.new) 4294967295) }
+{
+    if bytes.len() > ARENA_BYTES || n > (ARENA_BYTES - bytes.len()) / OP_BYTES {
+        return Err(NoMemory);
+    }
+    match bytes.reserve(n * OP_BYTES) {
+        Ok(()) => Ok(()),
+        Err(_) => Err(NoMemory),
+    }
+}

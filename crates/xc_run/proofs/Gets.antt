@@ -1,8 +1,9 @@
 -- Sources that were read one after the other.
-use Rattle.std.proofs.Common.{◌≡◌, ℕ, List, [], true, false, Result, Ok, Err, refl, ap, ◌∙◌, inl, inr}
+use Rattle.std.proofs.Common.{◌≡◌, ℕ, List, [], true, false, Result, Ok, Err, MatchResult, refl, ap, ◌∙◌, inl, inr}
 use Rattle.xc_run.specs.declared.stop.Stop.{Stop}
 use Rattle.xc_run.specs.declared.stop.Stop.TheVariants as stop
-use Rattle.std.specs.Prelude.{IsErrOf, is_some}
+use Rattle.std.specs.Prelude.{IsOk, IsErrOf, is_some}
+use Rattle.std.specs.Io.KnownBytes.{IsAtEnd}
 use Rattle.xc_run.specs.Streams.{Stream, Tells, IsUntouched}
 use Rattle.xc_run.specs.Ran.{Took, Got, StopsAt, Reads, ◌>>=◌}
 use Rattle.xc_run.proofs.Reading.{bytes_of, gave_bytes}
@@ -85,62 +86,40 @@ stopped_second f g x s logs script first second =
       script_used = λ e. cc;
     }
 
+-- whether the source was read to its end
+end_of : {A R : Type 0} (result : Result A (Stop R)) (source : Stream)
+    → MatchResult result (λ _. IsAtEnd source.after) (λ _. Unit {0}) → IsOk result → IsAtEnd source.after
+end_of (Ok x) source end ok = end
+end_of (Err s) source end ok = cc
+
 -- the logs alone
 pub got_logs : {A R : Type 0} (f : List ℕ → Result A R) (result : Result A (Stop R)) (logs script : Stream)
     → Took f result logs → IsUntouched script → Got (λ a b. f a) logs_alone result logs script
-got_logs f (Ok x) logs script first same =
-    record {
-      from_logs = first.bytes;
-      from_script = bytes_of script.before [];
-      logs_told = first.told;
-      script_told = gave_bytes script.before [];
-      found = first.found;
-      read_fault = λ e. inl (refl, first.read_fault e);
-      quiet = λ never. (first.quiet never, same.faults);
-      tell = (first.tells, untouched_tells script same);
-      logs_used = λ _. first.end;
-      script_used = same;
-    }
-got_logs f (Err s) logs script first same =
-    record {
-      from_logs = first.bytes;
-      from_script = bytes_of script.before [];
-      logs_told = first.told;
-      script_told = gave_bytes script.before [];
-      found = first.found;
-      read_fault = λ e. inl (refl, first.read_fault e);
-      quiet = λ never. (first.quiet never, same.faults);
-      tell = (first.tells, untouched_tells script same);
-      logs_used = λ e. cc;
-      script_used = same;
-    }
+got_logs f result logs script first same = record {
+  from_logs = first.bytes;
+  from_script = bytes_of script.before [];
+  logs_told = first.told;
+  script_told = gave_bytes script.before [];
+  found = first.found;
+  read_fault = λ e. inl (refl, first.read_fault e);
+  quiet = λ never. (first.quiet never, same.faults);
+  tell = (first.tells, untouched_tells script same);
+  logs_used = end_of result logs first.end;
+  script_used = same;
+}
 
 -- the script alone
 pub got_script : {A R : Type 0} (f : List ℕ → Result A R) (result : Result A (Stop R)) (logs script : Stream)
     → Took f result script → IsUntouched logs → Got (λ a b. f b) script_alone result logs script
-got_script f (Ok x) logs script second same =
-    record {
-      from_logs = bytes_of logs.before [];
-      from_script = second.bytes;
-      logs_told = gave_bytes logs.before [];
-      script_told = second.told;
-      found = second.found;
-      read_fault = λ e. inr (refl, second.read_fault e);
-      quiet = λ never. (same.faults, second.quiet never);
-      tell = (untouched_tells logs same, second.tells);
-      logs_used = same;
-      script_used = λ _. second.end;
-    }
-got_script f (Err s) logs script second same =
-    record {
-      from_logs = bytes_of logs.before [];
-      from_script = second.bytes;
-      logs_told = gave_bytes logs.before [];
-      script_told = second.told;
-      found = second.found;
-      read_fault = λ e. inr (refl, second.read_fault e);
-      quiet = λ never. (same.faults, second.quiet never);
-      tell = (untouched_tells logs same, second.tells);
-      logs_used = same;
-      script_used = λ e. cc;
-    }
+got_script f result logs script second same = record {
+  from_logs = bytes_of logs.before [];
+  from_script = second.bytes;
+  logs_told = gave_bytes logs.before [];
+  script_told = second.told;
+  found = second.found;
+  read_fault = λ e. inr (refl, second.read_fault e);
+  quiet = λ never. (same.faults, second.quiet never);
+  tell = (untouched_tells logs same, second.tells);
+  logs_used = same;
+  script_used = end_of result script second.end;
+}

@@ -2,13 +2,15 @@
 use Rattle.std.proofs.Common.{◌≡◌, ℕ, Bool, true, false, List, [], Result, Ok, Err, refl, sym, ap, ◌∙◌, subst, inl, inr}
 use Rattle.std.specs.Io.KnownBytes.{Appends}
 use Rattle.std.proofs.KnownBytes.{Appends-nil}
+use Rattle.std.specs.Prelude.{IsOk}
 use Rattle.xc_base.specs.declared.status.Status.{Status}
+use Rattle.xc_base.specs.declared.status.Status.TheVariants as status
 use Rattle.xc_run.specs.declared.stop.Stop.{Stop}
 use Rattle.xc_run.specs.declared.stop.Stop.TheVariants as stop
 use Rattle.xc_run.proofs.Reading.{bytes_of, gave_bytes}
 use Rattle.xc_run.proofs.Gets.{untouched_tells}
 use Rattle.xc_run.specs.Streams.{Stream, Used, IsUntouched}
-use Rattle.xc_run.specs.Ran.{Got, Wrote, Ended, Ran, Is, Shows, IsEnded, IsCutShort, Output, Reads, ◌>>=◌, output_of}
+use Rattle.xc_run.specs.Ran.{Got, Wrote, Ended, Ran, Is, Shows, IsEnded, IsCutShort, Output, Reads, FaultIn, AreQuiet, ◌>>=◌, output_of}
 
 used_for : (b : Bool) (P Q : Type 0) (s : Stream) → (Q → P) → Used b P s → Used b Q s
 used_for true P Q s weaker used = λ q. used (weaker q)
@@ -24,30 +26,49 @@ nothing_cut out text same = ([], (text, refl), subst (λ o. Appends out.before o
 abbrev pub then_output : {A R : Type 0} → (R → Output) → (List ℕ → List ℕ → Result A R) → (A → Output) → List ℕ → List ℕ → Output
 then_output line defined output a b = output_of line (defined a b >>= (λ x. Ok (output x)))
 
+-- what nothing can come from, nothing else comes from
+caused : (output : Output) (cause : Type 0) (result : Status) (out : Stream) → Wrote output ⊥ result out → Wrote output cause result out
+caused output cause result out wrote = record {
+  shown = wrote.shown;
+  read_fault = λ e. absurd (wrote.read_fault e);
+  write_fault = wrote.write_fault;
+  quiet = wrote.quiet;
+  tells = wrote.tells;
+}
+
+-- whatever the sources gave, an output of their bytes was written, or a prefix of it
+ran : {A R : Type 0} (defined : List ℕ → List ℕ → Result A R) (given : Result A (Stop R)) (whole : List ℕ → List ℕ → Output)
+    (output : Output) (reads : Reads) (result : Status) (logs script out : Stream) (got : Got defined reads given logs script)
+    → output ≡ whole got.from_logs got.from_script → Wrote output (FaultIn reads logs script) result out
+    → ((result ≡ status.ReadFault → ⊥) → AreQuiet logs script) → (IsEnded result → IsOk given)
+    → Ran (Is whole) reads result logs script out
+ran defined given whole output reads result logs script out got allowed wrote quiet ended = record {
+  from_logs = got.from_logs;
+  from_script = got.from_script;
+  logs_told = got.logs_told;
+  script_told = got.script_told;
+  output = output;
+  allowed = allowed;
+  shown = wrote.shown;
+  read_fault = wrote.read_fault;
+  write_fault = wrote.write_fault;
+  read_quiet = quiet;
+  write_quiet = wrote.quiet;
+  tell = got.tell;
+  tells = wrote.tells;
+  logs_used = used_for reads.logs _ _ logs ended got.logs_used;
+  script_used = used_for reads.script _ _ script ended got.script_used;
+}
+
 -- the sources gave x, and the output of x was written
 pub ran_written : {A R : Type 0} (line : R → Output) (defined : List ℕ → List ℕ → Result A R) (output : A
     → Output) (reads : Reads) (x : A) (result : Status) (logs script out : Stream)
     → Got defined reads (Ok x) logs script → Wrote (output x) ⊥ result out
     → Ran (Is (then_output line defined output)) reads result logs script out
 ran_written line defined output reads x result logs script out got wrote =
-    let same = ap (λ r. output_of line (r >>= (λ x. Ok (output x)))) got.found in
-    record {
-      from_logs = got.from_logs;
-      from_script = got.from_script;
-      logs_told = got.logs_told;
-      script_told = got.script_told;
-      output = _;
-      allowed = sym same;
-      shown = wrote.shown;
-      read_fault = λ e. absurd (wrote.read_fault e);
-      write_fault = wrote.write_fault;
-      read_quiet = λ _. got.quiet (λ e. cc);
-      write_quiet = wrote.quiet;
-      tell = got.tell;
-      tells = wrote.tells;
-      logs_used = used_for reads.logs _ _ logs (λ _. refl) got.logs_used;
-      script_used = used_for reads.script _ _ script (λ _. refl) got.script_used;
-    }
+    ran _ _ (then_output line defined output) _ reads result logs script out got
+    (sym (ap (λ r. output_of line (r >>= (λ x. Ok (output x)))) got.found)) (caused _ _ result out wrote)
+    (λ _. got.quiet (λ e. cc)) (λ _. refl)
 
 -- the sources stopped
 pub ran_ended : {A R : Type 0} (line : R → Output) (never : (r : R) → IsEnded (line r).status → ⊥) (defined : List ℕ → List ℕ
@@ -55,62 +76,27 @@ pub ran_ended : {A R : Type 0} (line : R → Output) (never : (r : R) → IsEnde
     → Got defined reads (Err s) logs script → Ended line s result out
     → Ran (Is (then_output line defined output)) reads result logs script out
 ran_ended line never defined output reads (stop.Refused r) result logs script out got wrote =
-    let same = ap (λ r. output_of line (r >>= (λ x. Ok (output x)))) got.found in
-    record {
-      from_logs = got.from_logs;
-      from_script = got.from_script;
-      logs_told = got.logs_told;
-      script_told = got.script_told;
-      output = _;
-      allowed = sym same;
-      shown = wrote.shown;
-      read_fault = λ e. absurd (wrote.read_fault e);
-      write_fault = wrote.write_fault;
-      read_quiet = λ _. got.quiet (λ e. cc);
-      write_quiet = wrote.quiet;
-      tell = got.tell;
-      tells = wrote.tells;
-      logs_used = used_for reads.logs _ _ logs (λ e. absurd (not_ended (line r) result out (never r) wrote.shown e)) got.logs_used;
-      script_used = used_for reads.script _ _ script (λ e. absurd (not_ended (line r) result out (never r) wrote.shown e)) got.script_used;
-    }
+    ran _ _ (then_output line defined output) _ reads result logs script out got
+    (sym (ap (λ r. output_of line (r >>= (λ x. Ok (output x)))) got.found)) (caused _ _ result out wrote)
+    (λ _. got.quiet (λ e. cc)) (λ e. absurd (not_ended (line r) result out (never r) wrote.shown e))
 ran_ended line never defined output reads stop.ReadFault result logs script out got ended =
     let o = then_output line defined output got.from_logs got.from_script in
-    record {
-      from_logs = got.from_logs;
-      from_script = got.from_script;
-      logs_told = got.logs_told;
-      script_told = got.script_told;
-      output = o;
-      allowed = refl;
+    ran _ _ (then_output line defined output) o reads result logs script out got refl (record {
       shown = subst (λ s. Shows o s out) (sym ended.0) (nothing_cut out o.text ended.1.same);
       read_fault = λ _. got.read_fault refl;
       write_fault = λ e. cc (sym ended.0 ∙ e);
-      read_quiet = λ never. absurd (never ended.0);
-      write_quiet = λ _. ended.1.faults;
-      tell = got.tell;
+      quiet = λ _. ended.1.faults;
       tells = untouched_tells out ended.1;
-      logs_used = used_for reads.logs _ _ logs (elim [ inl e ↦ cc (sym ended.0 ∙ e) | inr e ↦ cc (sym ended.0 ∙ e) ]) got.logs_used;
-      script_used = used_for reads.script _ _ script (elim [ inl e ↦ cc (sym ended.0 ∙ e) | inr e ↦ cc (sym ended.0 ∙ e) ]) got.script_used;
-    }
+    }) (λ never. absurd (never ended.0)) (elim [ inl e ↦ cc (sym ended.0 ∙ e) | inr e ↦ cc (sym ended.0 ∙ e) ])
 ran_ended line never defined output reads stop.NoMemory result logs script out got ended =
     let o = then_output line defined output got.from_logs got.from_script in
-    record {
-      from_logs = got.from_logs;
-      from_script = got.from_script;
-      logs_told = got.logs_told;
-      script_told = got.script_told;
-      output = o;
-      allowed = refl;
+    ran _ _ (then_output line defined output) o reads result logs script out got refl (record {
       shown = subst (λ s. Shows o s out) (sym ended.0) (nothing_cut out o.text ended.1.same);
       read_fault = λ e. cc (sym ended.0 ∙ e);
       write_fault = λ e. cc (sym ended.0 ∙ e);
-      read_quiet = λ _. got.quiet (λ e. cc);
-      write_quiet = λ _. ended.1.faults;
-      tell = got.tell;
+      quiet = λ _. ended.1.faults;
       tells = untouched_tells out ended.1;
-      logs_used = used_for reads.logs _ _ logs (elim [ inl e ↦ cc (sym ended.0 ∙ e) | inr e ↦ cc (sym ended.0 ∙ e) ]) got.logs_used;
-      script_used = used_for reads.script _ _ script (elim [ inl e ↦ cc (sym ended.0 ∙ e) | inr e ↦ cc (sym ended.0 ∙ e) ]) got.script_used;
-    }
+    }) (λ _. got.quiet (λ e. cc)) (elim [ inl e ↦ cc (sym ended.0 ∙ e) | inr e ↦ cc (sym ended.0 ∙ e) ])
 
 -- an output that needs no source
 pub ran_alone : (output : Output) (result : Status) (logs script out : Stream)

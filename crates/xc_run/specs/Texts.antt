@@ -1,6 +1,6 @@
 -- A source whose whole text was read, of at most so many bytes.
 --     TookText limit refusal result source      the text came whole, or is too long, or a fault came, or memory was refused
-use Rattle.std.specs.Prelude.{◌≡◌, ℕ, ◌≤◌, List, ⊤, length, Result, Ok, Err}
+use Rattle.std.specs.Prelude.{◌≡◌, ℕ, ◌≤◌, List, length, Result, Ok, Err}
 use Rattle.std.specs.Io.KnownBytes.{Consumes, IsAtEnd}
 use Rattle.xc_base.specs.Told.{IsJustPast}
 use Rattle.xc_run.specs.declared.stop.Stop.{Stop}

@@ -26,7 +26,7 @@ use Rattle.xc_agree.specs.declared.tally.Tally.{Tally}
 use Rattle.xc_agree.specs.Runs.{IsRun, IsRuns, end_from, halt_state}
 use Rattle.xc_order.specs.Walks.{halt_at}
 use Rattle.xc_agree.specs.Slots.{time_of, undone_of}
-use Rattle.xc_agree.specs.Tally.{first_commit, first_without, writes, applied_in, IsTally}
+use Rattle.xc_agree.specs.Tally.{first_commit, writes, applied_in, IsTally}
 use Rattle.xc_agree.specs.declared.audit.Audit.{Audit}
 use Rattle.xc_agree.specs.Audit.{end_of, ends_of, ends, state_of, audit_of, IsAudit}
 use Rattle.xc_agree.specs.Cases.{IsFirst, case_of, cases_of, of_tablets, all_records}
@@ -60,33 +60,25 @@ ends-here ts runs h = ends-same runs (accepted_tablets_after [] ts) ts h ∙ ap 
 
 -- ---- the commits
 
-first-flat : (n : ℕ) (bs : List AcceptedTablet)
-    → first_commit n (all_records bs) ≡ first_some (λ b. first_some (λ r. applies n r.kind) b.records) bs
-first-flat n [] = refl
-first-flat n (b ∷ bs) =
-    first-append (λ (r : Record). applies n r.kind) b.records (all_records bs)
-    ∙ ap (or_else (first_some (λ r. applies n r.kind) b.records)) (first-flat n bs)
+flat : {A : Type 0} (f : Record → Option A) (bs : List AcceptedTablet)
+    → first_some f (all_records bs) ≡ first_some (λ b. first_some f b.records) bs
+flat f [] = refl
+flat f (b ∷ bs) = first-append f b.records (all_records bs) ∙ ap (or_else (first_some f b.records)) (flat f bs)
 
 -- the commit of a transaction is that of its first apply along all tablets
 pub commit-here : (ts : List Tablet) (n : ℕ) → first_commit n (all_records (accepted_tablets_after [] ts)) ≡ commit_of (of_tablets ts) n
 unfolding commit_of
 commit-here ts n =
-    first-flat n (accepted_tablets_after [] ts)
+    flat (λ (r : Record). applies n r.kind) (accepted_tablets_after [] ts)
     ∙ ap (first_some (λ (b : AcceptedTablet). first_some (λ r. applies n r.kind) b.records)) (sym (accepted-of ts))
-
-without-flat : (n : ℕ) (bs : List AcceptedTablet)
-    → first_without n (all_records bs) ≡ first_some (λ b. first_some (λ r. rolls_back n r.kind) b.records) bs
-without-flat n [] = refl
-without-flat n (b ∷ bs) =
-    first-append (λ (r : Record). rolls_back n r.kind) b.records (all_records bs)
-    ∙ ap (or_else (first_some (λ r. rolls_back n r.kind) b.records)) (without-flat n bs)
 
 -- and so are its subtransactions that were rolled back
 pub undone-here : (ts : List Tablet) (tally : Tally) → IsTally tally (all_records (accepted_tablets_after [] ts)) → (n : ℕ)
     → undone_of tally.commits n ≡ undone (of_tablets ts) n
 unfolding undone
 undone-here ts tally h n =
-    ap (λ o. option_map_or (λ without. without) o []) (h.undone n ∙ without-flat n (accepted_tablets_after [] ts)
+    ap (λ o. option_map_or (λ without. without) o []) (h.undone n
+    ∙ flat (λ (r : Record). rolls_back n r.kind) (accepted_tablets_after [] ts)
     ∙ ap (first_some (λ (b : AcceptedTablet). first_some (λ r. rolls_back n r.kind) b.records)) (sym (accepted-of ts)))
 
 applied-flat : (bs : List AcceptedTablet) → applied_in (all_records bs) ≡ flat_map (λ b. filter_map (λ r. applied_txn r.kind) b.records) bs

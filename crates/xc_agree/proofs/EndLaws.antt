@@ -1,23 +1,21 @@
 -- Laws of what is seen at a tablet's end: it is what the definitions say of the tablet's records.
-use Rattle.std.proofs.Common.{◌≡◌, ℕ, ◌+◌, ◌≤◌, Bool, true, false, ◌||◌, List, [], ◌∷◌, refl, ap, sym, ◌∙◌, arith}
+use Rattle.std.proofs.Common.{◌≡◌, ℕ, ◌≤◌, Bool, true, false, ◌||◌, List, [], ◌∷◌, refl, ap, sym, ◌∙◌, arith}
 use Rattle.std.proofs.lemmas.Bool.Decides.{nat_tests}
-use Rattle.std.specs.Prelude.{Option, Some, None, ◌&&◌, ◌==◌, nat_le, nat_lt, not, bytes_eq, if◌then◌else◌, fold, is_some, is_none}
+use Rattle.std.specs.Prelude.{Option, Some, None, ◌&&◌, ◌==◌, nat_le, not, bytes_eq, if◌then◌else◌, fold, is_some, is_none}
 use Rattle.std.specs.List.{list_any}
 use Rattle.std.specs.Option.{option_map_or}
 use Rattle.xc_record.specs.declared.record.Kind.{Kind}
-use Rattle.xc_record.specs.declared.record.Kind.TheVariants.{Write, Intent, Apply, Abort, Safe, Split}
 use Rattle.xc_record.specs.declared.record.Break.{Break}
 use Rattle.xc_record.specs.declared.record.Op.{Op}
 use Rattle.xc_record.specs.declared.record.Record.{Record}
 use Rattle.xc_record.specs.Order.{Progress, break_of, after, accepted_from, safe_value}
 use Rattle.xc_record.specs.Commits.{applies, rolls_back, intent_ops}
 use Rattle.xc_record.specs.Agreement.{aborts}
-use Rattle.xc_record.specs.Lists.{or_else}
-use Rattle.xc_agree.specs.Seen.{Seen, see, see_kind, settles, settles_as, passes, pends}
+use Rattle.xc_agree.specs.Seen.{Seen, see, see_kind, pends}
 use Rattle.xc_agree.specs.Held.{wait_kind}
 use Rattle.xc_record.proofs.SafeLaws.{break_of-floor}
 use Rattle.xc_agree.proofs.WaitLaws.{Below, below-see}
-use Rattle.std.proofs.Math.Bool.{or-false, or-true, or_assoc}
+use Rattle.std.proofs.Math.Bool.{or-false, or_assoc}
 
 -- ---- the cases of single records
 
@@ -32,22 +30,7 @@ late_at n c r = is_some (intent_ops n r.kind) && nat_le c r.time
 
 differs-see : (n c : ℕ) (u : List ℕ) (s : Seen) (time : ℕ) (kind : Kind)
     → (see_kind n c u s time kind).differs ≡ (s.differs || option_map_or (λ x. not (x == c)) (applies n kind) false)
-differs-see n c u s time (Write ops) = sym (or-false s.differs)
-differs-see n c u s time (Safe value) = sym (or-false s.differs)
-differs-see n c u s time (Split at left right) = sym (or-false s.differs)
-differs-see n c u s time (Abort txn) =
-    elim (txn == n) as (λ b. (if b then record (settles c s) { aborted = true } else passes s).differs ≡ (s.differs || false))
-    [ true ↦ sym (or-false s.differs) | false ↦ sym (or-false s.differs) ]
-differs-see n c u s time (Intent sub txn ops) =
-    elim (txn == n) as
-    (λ b. (if b then record s { place = s.place + 1; since = or_else s.since (Some (s.place + 1)); late = s.late || nat_le c time } else
-    passes s).differs ≡ (s.differs || false))
-    [ true ↦ sym (or-false s.differs) | false ↦ sym (or-false s.differs) ]
-differs-see n c u s time (Apply txn commit without) =
-    elim (txn == n) as
-    (λ b. (if b then settles_as c u s commit without else passes s).differs ≡
-    (s.differs || option_map_or (λ x. not (x == c)) (if b then Some commit else None) false))
-    [ true ↦ refl | false ↦ sym (or-false s.differs) ]
+differs-see n c u s time kind = grind arith
 
 pub differs-all : (n c : ℕ) (u : List ℕ) (s : Seen) (rs : List Record)
     → (fold (see n c u) s rs).differs ≡ (s.differs || list_any (differs_at n c) rs)
@@ -58,22 +41,7 @@ differs-all n c u s (r ∷ rs) =
 
 undoes-see : (n c : ℕ) (u : List ℕ) (s : Seen) (time : ℕ) (kind : Kind)
     → (see_kind n c u s time kind).undoes ≡ (s.undoes || option_map_or (λ x. not (bytes_eq x u)) (rolls_back n kind) false)
-undoes-see n c u s time (Write ops) = sym (or-false s.undoes)
-undoes-see n c u s time (Safe value) = sym (or-false s.undoes)
-undoes-see n c u s time (Split at left right) = sym (or-false s.undoes)
-undoes-see n c u s time (Abort txn) =
-    elim (txn == n) as (λ b. (if b then record (settles c s) { aborted = true } else passes s).undoes ≡ (s.undoes || false))
-    [ true ↦ sym (or-false s.undoes) | false ↦ sym (or-false s.undoes) ]
-undoes-see n c u s time (Intent sub txn ops) =
-    elim (txn == n) as
-    (λ b. (if b then record s { place = s.place + 1; since = or_else s.since (Some (s.place + 1)); late = s.late || nat_le c time } else
-    passes s).undoes ≡ (s.undoes || false))
-    [ true ↦ sym (or-false s.undoes) | false ↦ sym (or-false s.undoes) ]
-undoes-see n c u s time (Apply txn commit without) =
-    elim (txn == n) as
-    (λ b. (if b then settles_as c u s commit without else passes s).undoes ≡
-    (s.undoes || option_map_or (λ x. not (bytes_eq x u)) (if b then Some without else None) false))
-    [ true ↦ refl | false ↦ sym (or-false s.undoes) ]
+undoes-see n c u s time kind = grind arith
 
 pub undoes-all : (n c : ℕ) (u : List ℕ) (s : Seen) (rs : List Record)
     → (fold (see n c u) s rs).undoes ≡ (s.undoes || list_any (undoes_at n u) rs)
@@ -84,20 +52,7 @@ undoes-all n c u s (r ∷ rs) =
 
 late-see : (n c : ℕ) (u : List ℕ) (s : Seen) (time : ℕ) (kind : Kind)
     → (see_kind n c u s time kind).late ≡ (s.late || (is_some (intent_ops n kind) && nat_le c time))
-late-see n c u s time (Write ops) = sym (or-false s.late)
-late-see n c u s time (Safe value) = sym (or-false s.late)
-late-see n c u s time (Split at left right) = sym (or-false s.late)
-late-see n c u s time (Abort txn) =
-    elim (txn == n) as (λ b. (if b then record (settles c s) { aborted = true } else passes s).late ≡ (s.late || false))
-    [ true ↦ sym (or-false s.late) | false ↦ sym (or-false s.late) ]
-late-see n c u s time (Intent sub txn ops) =
-    elim (txn == n) as
-    (λ b. (if b then record s { place = s.place + 1; since = or_else s.since (Some (s.place + 1)); late = s.late || nat_le c time } else
-    passes s).late ≡ (s.late || (is_some (if b then Some ops else None) && nat_le c time)))
-    [ true ↦ refl | false ↦ sym (or-false s.late) ]
-late-see n c u s time (Apply txn commit without) =
-    elim (txn == n) as (λ b. (if b then settles_as c u s commit without else passes s).late ≡ (s.late || false))
-    [ true ↦ sym (or-false s.late) | false ↦ sym (or-false s.late) ]
+late-see n c u s time kind = grind arith
 
 pub late-all : (n c : ℕ) (u : List ℕ) (s : Seen) (rs : List Record) → (fold (see n c u) s rs).late ≡ (s.late || list_any (late_at n c) rs)
 late-all n c u s [] = sym (or-false s.late)
@@ -107,20 +62,7 @@ late-all n c u s (r ∷ rs) =
 
 aborted-see : (n c : ℕ) (u : List ℕ) (s : Seen) (time : ℕ) (kind : Kind)
     → (see_kind n c u s time kind).aborted ≡ (s.aborted || aborts n kind)
-aborted-see n c u s time (Write ops) = sym (or-false s.aborted)
-aborted-see n c u s time (Safe value) = sym (or-false s.aborted)
-aborted-see n c u s time (Split at left right) = sym (or-false s.aborted)
-aborted-see n c u s time (Abort txn) =
-    elim (txn == n) as (λ b. (if b then record (settles c s) { aborted = true } else passes s).aborted ≡ (s.aborted || b))
-    [ true ↦ sym (or-true s.aborted) | false ↦ sym (or-false s.aborted) ]
-aborted-see n c u s time (Intent sub txn ops) =
-    elim (txn == n) as
-    (λ b. (if b then record s { place = s.place + 1; since = or_else s.since (Some (s.place + 1)); late = s.late || nat_le c time } else
-    passes s).aborted ≡ (s.aborted || false))
-    [ true ↦ sym (or-false s.aborted) | false ↦ sym (or-false s.aborted) ]
-aborted-see n c u s time (Apply txn commit without) =
-    elim (txn == n) as (λ b. (if b then settles_as c u s commit without else passes s).aborted ≡ (s.aborted || false))
-    [ true ↦ sym (or-false s.aborted) | false ↦ sym (or-false s.aborted) ]
+aborted-see n c u s time kind = grind arith
 
 pub aborted-all : (n c : ℕ) (u : List ℕ) (s : Seen) (rs : List Record)
     → (fold (see n c u) s rs).aborted ≡ (s.aborted || list_any (λ r. aborts n r.kind) rs)
@@ -154,38 +96,11 @@ floor_after_kind floor kind = option_map_or (λ value. value) (safe_value kind) 
 
 safe-see : (n c : ℕ) (u : List ℕ) (s : Seen) (time : ℕ) (kind : Kind) → s.safe ≤ s.place
     → (see_kind n c u s time kind).safe ≤ (see_kind n c u s time kind).place
-safe-see n c u s time (Write ops) h = omega arith
-safe-see n c u s time (Safe value) h = omega arith
-safe-see n c u s time (Split at left right) h = omega arith
-safe-see n c u s time (Abort txn) h =
-    elim (txn == n) as
-    (λ b. (if b then record (settles c s) { aborted = true } else passes s).safe ≤
-    (if b then record (settles c s) { aborted = true } else passes s).place) [ true ↦ omega arith | false ↦ omega arith ]
-safe-see n c u s time (Intent sub txn ops) h =
-    elim (txn == n) as
-    (λ b. (if b then record s { place = s.place + 1; since = or_else s.since (Some (s.place + 1)); late = s.late || nat_le c time } else
-    passes s).safe
-    ≤ (if b then record s { place = s.place + 1; since = or_else s.since (Some (s.place + 1)); late = s.late || nat_le c time } else passes
-    s).place) [ true ↦ omega arith | false ↦ omega arith ]
-safe-see n c u s time (Apply txn commit without) h =
-    elim (txn == n) as
-    (λ b. (if b then settles_as c u s commit without else passes s).safe ≤
-    (if b then settles_as c u s commit without else passes s).place)
-    [ true ↦ omega arith | false ↦ omega arith ]
+safe-see n c u s time kind h = grind arith
 
 floor-see : (n c : ℕ) (u : List ℕ) (s : Seen) (floor time : ℕ) (kind : Kind) → s.floor ≤ floor
     → (see_kind n c u s time kind).floor ≤ floor_after_kind floor kind
-floor-see n c u s floor time (Write ops) h = h
-floor-see n c u s floor time (Safe value) h = omega arith
-floor-see n c u s floor time (Split at left right) h = h
-floor-see n c u s floor time (Abort txn) h =
-    elim (txn == n) as (λ b. (if b then record (settles c s) { aborted = true } else passes s).floor ≤ floor) [ true ↦ h | false ↦ h ]
-floor-see n c u s floor time (Intent sub txn ops) h =
-    elim (txn == n) as
-    (λ b. (if b then record s { place = s.place + 1; since = or_else s.since (Some (s.place + 1)); late = s.late || nat_le c time } else
-    passes s).floor ≤ floor) [ true ↦ h | false ↦ h ]
-floor-see n c u s floor time (Apply txn commit without) h =
-    elim (txn == n) as (λ b. (if b then settles_as c u s commit without else passes s).floor ≤ floor) [ true ↦ h | false ↦ h ]
+floor-see n c u s floor time kind h = grind arith
 
 sound-step : (n c : ℕ) (u : List ℕ) (s : Seen) (p : Progress) (r : Record) → Sound s p → Sound (see n c u s r) (after p r)
 sound-step n c u s p r h = record {
@@ -198,32 +113,7 @@ stands-kind : (n c : ℕ) (u : List ℕ) (floor : ℕ) (s : Seen) (time : ℕ) (
     → s.floor ≤ floor → floor ≤ floor_after_kind floor kind
     → stands c (see_kind n c u s time kind) ≡
     (stands c s || (option_map_or (λ value. nat_le c value) (safe_value kind) false && is_some s.since))
-stands-kind n c u floor s time (Write ops) b k f g = sym (or-false (stands c s))
-stands-kind n c u floor s time (Split at left right) b k f g = sym (or-false (stands c s))
-stands-kind n c u floor s time (Safe value) b k f g = go s.since b
-  where
-    go : (o : Option ℕ) → Below s.place o → (s.straggles || option_map_or (λ since. nat_lt since (s.place + 1) && nat_le c value) o false)
-        ≡ ((s.straggles || option_map_or (λ since. nat_lt since s.safe && nat_le c s.floor) o false) || (nat_le c value && is_some o))
-    go None b = grind arith
-    go (Some x) b = grind (arith, nat_tests)
-stands-kind n c u floor s time (Abort txn) b k f g =
-    elim (txn == n) as (λ b. stands c (if b then record (settles c s) { aborted = true } else passes s) ≡ (stands c s || false))
-    [ true ↦ refl | false ↦ sym (or-false (stands c s)) ]
-stands-kind n c u floor s time (Intent sub txn ops) b k f g =
-    elim (txn == n) as
-    (λ b. stands c
-    (if b then record s { place = s.place + 1; since = or_else s.since (Some (s.place + 1)); late = s.late || nat_le c time } else
-    passes s) ≡ (stands c s || false))
-    [ true ↦ waits s.since | false ↦ sym (or-false (stands c s)) ]
-  where
-    waits : (o : Option ℕ)
-        → (s.straggles || option_map_or (λ since. nat_lt since s.safe && nat_le c s.floor) (or_else o (Some (s.place + 1))) false) ≡
-        ((s.straggles || option_map_or (λ since. nat_lt since s.safe && nat_le c s.floor) o false) || false)
-    waits None = grind (arith, nat_tests)
-    waits (Some x) = sym (or-false (s.straggles || (nat_lt x s.safe && nat_le c s.floor)))
-stands-kind n c u floor s time (Apply txn commit without) b k f g =
-    elim (txn == n) as (λ b. stands c (if b then settles_as c u s commit without else passes s) ≡ (stands c s || false))
-    [ true ↦ refl | false ↦ sym (or-false (stands c s)) ]
+stands-kind n c u floor s time kind b k f g = grind (arith, nat_tests)
 
 stands-step : (n c : ℕ) (u : List ℕ) (s : Seen) (p : Progress) (r : Record) → Sound s p → break_of p r ≡ None
     → stands c (see n c u s r) ≡ (stands c s || (option_map_or (λ value. nat_le c value) (safe_value r.kind) false && is_some s.since))
@@ -231,27 +121,7 @@ stands-step n c u s p r h e = stands-kind n c u p.floor s r.time r.kind h.below 
 
 since-step : (n c : ℕ) (u : List ℕ) (s : Seen) (time : ℕ) (kind : Kind)
     → is_some (see_kind n c u s time kind).since ≡ wait_kind n any_op (is_some s.since) kind
-since-step n c u s time (Write ops) = refl
-since-step n c u s time (Safe value) = refl
-since-step n c u s time (Split at left right) = refl
-since-step n c u s time (Abort txn) =
-    elim (txn == n) as
-    (λ b. is_some (if b then record (settles c s) { aborted = true } else passes s).since ≡ (if b then false else is_some s.since))
-    [ true ↦ refl | false ↦ refl ]
-since-step n c u s time (Intent sub txn ops) =
-    elim (txn == n) as
-    (λ b. is_some
-    (if b then record s { place = s.place + 1; since = or_else s.since (Some (s.place + 1)); late = s.late || nat_le c time } else
-    passes s).since ≡ (if b && true then true else is_some s.since))
-    [ true ↦ or-some s.since | false ↦ refl ]
-  where
-    or-some : (o : Option ℕ) → is_some (or_else o (Some (s.place + 1))) ≡ true
-    or-some None = refl
-    or-some (Some x) = refl
-since-step n c u s time (Apply txn commit without) =
-    elim (txn == n) as
-    (λ b. is_some (if b then settles_as c u s commit without else passes s).since ≡ (if b then false else is_some s.since))
-    [ true ↦ refl | false ↦ refl ]
+since-step n c u s time kind = grind arith
 
 pub stands-all : (n c : ℕ) (u : List ℕ) (s : Seen) (p : Progress) (rs : List Record) → Sound s p → accepted_from p rs ≡ rs
     → stands c (fold (see n c u) s rs) ≡ (stands c s || straggles any_op n c (is_some s.since) rs)

@@ -1,5 +1,5 @@
 -- Laws of stragglers: the keys of a transaction's own operations are enough, and what waits at a tablet's start is what its parent held.
-use Rattle.std.proofs.Common.{◌≡◌, ℕ, Bool, true, false, ◌||◌, List, [], ◌∷◌, ◌++◌, refl, ap, sym, ◌∙◌, subst, append_assoc}
+use Rattle.std.proofs.Common.{◌≡◌, ℕ, Bool, true, false, ◌||◌, List, [], ◌∷◌, ◌++◌, refl, ap, sym, ◌∙◌, subst, append_assoc, arith}
 use Rattle.std.proofs.lemmas.Bool.{eqb-true, eq-eqb, and_parts, both_ways, false≢true}
 use Rattle.std.proofs.lemmas.List.{append-nil}
 use Rattle.std.proofs.lemmas.Slice.Eq.{bytes_eq-Decides}
@@ -389,15 +389,8 @@ nothing-at header h (op ∷ ops) e f =
 
 nothing-kind : (n h : ℕ) (header : Header) (r : Record) (kind : Kind) → r.kind ≡ kind → holds header h ≡ false → OwnIn header r
     → wait_kind n (writes_at h) false kind ≡ false
-nothing-kind n h header r (Write ops) is e o = refl
-nothing-kind n h header r (Safe value) is e o = refl
-nothing-kind n h header r (Split at left right) is e o = refl
-nothing-kind n h header r (Apply txn commit without) is e o =
-    elim (txn == n) as (λ b. (if b then false else false) ≡ false) [ true ↦ refl | false ↦ refl ]
-nothing-kind n h header r (Abort txn) is e o = elim (txn == n) as (λ b. (if b then false else false) ≡ false) [ true ↦ refl | false ↦ refl ]
-nothing-kind n h header r (Intent sub txn ops) is e o =
-    rw (nothing-at header h ops e (o.holds_all txn sub ops is))
-    (elim (txn == n) as (λ b. (if b && false then true else false) ≡ false) [ true ↦ refl | false ↦ refl ])
+nothing-kind n h header r (Intent sub txn ops) is e o = grind (arith, nothing-at header h ops e (o.holds_all txn sub ops is))
+nothing-kind n h header r kind is e o = grind arith
 
 pub nothing-waits : (n h : ℕ) (header : Header) (rs : List Record) → holds header h ≡ false → Each (OwnIn header) rs
     → waits_by n (writes_at h) false rs ≡ false

@@ -6,7 +6,6 @@ pub use Rattle.std.proofs.lemmas.List.Elements.{filter_map-append}
 use Rattle.std.specs.Prelude.{Option, Some, None, is_some}
 use Rattle.std.specs.List.{filter_map, cons_option}
 use Rattle.xc_record.specs.declared.record.Kind.{Kind}
-use Rattle.xc_record.specs.declared.record.Kind.TheVariants.{Write, Intent, Apply, Abort, Safe, Split}
 use Rattle.xc_record.specs.declared.record.Record.{Record}
 use Rattle.xc_record.specs.Commits.{applies, rolls_back, applied_txn, write_ops}
 use Rattle.xc_record.specs.Lists.{first_some, or_else, has, insert_number, distinct}
@@ -28,12 +27,7 @@ first-append f [] ys = refl
 first-append f (x ∷ xs) ys = grind (arith, first-append f xs ys)
 
 applies-txn : (n : ℕ) (kind : Kind) (ms : List ℕ) → has n (cons_option (applied_txn kind) ms) ≡ (is_some (applies n kind) || has n ms)
-applies-txn n (Apply txn commit without) ms = grind (arith, nat_tests)
-applies-txn n (Write ops) ms = refl
-applies-txn n (Intent sub txn ops) ms = refl
-applies-txn n (Abort txn) ms = refl
-applies-txn n (Safe value) ms = refl
-applies-txn n (Split at left right) ms = refl
+applies-txn n kind ms = grind (arith, nat_tests)
 
 or-some : (o p : Option ℕ) → is_some (or_else o p) ≡ (is_some o || is_some p)
 or-some None p = refl
@@ -50,12 +44,7 @@ has-applied n (r ∷ rs) =
 
 -- each record writes or applies or neither
 kind-within : (kind : Kind) → length (cons_option (write_ops kind) []) + length (cons_option (commit_by kind) []) ≤ 1
-kind-within (Write ops) = omega arith
-kind-within (Intent sub txn ops) = omega arith
-kind-within (Apply txn commit without) = omega arith
-kind-within (Abort txn) = omega arith
-kind-within (Safe value) = omega arith
-kind-within (Split at left right) = omega arith
+kind-within kind = grind arith
 
 pub writes-append : (rs ss : List Record) → writes (rs ++ ss) ≡ writes rs + writes ss
 writes-append rs ss =
@@ -67,12 +56,7 @@ applies-append rs ss = filter_map-append (λ (r : Record). commit_by r.kind) rs 
 
 -- a transaction's first apply among the applies is its first record that applies it
 time-by : (kind : Kind) (n : ℕ) (cs : List Commit) → time_of (cons_option (commit_by kind) cs) n ≡ or_else (applies n kind) (time_of cs n)
-time-by (Write ops) n cs = refl
-time-by (Intent sub txn ops) n cs = refl
-time-by (Apply txn commit without) n cs = refl
-time-by (Abort txn) n cs = refl
-time-by (Safe value) n cs = refl
-time-by (Split at left right) n cs = refl
+time-by kind n cs = grind arith
 
 pub time-applies : (rs : List Record) (n : ℕ) → time_of (applies_in rs) n ≡ first_commit n rs
 time-applies [] n = refl
@@ -80,12 +64,7 @@ time-applies (r ∷ rs) n = time-by r.kind n (applies_in rs) ∙ ap (or_else (ap
 
 without-by : (kind : Kind) (n : ℕ) (cs : List Commit)
     → without_of (cons_option (commit_by kind) cs) n ≡ or_else (rolls_back n kind) (without_of cs n)
-without-by (Write ops) n cs = refl
-without-by (Intent sub txn ops) n cs = refl
-without-by (Apply txn commit without) n cs = refl
-without-by (Abort txn) n cs = refl
-without-by (Safe value) n cs = refl
-without-by (Split at left right) n cs = refl
+without-by kind n cs = grind arith
 
 pub without-applies : (rs : List Record) (n : ℕ) → without_of (applies_in rs) n ≡ first_without n rs
 without-applies [] n = refl
@@ -93,12 +72,7 @@ without-applies (r ∷ rs) n = without-by r.kind n (applies_in rs) ∙ ap (or_el
 
 txns-by : (kind : Kind) (cs : List Commit)
     → map (λ c. c.txn) (cons_option (commit_by kind) cs) ≡ cons_option (applied_txn kind) (map (λ c. c.txn) cs)
-txns-by (Write ops) cs = refl
-txns-by (Intent sub txn ops) cs = refl
-txns-by (Apply txn commit without) cs = refl
-txns-by (Abort txn) cs = refl
-txns-by (Safe value) cs = refl
-txns-by (Split at left right) cs = refl
+txns-by kind cs = grind arith
 
 pub txns-applies : (rs : List Record) → map (λ c. c.txn) (applies_in rs) ≡ applied_in rs
 txns-applies [] = refl

@@ -18,7 +18,7 @@ use Rattle.xc_agree.specs.declared.held.Held.{Held}
 use Rattle.xc_agree.specs.declared.look.Look.{Look}
 use Rattle.xc_agree.specs.declared.commits.Commit.{Commit}
 use Rattle.xc_agree.specs.Slots.{time_of, undone_of}
-use Rattle.xc_agree.specs.Seen.{Seen, see, see_kind, settles, settles_as, passes, unseen, waits_from, since_in, IsLook}
+use Rattle.xc_agree.specs.Seen.{Seen, see, see_kind, unseen, waits_from, since_in, IsLook}
 use Rattle.xc_agree.specs.Held.{is_held, writes_at, intends, intends_since, is_start, wait_kind, waits_by, IsLeft, seen_at_end}
 use Rattle.xc_agree.proofs.HeldLaws.{since-snoc}
 
@@ -68,50 +68,12 @@ step-waits n c u h held s done r time (Intent sub txn ops) e k = go (txn == n) r
 abbrev pub Below : ℕ → Option ℕ → Type 0
 Below k o = option_map_or (λ place. nat_le place k) o true ≡ true
 
-below-later : (k : ℕ) (o : Option ℕ) → Below k o → Below (k + 1) o
-below-later k None h = refl
-below-later k (Some x) h = grind (arith, nat_tests)
-
-below-or : (k : ℕ) (o : Option ℕ) → Below k o → Below (k + 1) (or_else o (Some (k + 1)))
-below-or k None h = grind (arith, nat_tests)
-below-or k (Some x) h = grind (arith, nat_tests)
-
 pub below-see : (n c : ℕ) (u : List ℕ) (s : Seen) (time : ℕ) (kind : Kind) → Below s.place s.since
     → Below (see_kind n c u s time kind).place (see_kind n c u s time kind).since
-below-see n c u s time (Write ops) h = below-later s.place s.since h
-below-see n c u s time (Safe value) h = below-later s.place s.since h
-below-see n c u s time (Split at left right) h = below-later s.place s.since h
-below-see n c u s time (Apply txn commit without) h =
-    elim (txn == n) as
-    (λ b. Below (if b then settles_as c u s commit without else passes s).place
-    (if b then settles_as c u s commit without else passes s).since)
-    [ true ↦ refl | false ↦ below-later s.place s.since h ]
-below-see n c u s time (Abort txn) h =
-    elim (txn == n) as
-    (λ b. Below (if b then record (settles c s) { aborted = true } else passes s).place
-    (if b then record (settles c s) { aborted = true } else passes s).since)
-    [ true ↦ refl | false ↦ below-later s.place s.since h ]
-below-see n c u s time (Intent sub txn ops) h =
-    elim (txn == n) as
-    (λ b. Below (if b then record s
-    { place = s.place + 1; since = or_else s.since (Some (s.place + 1)); late = s.late || nat_le c time } else passes s).place
-    (if b then record s { place = s.place + 1; since = or_else s.since (Some (s.place + 1)); late = s.late || nat_le c time } else passes
-    s).since)
-    [ true ↦ below-or s.place s.since h | false ↦ below-later s.place s.since h ]
+below-see n c u s time kind h = grind (arith, nat_tests)
 
 pub place-see : (n c : ℕ) (u : List ℕ) (s : Seen) (time : ℕ) (kind : Kind) → (see_kind n c u s time kind).place ≡ s.place + 1
-place-see n c u s time (Write ops) = refl
-place-see n c u s time (Safe value) = refl
-place-see n c u s time (Split at left right) = refl
-place-see n c u s time (Apply txn commit without) =
-    elim (txn == n) as (λ b. (if b then settles_as c u s commit without else passes s).place ≡ s.place + 1) [ true ↦ refl | false ↦ refl ]
-place-see n c u s time (Abort txn) =
-    elim (txn == n) as (λ b. (if b then record (settles c s) { aborted = true } else passes s).place ≡ s.place + 1)
-    [ true ↦ refl | false ↦ refl ]
-place-see n c u s time (Intent sub txn ops) =
-    elim (txn == n) as
-    (λ b. (if b then record s { place = s.place + 1; since = or_else s.since (Some (s.place + 1)); late = s.late || nat_le c time } else
-    passes s).place ≡ s.place + 1) [ true ↦ refl | false ↦ refl ]
+place-see n c u s time kind = grind arith
 
 still-step : (n c : ℕ) (u : List ℕ) (h : ℕ) (held : Bool) (s : Seen) (done : List Record) (r : Record) → Still n h held s done
     → Still n h held (see n c u s r) (done ++ r ∷ [])

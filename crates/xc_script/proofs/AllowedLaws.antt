@@ -1,8 +1,8 @@
 -- What the lines give may be asked: each line keeps it.
 use Rattle.std.proofs.Common.{◌≡◌, ℕ, zero, suc, ◌+◌, ◌^◌, ◌<◌, ◌≤◌, Bool, true, false, ◌&&◌, ◌||◌, ◌==◌, not, nat_le, nat_lt, List, []}
-use Rattle.std.proofs.Common.{◌∷◌, ◌++◌, length, map, Option, Some, None, Result, Ok, Err, option_map, slice_index, refl, sym, ap, subst}
+use Rattle.std.proofs.Common.{◌∷◌, ◌++◌, length, map, Option, Some, None, Ok, option_map, slice_index, refl, sym, ap, subst}
 use Rattle.std.proofs.Common.{◌∙◌, arith}
-use Rattle.std.specs.Prelude.{if◌then◌else◌, is_none, count_by, cond, ⊤}
+use Rattle.std.specs.Prelude.{if◌then◌else◌, is_none, count_by, cond}
 use Rattle.std.specs.List.{list_all, AllByRecursion}
 use Rattle.std.specs.Option.{option_map_or}
 use Rattle.std.proofs.lemmas.Bool.{true≢false, false≢true, and_parts, and_from}
@@ -18,19 +18,18 @@ use Rattle.xc_base.proofs.NameLemmas.{key-no_fault}
 use Rattle.xc_record.specs.Bounds.{are_bounds}
 use Rattle.xc_record.specs.declared.session.Command.{Command}
 use Rattle.xc_record.specs.declared.session.Command.TheVariants as command
-use Rattle.xc_script.specs.declared.kind.ScriptKind.{ScriptKind}
 use Rattle.xc_script.specs.declared.reading.Reading.{Reading}
 use Rattle.xc_script.specs.declared.reading.Stage.{Stage}
 use Rattle.xc_script.specs.declared.reading.Stage.TheVariants as stage
 use Rattle.xc_script.specs.declared.reading.Version.{Version}
 use Rattle.xc_script.specs.declared.reading.Version.TheVariants.{One, Two}
 use Rattle.xc_script.specs.declared.script.Script.{Script}
-use Rattle.xc_script.specs.Kinds.{first_kind}
 use Rattle.xc_script.specs.Words.{ScriptLine, First, Target, Watch, Ask, End, key_fits, key_of, meant, command_numbers_fit}
 use Rattle.xc_script.specs.Words.{command_key_fits, numbers_fit, keys_fit, line_of}
-use Rattle.xc_script.specs.ScriptText.{BadLine, begun, breaks_bounds, misplaced, is_unknown, is_too_many, is_scan, is_drain, kinds, moved}
-use Rattle.xc_script.specs.ScriptText.{step, step_by, unless_bad, ending, rest_of_text, go_on, lines_from, script_of}
+use Rattle.xc_script.specs.ScriptText.{begun, breaks_bounds, misplaced, is_unknown, is_too_many, is_scan, is_drain, kinds, moved}
+use Rattle.xc_script.specs.ScriptText.{step, step_by, ending, rules, script_of}
 use Rattle.xc_script.specs.Allowed.{IsSource, IsPoll, IsAllowed, IsScript, watch_lines}
+use Rattle.xc_script.proofs.LineTextLaws.{AllFalse, lines_found, ok_is, passed}
 
 -- ---- keys
 
@@ -237,20 +236,6 @@ pub record Passes (s : Reading) (l : ScriptLine) : Type 0 where
   pub few : nat_le 65536 s.lines ≡ false
   pub room : is_too_many s.script.commands l ≡ false
 
-pub AllFalse : List (Bool × ScriptKind) → Type 0
-AllFalse [] = ⊤
-AllFalse (row ∷ rows) = (row.0 ≡ false) × AllFalse rows
-
-pub passed : (rows : List (Bool × ScriptKind)) (m after : Reading) → unless_bad (first_kind rows) m ≡ Ok after → AllFalse rows × (m ≡ after)
-unfolding AllFalse
-passed [] m after e = (tt, cc)
-passed (row ∷ rows) m after e = by row.0 refl e (λ e. passed rows m after e)
-  where
-    by : (b : Bool) → row.0 ≡ b → unless_bad (if b then Some row.1 else first_kind rows) m ≡ Ok after
-        → (unless_bad (first_kind rows) m ≡ Ok after → AllFalse rows × (m ≡ after)) → ((row.0 ≡ false) × AllFalse rows) × (m ≡ after)
-    by true is e more = cc
-    by false is e more = let rest = more e in ((is, rest.0), rest.1)
-
 pub is_true : (b : Bool) → not b ≡ false → b ≡ true
 is_true true h = refl
 is_true false h = absurd (true≢false h)
@@ -273,10 +258,7 @@ passes s l all =
 
 from_first : (s : Reading) (v : Version) (st : Stage) → misplaced st (First v) ≡ false → Shape st s → IsEmpty 1 (moved s (First v))
 from_first s v stage.First p shape = record { watched = shape.watched; commands = shape.commands; lines = ap (λ n. n + 1) shape.lines }
-from_first s v stage.Target p shape = absurd (true≢false p)
-from_first s v stage.Watch p shape = absurd (true≢false p)
-from_first s v stage.Commands p shape = absurd (true≢false p)
-from_first s v stage.Ended p shape = absurd (true≢false p)
+from_first s v st p shape = absurd (true≢false p)
 
 from_target : (s : Reading) (bounds : List ℕ) (st : Stage) → misplaced st (Target bounds) ≡ false → breaks_bounds (Target bounds) ≡ false
     → Shape st s
@@ -291,10 +273,7 @@ from_target s bounds stage.Target p b shape =
             (λ n. n + 1) shape.lines;
       };
     }
-from_target s bounds stage.First p b shape = absurd (true≢false p)
-from_target s bounds stage.Watch p b shape = absurd (true≢false p)
-from_target s bounds stage.Commands p b shape = absurd (true≢false p)
-from_target s bounds stage.Ended p b shape = absurd (true≢false p)
+from_target s bounds st p b shape = absurd (true≢false p)
 
 at_most : (a b : ℕ) → nat_lt b a ≡ false → a ≤ b
 at_most a b h = grind (arith, nat_tests)
@@ -319,10 +298,7 @@ from_watch s words stage.Watch p fit shape =
       drains = rw none (omega arith);
       lines = rw (none, lines) (omega (arith, few));
     }
-from_watch s words stage.First p fit shape = absurd (true≢false p)
-from_watch s words stage.Target p fit shape = absurd (true≢false p)
-from_watch s words stage.Commands p fit shape = absurd (true≢false p)
-from_watch s words stage.Ended p fit shape = absurd (true≢false p)
+from_watch s words st p fit shape = absurd (true≢false p)
 
 bounded_inside : (s : Reading) → IsBounded s → IsInside s
 bounded_inside s shape =
@@ -342,16 +318,12 @@ bounded_inside s shape =
 inner_inside : (s : Reading) (c : Command) (st : Stage) → misplaced st (Ask c) ≡ false → Shape st s → IsInside s
 inner_inside s c stage.Watch p shape = bounded_inside s shape
 inner_inside s c stage.Commands p shape = shape
-inner_inside s c stage.First p shape = absurd (true≢false p)
-inner_inside s c stage.Target p shape = absurd (true≢false p)
-inner_inside s c stage.Ended p shape = absurd (true≢false p)
+inner_inside s c st p shape = absurd (true≢false p)
 
 end_inside : (s : Reading) (st : Stage) → misplaced st End ≡ false → Shape st s → IsInside s
 end_inside s stage.Watch p shape = bounded_inside s shape
 end_inside s stage.Commands p shape = shape
-end_inside s stage.First p shape = absurd (true≢false p)
-end_inside s stage.Target p shape = absurd (true≢false p)
-end_inside s stage.Ended p shape = absurd (true≢false p)
+end_inside s st p shape = absurd (true≢false p)
 
 one_longer : {X : Type 0} (xs : List X) (x : X) → length (xs ++ x ∷ []) ≡ length xs + 1
 one_longer xs x = length-append xs (x ∷ [])
@@ -413,35 +385,17 @@ step_keeps s bytes after is e = step_cases s (line_of (split_on 32 bytes)) after
 
 -- ---- the whole text
 
-ok_is : (a b : Script) → (let whole : Result Script BadLine = Ok a in whole) ≡ Ok b → a ≡ b
-ok_is a b e = cc
-
 ending_allowed : (s : Reading) (st : Stage) (script : Script) → Shape st s → ending st s ≡ Ok script → IsScript s.sources script
 ending_allowed s stage.Ended script shape e = subst (λ script. IsScript s.sources script) (ok_is s.script script e) shape
-ending_allowed s stage.First script shape e = cc
-ending_allowed s stage.Target script shape e = cc
-ending_allowed s stage.Watch script shape e = cc
-ending_allowed s stage.Commands script shape e = cc
+ending_allowed s st script shape e = cc
 
-rest_allowed : (s : Reading) (rest : List ℕ) (script : Script) → IsReading s → rest_of_text s rest ≡ Ok script → IsScript s.sources script
-rest_allowed s [] script is e = ending_allowed s s.stage script is.shape e
-rest_allowed s (byte ∷ rest) script is e = cc
-
-lines_allowed : (s : Reading) (pieces : List (List ℕ)) (script : Script) → IsReading s → lines_from s pieces ≡ Ok script
-    → IsScript s.sources script
-lines_allowed s [] script is e = ending_allowed s s.stage script is.shape e
-lines_allowed s (piece ∷ []) script is e = rest_allowed s piece script is e
-lines_allowed s (piece ∷ (next ∷ pieces)) script is e = by (step s piece) refl e
-    (λ after is e. lines_allowed after (next ∷ pieces) script is e)
-  where
-    by : (r : Result Reading ScriptKind) → step s piece ≡ r → go_on s r (λ after. lines_from after (next ∷ pieces)) ≡ Ok script
-        → ((after : Reading) → IsReading after → lines_from after (next ∷ pieces) ≡ Ok script → IsScript after.sources script)
-        → IsScript s.sources script
-    by (Ok after) is_step e on =
-        let kept = step_keeps s piece after is is_step in
-        subst (λ sources. IsScript sources script) kept.sources (on after kept.reading e)
-    by (Err k) is_step e on = cc
+abbrev Kept : ℕ → Reading → List (List (List ℕ)) → Type 0
+Kept sources s before = (s.sources ≡ sources) × IsReading s
 
 pub script_allowed : (sources : ℕ) (text : List ℕ) (script : Script) → script_of sources text ≡ Ok script → IsScript sources script
 unfolding script_of
-script_allowed sources text script e = lines_allowed (begun sources) (split_on 10 text) script (begun_is sources) e
+script_allowed sources text script e =
+    (lines_found rules (Kept sources) (λ script words. IsScript sources script)
+    (λ s after before bytes kept is. let next = step_keeps s bytes after kept.1 is in (next.sources ∙ kept.0, next.reading))
+    (λ s before script kept is. subst (λ sources. IsScript sources script) kept.0 (ending_allowed s s.stage script kept.1.shape is))
+    (begun sources) [] (split_on 10 text) script (refl, begun_is sources) e).spelled

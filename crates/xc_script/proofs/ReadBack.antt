@@ -1,11 +1,10 @@
 -- A text that is read as a script spells it.
 use Rattle.std.proofs.Common.{◌≡◌, ℕ, ◌+◌, ◌^◌, ◌<◌, ◌≤◌, Bool, true, false, ◌&&◌, nat_le, nat_lt, List, [], ◌∷◌, ◌++◌, map, Option, Some}
-use Rattle.std.proofs.Common.{None, Result, Ok, Err, option_map, refl, sym, ap, subst, ◌∙◌, append_assoc, codes, decimal, arith}
+use Rattle.std.proofs.Common.{None, Ok, option_map, refl, sym, ap, subst, ◌∙◌, append_assoc, codes, decimal, arith}
 use Rattle.std.specs.Prelude.{flat_map, if◌then◌else◌, bytes_eq}
-use Rattle.std.specs.List.{list_all, join_with_byte}
+use Rattle.std.specs.List.{list_all}
 use Rattle.std.proofs.lemmas.Bool.{true≢false, and_parts, and_from}
 use Rattle.std.proofs.lemmas.Bool.Decides.{nat_tests}
-use Rattle.std.proofs.lemmas.List.{append-nil}
 use Rattle.std.proofs.lemmas.List.Folds.{list_all-append}
 use Rattle.std.proofs.lemmas.Slice.Eq.{bytes_eq-Decides}
 use Rattle.xc_base.specs.Names.{key_fault}
@@ -16,7 +15,6 @@ use Rattle.xc_base.proofs.NameLemmas.{name-no_fault}
 use Rattle.xc_base.proofs.WordLaws.{decimal-number_of, join-split_on}
 use Rattle.xc_record.specs.declared.session.Command.{Command}
 use Rattle.xc_record.specs.declared.session.Command.TheVariants as command
-use Rattle.xc_script.specs.declared.kind.ScriptKind.{ScriptKind}
 use Rattle.xc_script.specs.declared.reading.Reading.{Reading}
 use Rattle.xc_script.specs.declared.reading.Stage.{Stage}
 use Rattle.xc_script.specs.declared.reading.Stage.TheVariants as stage
@@ -26,11 +24,12 @@ use Rattle.xc_script.specs.declared.script.Script.{Script}
 use Rattle.xc_script.specs.Words.{◌>>=◌, ScriptLine, First, Target, Watch, Ask, End, is_word, is_hash, version_of, all_numbers, numbers_of}
 use Rattle.xc_script.specs.Words.{some_words, bare_of, with_one, with_two, with_three, poll_of, stop_of, command_of, end_of, line_by}
 use Rattle.xc_script.specs.Words.{line_in, line_of, numbers_fit, command_numbers_fit, key_fits, key_of, command_key_fits, meant}
-use Rattle.xc_script.specs.ScriptText.{BadLine, begun, ending, go_on, kinds, lines_from, misplaced, moved, rest_of_text, script_of, step}
+use Rattle.xc_script.specs.ScriptText.{begun, ending, kinds, misplaced, moved, rules, script_of, step}
 use Rattle.xc_script.specs.ScriptText.{step_by}
 use Rattle.xc_script.specs.Spelled.{key_word, is_nameable, command_words, command_is_nameable, version_word, watch_words, script_words}
 use Rattle.xc_script.specs.Spelled.{words_line, ReadIsSpelled}
-use Rattle.xc_script.proofs.AllowedLaws.{IsReading, Passes, Shape, begun_is, none_is, passed, passes, script_allowed, step_keeps}
+use Rattle.xc_script.proofs.AllowedLaws.{IsReading, Passes, Shape, begun_is, none_is, passes, script_allowed, step_keeps}
+use Rattle.xc_script.proofs.LineTextLaws.{lines_found, ok_is, passed}
 use Rattle.xc_script.proofs.AllowedLaws.{word_right}
 
 -- ---- the words of a line
@@ -366,26 +365,17 @@ record Back (s : Reading) (before : List (List (List ℕ))) : Type 0 where
 first_back : (s : Reading) (v : Version) (st : Stage) → misplaced st (First v) ≡ false → Shape st s
     → so_far st s ++ line_words (First v) ∷ [] ≡ so_far stage.Target (moved s (First v))
 first_back s v stage.First p shape = refl
-first_back s v stage.Target p shape = absurd (true≢false p)
-first_back s v stage.Watch p shape = absurd (true≢false p)
-first_back s v stage.Commands p shape = absurd (true≢false p)
-first_back s v stage.Ended p shape = absurd (true≢false p)
+first_back s v st p shape = absurd (true≢false p)
 
 first_empty : (s : Reading) (v : Version) (st : Stage) → misplaced st (First v) ≡ false → Shape st s
     → (s.script.watched ≡ []) × (s.script.commands ≡ [])
 first_empty s v stage.First p shape = (shape.watched, shape.commands)
-first_empty s v stage.Target p shape = absurd (true≢false p)
-first_empty s v stage.Watch p shape = absurd (true≢false p)
-first_empty s v stage.Commands p shape = absurd (true≢false p)
-first_empty s v stage.Ended p shape = absurd (true≢false p)
+first_empty s v st p shape = absurd (true≢false p)
 
 target_back : (s : Reading) (bounds : List ℕ) (st : Stage) → misplaced st (Target bounds) ≡ false → Shape st s
     → so_far st s ++ line_words (Target bounds) ∷ [] ≡ so_far stage.Watch (moved s (Target bounds))
 target_back s bounds stage.Target p shape = rw (shape.watched, shape.commands) refl
-target_back s bounds stage.First p shape = absurd (true≢false p)
-target_back s bounds stage.Watch p shape = absurd (true≢false p)
-target_back s bounds stage.Commands p shape = absurd (true≢false p)
-target_back s bounds stage.Ended p shape = absurd (true≢false p)
+target_back s bounds st p shape = absurd (true≢false p)
 
 watched_words : (v : Version) (words : List (List ℕ)) → (words ≡ [] → ⊥) → KeysBack v words
     → watch_words v (map (key_of v) words) ≡ (codes "watch" ∷ words) ∷ []
@@ -396,10 +386,7 @@ watch_back : (s : Reading) (words : List (List ℕ)) (st : Stage) → misplaced 
     → KeysBack s.version words
     → so_far st s ++ line_words (Watch words) ∷ [] ≡ so_far stage.Commands (moved s (Watch words))
 watch_back s words stage.Watch p shape some k = rw (shape.empty.watched, shape.empty.commands, watched_words s.version words some k) refl
-watch_back s words stage.First p shape some k = absurd (true≢false p)
-watch_back s words stage.Target p shape some k = absurd (true≢false p)
-watch_back s words stage.Commands p shape some k = absurd (true≢false p)
-watch_back s words stage.Ended p shape some k = absurd (true≢false p)
+watch_back s words st p shape some k = absurd (true≢false p)
 
 pub mapped_back : {A B : Type 0} (f : A → B) (xs : List A) (x : A) (y : B) → f x ≡ y → map f (xs ++ x ∷ []) ≡ map f xs ++ y ∷ []
 mapped_back f [] x y e = ap (λ z. z ∷ []) e
@@ -420,9 +407,7 @@ ask_back : (s : Reading) (c : Command) (st : Stage) → misplaced st (Ask c) ≡
     → so_far st s ++ line_words (Ask c) ∷ [] ≡ so_far stage.Commands (moved s (Ask c))
 ask_back s c stage.Watch p k = ask_head s c k
 ask_back s c stage.Commands p k = ask_head s c k
-ask_back s c stage.First p k = absurd (true≢false p)
-ask_back s c stage.Target p k = absurd (true≢false p)
-ask_back s c stage.Ended p k = absurd (true≢false p)
+ask_back s c st p k = absurd (true≢false p)
 
 end_head : (s : Reading) → head_of s.version s.script ++ (codes "end" ∷ []) ∷ [] ≡ script_words s.version s.script
 end_head s = ap (first_two s) (append_assoc (watch_words s.version s.script.watched) (map (command_words s.version) s.script.commands)
@@ -431,9 +416,7 @@ end_head s = ap (first_two s) (append_assoc (watch_words s.version s.script.watc
 last_back : (s : Reading) (st : Stage) → misplaced st End ≡ false → so_far st s ++ line_words End ∷ [] ≡ so_far stage.Ended (moved s End)
 last_back s stage.Watch p = end_head s
 last_back s stage.Commands p = end_head s
-last_back s stage.First p = absurd (true≢false p)
-last_back s stage.Target p = absurd (true≢false p)
-last_back s stage.Ended p = absurd (true≢false p)
+last_back s st p = absurd (true≢false p)
 
 pub all_with : {X : Type 0} (p : X → Bool) (xs : List X) (x : X) → list_all p xs ≡ true → p x ≡ true → list_all p (xs ++ x ∷ []) ≡ true
 all_with p xs x h k = list_all-append p xs (x ∷ []) ∙ and_from _ _ h (and_from _ _ k refl)
@@ -497,91 +480,38 @@ step_back s after before bytes is back e = step_cases s after before (split_on 3
 
 -- ---- the whole text
 
-record Found (before : List (List (List ℕ))) (pieces : List (List ℕ)) (script : Script) : Type 0 where
+-- the words are those of the script's lines
+record IsSpelled (script : Script) (words : List (List (List ℕ))) : Type 0 where
   version : Version
-  lines : flat_map words_line before ++ join_with_byte 10 pieces ≡ flat_map words_line (script_words version script)
+  lines : words ≡ script_words version script
   watched : list_all (is_nameable version) script.watched ≡ true
   commands : list_all (command_is_nameable version) script.commands ≡ true
 
-ok_same : (a b : Script) → (let r : Result Script BadLine = Ok a in r) ≡ Ok b → a ≡ b
-ok_same a b e = cc
-
 ended_back : (s : Reading) (before : List (List (List ℕ))) (script : Script) (st : Stage) → s.stage ≡ st → Back s before
-    → ending st s ≡ Ok script
-    → Found before [] script
+    → ending st s ≡ Ok script → IsSpelled script before
 ended_back s before script stage.Ended is back e =
-    subst (Found before []) (ok_same s.script script e) (record {
+    subst (λ script. IsSpelled script before) (ok_is s.script script e) (record {
       version = s.version;
-      lines = append-nil (flat_map words_line before) ∙ ap (flat_map words_line) (back.lines ∙ ap (λ st. so_far st s) is);
+      lines = back.lines ∙ ap (λ st. so_far st s) is;
       watched = back.watched;
       commands = back.commands;
     })
-ended_back s before script stage.First is back e = cc
-ended_back s before script stage.Target is back e = cc
-ended_back s before script stage.Watch is back e = cc
-ended_back s before script stage.Commands is back e = cc
+ended_back s before script st is back e = cc
 
-no_rest : (before : List (List (List ℕ))) (script : Script) → Found before [] script → Found before ([] ∷ []) script
-no_rest before script found = record { version = found.version; lines = found.lines; watched = found.watched; commands = found.commands }
-
-rest_back : (s : Reading) (before : List (List (List ℕ))) (script : Script) (rest : List ℕ) → Back s before
-    → rest_of_text s rest ≡ Ok script
-    → Found before (rest ∷ []) script
-rest_back s before script [] back e = no_rest before script (ended_back s before script s.stage refl back e)
-rest_back s before script (byte ∷ rest) back e = cc
-
-pub lines_more : (before : List (List (List ℕ))) (words : List (List ℕ))
-    → flat_map words_line (before ++ words ∷ []) ≡ flat_map words_line before ++ words_line words
-lines_more [] words = append-nil (words_line words)
-lines_more (line ∷ before) words =
-    ap (λ l. words_line line ++ l) (lines_more before words)
-    ∙ sym (append_assoc (words_line line) (flat_map words_line before) (words_line words))
-
-pub line_of_bytes : (bytes rest : List ℕ) → words_line (split_on 32 bytes) ++ rest ≡ bytes ++ 10 ∷ rest
-line_of_bytes bytes rest = append_assoc (join_with_byte 32 (split_on 32 bytes)) (10 ∷ []) rest
-    ∙ ap (λ l. l ++ 10 ∷ rest) (join-split_on 32 bytes)
-
-with_line : (before : List (List (List ℕ))) (piece next : List ℕ) (pieces : List (List ℕ)) (script : Script)
-    → Found (before ++ split_on 32 piece ∷ []) (next ∷ pieces) script → Found before (piece ∷ (next ∷ pieces)) script
-with_line before piece next pieces script found = record {
-  version = found.version;
-  lines =
-      let rest = join_with_byte 10 (next ∷ pieces) in
-      ap (λ l. flat_map words_line before ++ l) (sym (line_of_bytes piece rest))
-      ∙ sym (append_assoc (flat_map words_line before) (words_line (split_on 32 piece)) rest)
-      ∙ ap (λ l. l ++ rest) (sym (lines_more before (split_on 32 piece)))
-      ∙ found.lines;
-  watched = found.watched;
-  commands = found.commands;
-}
-
-lines_found : (s : Reading) (before : List (List (List ℕ))) (pieces : List (List ℕ)) (script : Script) → IsReading s → Back s before
-    → lines_from s pieces ≡ Ok script
-    → Found before pieces script
-lines_found s before [] script is back e = ended_back s before script s.stage refl back e
-lines_found s before (piece ∷ []) script is back e = rest_back s before script piece back e
-lines_found s before (piece ∷ (next ∷ pieces)) script is back e =
-    by (step s piece) refl e (λ after before is back e. lines_found after before (next ∷ pieces) script is back e)
-  where
-    by : (r : Result Reading ScriptKind) → step s piece ≡ r → go_on s r (λ after. lines_from after (next ∷ pieces)) ≡ Ok script
-        → ((after : Reading) (before : List (List (List ℕ))) → IsReading after → Back after before
-        → lines_from after (next ∷ pieces) ≡ Ok script
-        → Found before (next ∷ pieces) script) → Found before (piece ∷ (next ∷ pieces)) script
-    by (Ok after) is_step e on =
-        with_line before piece next pieces script
-        (on after (before ++ split_on 32 piece ∷ []) (step_keeps s piece after is is_step).reading
-        (step_back s after before piece is back is_step) e)
-    by (Err k) is_step e on = cc
+abbrev Reached : Reading → List (List (List ℕ)) → Type 0
+Reached s before = IsReading s × Back s before
 
 pub read_is_spelled : ReadIsSpelled
 unfolding script_of
 read_is_spelled sources text script e =
-    let found = lines_found (begun sources) [] (split_on 10 text) script (begun_is sources)
-    (record { lines = refl; watched = refl; commands = refl }) e in
+    let found = lines_found rules Reached IsSpelled
+    (λ s after before bytes at is. ((step_keeps s bytes after at.0 is).reading, step_back s after before bytes at.0 at.1 is))
+    (λ s before script at is. ended_back s before script s.stage refl at.1 is)
+    (begun sources) [] (split_on 10 text) script (begun_is sources, record { lines = refl; watched = refl; commands = refl }) e in
     record {
       allowed = script_allowed sources text script e;
-      version = found.version;
-      lines = sym (join-split_on 10 text) ∙ found.lines;
-      watched = found.watched;
-      commands = found.commands;
+      version = found.spelled.version;
+      lines = sym (join-split_on 10 text) ∙ found.lines ∙ ap (flat_map words_line) found.spelled.lines;
+      watched = found.spelled.watched;
+      commands = found.spelled.commands;
     }

@@ -1,6 +1,6 @@
 -- A text that spells a script is read as that script.
 use Rattle.std.proofs.Common.{◌≡◌, ℕ, ◌+◌, ◌^◌, ◌<◌, ◌≤◌, ◌==◌, Bool, true, false, ◌&&◌, not, nat_le, nat_lt, List, [], ◌∷◌, ◌++◌, length}
-use Rattle.std.proofs.Common.{map, Some, None, Result, Ok, refl, sym, ap, subst, ◌∙◌, append_assoc, codes, decimal, arith}
+use Rattle.std.proofs.Common.{map, Some, None, Ok, refl, sym, ap, subst, ◌∙◌, append_assoc, codes, decimal, arith}
 use Rattle.std.specs.Prelude.{count_by, cond}
 use Rattle.std.specs.List.{list_all, AllByRecursion, join_with_byte}
 use Rattle.std.proofs.lemmas.Bool.{true≢false, false≢true, and_parts, and_from}
@@ -19,14 +19,15 @@ use Rattle.xc_script.specs.declared.reading.Stage.TheVariants as stage
 use Rattle.xc_script.specs.declared.reading.Version.{Version}
 use Rattle.xc_script.specs.declared.reading.Version.TheVariants.{One, Two}
 use Rattle.xc_script.specs.declared.script.Script.{Script}
+use Rattle.xc_script.specs.LineText.{lines_from}
 use Rattle.xc_script.specs.Words.{ScriptLine, First, Target, Watch, Ask, End, is_word, is_hash, key_fits, key_of, all_numbers, line_of}
-use Rattle.xc_script.specs.ScriptText.{BadLine, asked, begun, go_on, is_drain, is_inner, is_scan, is_too_many, lines_from, misplaced, moved}
+use Rattle.xc_script.specs.ScriptText.{asked, begun, is_drain, is_inner, is_scan, is_too_many, misplaced, moved, rules}
 use Rattle.xc_script.specs.ScriptText.{script_of, step, step_by}
 use Rattle.xc_script.specs.Allowed.{IsAllowed, IsScript, watch_lines}
 use Rattle.xc_script.specs.Spelled.{key_word, is_nameable, command_words, command_is_nameable, version_word, watch_words, script_words}
 use Rattle.xc_script.specs.Spelled.{SpelledIsRead, SpellsOne}
 use Rattle.xc_script.proofs.AllowedLaws.{Passes}
-use Rattle.xc_script.proofs.RunLaws.{one_line}
+use Rattle.xc_script.proofs.LineTextLaws.{ok_is, taken}
 use Rattle.xc_script.proofs.StepLaws.{place_inner}
 use Rattle.xc_script.proofs.SpelledWords.{above, bodies, command_said, decimal_is, key_is, lines_back, words_back, written}
 
@@ -43,12 +44,6 @@ step_is s word words l clear is p = ap (λ words. step_by s (line_of words)) (wo
 
 below_limit : (n : ℕ) → n + 1 ≤ 65536 → nat_le 65536 n ≡ false
 below_limit n h = grind (arith, nat_tests)
-
--- a line is taken, and the others follow
-taken : (s after : Reading) (piece : List ℕ) (later : List (List ℕ)) (whole : Result Script BadLine) → step s piece ≡ Ok after
-    → lines_from after (later ++ [] ∷ []) ≡ whole → lines_from s (piece ∷ (later ++ [] ∷ [])) ≡ whole
-taken s after piece later whole is on = one_line s piece later [] ∙ ap (λ r. go_on s r (λ after. lines_from after (later ++ [] ∷ []))) is
-    ∙ on
 
 -- ---- commands
 
@@ -88,11 +83,9 @@ record Left (s : Reading) (cs : List Command) : Type 0 where
   lines : s.lines + length cs + 1 ≤ 65536
 
 place_end : (st : Stage) → is_inner st ≡ true → misplaced st End ≡ false
-place_end stage.First h = absurd (false≢true h)
-place_end stage.Target h = absurd (false≢true h)
 place_end stage.Watch h = refl
 place_end stage.Commands h = refl
-place_end stage.Ended h = absurd (false≢true h)
+place_end st h = absurd (false≢true h)
 
 end_line : line_of (codes "end" ∷ []) ≡ Some End
 unfolding line_of
@@ -155,17 +148,18 @@ abbrev with_commands : Script → List Command → Script
 with_commands script cs = record script { commands = cs }
 
 commands_run : (s : Reading) (cs : List Command) → Left s cs
-    → lines_from s (bodies (map (command_words s.version) cs ++ (codes "end" ∷ []) ∷ []) ++ [] ∷ []) ≡ Ok (with_commands s.script
+    → lines_from rules s (bodies (map (command_words s.version) cs ++ (codes "end" ∷ []) ∷ []) ++ [] ∷ []) ≡ Ok (with_commands s.script
     (s.script.commands ++ cs))
 commands_run s [] left =
     let lines = left.lines in
     let step_end = step_is s (codes "end") [] End refl end_line (end_passes s left.inner (omega (arith, lines))) in
-    taken s (moved s End) (codes "end") [] _ step_end (ap (λ cs. Ok (with_commands s.script cs)) (sym (append-nil s.script.commands)))
+    taken rules s (moved s End) (codes "end") [] [] step_end
+    ∙ ap (λ cs. Ok (with_commands s.script cs)) (sym (append-nil s.script.commands))
 commands_run s (c ∷ cs) left =
-    taken s (asked s c) (join_with_byte 32 (command_words s.version c)) (bodies (map (command_words s.version) cs ++
-    (codes "end" ∷ []) ∷ [])) _ (command_step s c cs left)
-    (commands_run (asked s c) cs (left_next s c cs left)
-    ∙ ap (λ cs. Ok (with_commands s.script cs)) (append_assoc s.script.commands (c ∷ []) cs))
+    taken rules s (asked s c) (join_with_byte 32 (command_words s.version c)) (bodies (map (command_words s.version) cs ++
+    (codes "end" ∷ []) ∷ [])) [] (command_step s c cs left)
+    ∙ commands_run (asked s c) cs (left_next s c cs left)
+    ∙ ap (λ cs. Ok (with_commands s.script cs)) (append_assoc s.script.commands (c ∷ []) cs)
 
 commands_above : (v : Version) (sources targets : ℕ) (cs : List Command) → targets ≤ 16 → AllByRecursion (IsAllowed sources targets) cs
     → list_all (command_is_nameable v) cs ≡ true → list_all (list_all above) (map (command_words v) cs) ≡ true
@@ -292,7 +286,8 @@ tail_of v cs = map (command_words v) cs ++ (codes "end" ∷ []) ∷ []
 watch_run : (sources : ℕ) (v : Version) (script : Script) → IsScript sources script → AreBounds script.bounds
     → list_all (is_nameable v) script.watched ≡ true
     → list_all (command_is_nameable v) script.commands ≡ true → (watched : List (List ℕ)) → script.watched ≡ watched
-    → lines_from (bounded sources v script.bounds) (bodies (watch_words v watched ++ tail_of v script.commands) ++ [] ∷ []) ≡ Ok script
+    → lines_from rules (bounded sources v script.bounds) (bodies (watch_words v watched ++ tail_of v script.commands) ++ [] ∷ [])
+    ≡ Ok script
 watch_run sources v script is are keys commands [] e =
     let lines = is.lines in
     let none : watch_lines script.watched ≡ 0 = ap watch_lines e in
@@ -325,8 +320,8 @@ watch_run sources v script is are keys commands (key ∷ rest) e =
       room = few_keys (length words) (omega (arith, few, size, count));
     } in
     let step_watch = step_is s (codes "watch") words (Watch words) (and_from _ _ refl ks.above) (watch_line v key rest ks.words) passes in
-    taken s (moved s (Watch words)) (join_with_byte 32 (codes "watch" ∷ words)) (bodies (tail_of v script.commands)) _ step_watch
-    (commands_run (moved s (Watch words)) script.commands (record {
+    taken rules s (moved s (Watch words)) (join_with_byte 32 (codes "watch" ∷ words)) (bodies (tail_of v script.commands)) [] step_watch
+    ∙ commands_run (moved s (Watch words)) script.commands (record {
       inner = refl;
       targets = are.few;
       allowed = is.commands;
@@ -334,11 +329,11 @@ watch_run sources v script is are keys commands (key ∷ rest) e =
       scans = is.scans;
       drains = is.drains;
       lines = omega (arith, lines, one);
-    }) ∙ ap (λ watched. Ok (record script { watched = watched })) (ks.same ∙ sym e))
+    }) ∙ ap (λ watched. Ok (record script { watched = watched })) (ks.same ∙ sym e)
 
 head_run : (sources : ℕ) (v : Version) (script : Script) → IsScript sources script → list_all (is_nameable v) script.watched ≡ true
     → list_all (command_is_nameable v) script.commands ≡ true
-    → lines_from (begun sources) (bodies (script_words v script) ++ [] ∷ []) ≡ Ok script
+    → lines_from rules (begun sources) (bodies (script_words v script) ++ [] ∷ []) ≡ Ok script
 head_run sources v script is keys commands =
     let are = bounds_are script.bounds is.bounds in
     let ns = numbers_are script.bounds are.hashes in
@@ -354,14 +349,14 @@ head_run sources v script is keys commands =
     } in
     let second : Passes (named sources v) (Target script.bounds) =
     record { place = refl; numbers = are.hashes; keys = refl; bounds = ap not is.bounds; known = refl; few = refl; room = refl } in
-    taken (begun sources) (named sources v) (join_with_byte 32 (codes "xcscript" ∷ version_word v ∷ []))
-    (bodies ((codes "target" ∷ map decimal script.bounds) ∷ (watch_words v script.watched ++ tail_of v script.commands))) _
+    taken rules (begun sources) (named sources v) (join_with_byte 32 (codes "xcscript" ∷ version_word v ∷ []))
+    (bodies ((codes "target" ∷ map decimal script.bounds) ∷ (watch_words v script.watched ++ tail_of v script.commands))) []
     (step_is (begun sources) (codes "xcscript") (version_word v ∷ []) (First v) (first_words v) (first_line v) first)
-    (taken (named sources v) (bounded sources v script.bounds) (join_with_byte 32 (codes "target" ∷ map decimal script.bounds))
-    (bodies (watch_words v script.watched ++ tail_of v script.commands)) _
+    ∙ taken rules (named sources v) (bounded sources v script.bounds) (join_with_byte 32 (codes "target" ∷ map decimal script.bounds))
+    (bodies (watch_words v script.watched ++ tail_of v script.commands)) []
     (step_is (named sources v) (codes "target") (map decimal script.bounds) (Target script.bounds) (and_from _ _ refl ns.above)
     (target_line script.bounds are ns) second)
-    (watch_run sources v script is are keys commands script.watched refl))
+    ∙ watch_run sources v script is are keys commands script.watched refl
 
 watch_above : (v : Version) (keys : List (List ℕ)) → AreKeys v keys → list_all (list_all above) (watch_words v keys) ≡ true
 watch_above v [] are = refl
@@ -383,15 +378,12 @@ script_above sources v script is keys commands =
 pub spelled_is_read : SpelledIsRead
 unfolding script_of
 spelled_is_read sources text script spells =
-    ap (λ text. lines_from (begun sources) (split_on 10 text)) spells.lines
-    ∙ ap (lines_from (begun sources)) (lines_back (codes "xcscript" ∷ version_word spells.version ∷ [])
+    ap (λ text. lines_from rules (begun sources) (split_on 10 text)) spells.lines
+    ∙ ap (lines_from rules (begun sources)) (lines_back (codes "xcscript" ∷ version_word spells.version ∷ [])
     ((codes "target" ∷ map decimal script.bounds) ∷ (watch_words spells.version script.watched ++ tail_of spells.version script.commands))
     (script_above sources spells.version script spells.allowed spells.watched spells.commands))
     ∙ head_run sources spells.version script spells.allowed spells.watched spells.commands
 
-same_script : (a b : Script) (whole : Result Script BadLine) → whole ≡ Ok a → whole ≡ Ok b → a ≡ b
-same_script a b whole e f = cc
-
 pub spells_one : SpellsOne
-spells_one sources text script other one two = same_script script other _ (spelled_is_read sources text script one)
-    (spelled_is_read sources text other two)
+spells_one sources text script other one two =
+    ok_is script other (sym (spelled_is_read sources text script one) ∙ spelled_is_read sources text other two)

@@ -266,24 +266,6 @@ command_said v sources targets (command.Restart id) few is name =
       room = λ before. refl;
       same = refl;
     }
-command_said v sources targets command.Drain few is name = record {
-  above = refl;
-  line = refl;
-  numbers = refl;
-  key = refl;
-  known = refl;
-  room = λ before. refl;
-  same = refl;
-}
-command_said v sources targets command.Safe few is name = record {
-  above = refl;
-  line = refl;
-  numbers = refl;
-  key = refl;
-  known = refl;
-  room = λ before. refl;
-  same = refl;
-}
 command_said v sources targets (command.Read key) few is name =
     let k = key_is v key is name in
     record {
@@ -307,15 +289,6 @@ command_said v sources targets (command.ReadAt u key) few is name =
       room = λ before. refl;
       same = ap (command.ReadAt u) k.same;
     }
-command_said v sources targets command.Scan few is name = record {
-  above = refl;
-  line = refl;
-  numbers = refl;
-  key = refl;
-  known = refl;
-  room = λ before. refl;
-  same = refl;
-}
 command_said v sources targets (command.Prune u) few is name =
     let a = decimal_is u (small u (2 ^ 62) is (omega arith)) in
     record {
@@ -327,17 +300,7 @@ command_said v sources targets (command.Prune u) few is name =
       room = λ before. refl;
       same = refl;
     }
-command_said v sources targets command.Failover few is name = record {
-  above = refl;
-  line = refl;
-  numbers = refl;
-  key = refl;
-  known =
-      refl;
-  room = λ before. refl;
-  same = refl;
-}
-command_said v sources targets command.Report few is name = record {
+command_said v sources targets c few is name = record {
   above = refl;
   line = refl;
   numbers = refl;

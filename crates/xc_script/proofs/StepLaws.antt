@@ -1,5 +1,5 @@
 -- What a line gives, by what its words are read as.
-use Rattle.std.proofs.Common.{◌≡◌, ℕ, Bool, true, false, ◌||◌, not, nat_le, nat_lt, List, [], ◌∷◌, length, map, Option, Some, None, Result}
+use Rattle.std.proofs.Common.{◌≡◌, ℕ, Bool, true, false, ◌||◌, not, nat_le, nat_lt, List, [], ◌∷◌, length, map, Option, Some, None}
 use Rattle.std.proofs.Common.{Ok, Err, option_map, refl, sym, ap, ◌∙◌, codes}
 use Rattle.std.specs.Prelude.{if◌then◌else◌, bytes_eq}
 use Rattle.std.specs.List.{list_all}
@@ -9,35 +9,21 @@ use Rattle.std.proofs.lemmas.Slice.Eq.{bytes_eq-Decides}
 use Rattle.xc_record.specs.Bounds.{are_bounds}
 use Rattle.xc_record.specs.declared.session.Command.{Command}
 use Rattle.xc_record.specs.declared.session.Command.TheVariants as command
-use Rattle.xc_script.specs.declared.kind.ScriptKind.{ScriptKind}
 use Rattle.xc_script.specs.declared.kind.ScriptKind.TheVariants as kind
 use Rattle.xc_script.specs.declared.reading.Reading.{Reading}
 use Rattle.xc_script.specs.declared.reading.Stage.{Stage}
 use Rattle.xc_script.specs.declared.reading.Stage.TheVariants as stage
 use Rattle.xc_script.specs.declared.reading.Version.{Version}
-use Rattle.xc_script.specs.Kinds.{judge, first_kind}
+use Rattle.xc_script.specs.Kinds.{judge}
 use Rattle.xc_script.specs.Words.{ScriptLine, First, Target, Watch, Ask, is_hash, key_fits, key_of, meant, command_numbers_fit}
 use Rattle.xc_script.specs.Words.{command_key_fits, numbers_of, some_words, version_of, end_of, command_of, command_in, bounds_in, keys_in}
 use Rattle.xc_script.specs.Words.{line_by, numbers_fit, keys_fit}
-use Rattle.xc_script.specs.ScriptText.{misplaced, is_unknown, is_too_many, later_kinds, moved, step_by, unless_bad, is_inner, is_watch_line}
+use Rattle.xc_script.specs.LineText.{first_kind, unless_bad}
+use Rattle.xc_script.specs.ScriptText.{misplaced, is_unknown, is_too_many, later_kinds, moved, step_by, is_inner, is_watch_line}
 use Rattle.xc_script.specs.ScriptText.{with_bounds, with_watched, with_command}
+use Rattle.xc_script.proofs.LineTextLaws.{then_by, judged}
 
 -- ---- lines that were read by themselves
-
--- a reading by itself, and what the step goes on to
-abbrev pub then_by : {B : Type 0} → (B → Result Reading ScriptKind) → Result B ScriptKind → Result Reading ScriptKind
-then_by more (Ok b) = more b
-then_by more (Err k) = Err k
-
-judged : {B : Type 0} (more : B → Result Reading ScriptKind) (b : B) (place numbers keys : Bool) (later : List (Bool × ScriptKind))
-    (after : Reading)
-    → place ≡ false → unless_bad (first_kind later) after ≡ more b
-    → unless_bad (first_kind ((place, kind.Form) ∷ (not numbers, kind.Number) ∷ (not keys, kind.Key) ∷ later)) after
-    ≡ then_by more (if numbers then (if keys then Ok b else Err kind.Key) else Err kind.Number)
-judged more b true numbers keys later after p e = absurd (true≢false p)
-judged more b false true true later after p e = e
-judged more b false true false later after p e = refl
-judged more b false false keys later after p e = refl
 
 at_stage : (s : Reading) (other : Stage) (l : ScriptLine) (b : Bool) → s.stage ≡ other → misplaced other l ≡ b → misplaced s.stage l ≡ b
 at_stage s other l b is out = ap (λ st. misplaced st l) is ∙ out
@@ -46,7 +32,8 @@ bounds_cases : (s : Reading) (o : Option (List ℕ)) → s.stage ≡ stage.Targe
     → step_by s (option_map Target o) ≡ then_by (with_bounds s) (judge (list_all is_hash) (λ bounds. true) (λ bounds. bounds) o)
 bounds_cases s None is = refl
 bounds_cases s (Some bounds) is =
-    judged (with_bounds s) bounds (misplaced s.stage (Target bounds)) (list_all is_hash bounds) true (later_kinds s (Target bounds))
+    judged kind.Form kind.Number kind.Key
+    (with_bounds s) bounds (misplaced s.stage (Target bounds)) (list_all is_hash bounds) true (later_kinds s (Target bounds))
     (moved s (Target bounds))
     (at_stage s _ (Target bounds) false is refl) (by (are_bounds bounds) (nat_le 65536 s.lines))
   where
@@ -67,7 +54,8 @@ keys_cases : (s : Reading) (o : Option (List (List ℕ))) → s.stage ≡ stage.
     (λ words. true) (list_all (key_fits s.version)) (map (key_of s.version)) o)
 keys_cases s None is = refl
 keys_cases s (Some words) is =
-    judged (with_watched s) (map (key_of s.version) words) (misplaced s.stage (Watch words)) true (list_all (key_fits s.version) words)
+    judged kind.Form kind.Number kind.Key
+    (with_watched s) (map (key_of s.version) words) (misplaced s.stage (Watch words)) true (list_all (key_fits s.version) words)
     (later_kinds s (Watch words)) (moved s (Watch words))
     (at_stage s _ (Watch words) false is refl)
     (rw (length-map words (key_of s.version)) (by (nat_lt 16 (length words)) (nat_le 65536 s.lines)))
@@ -97,17 +85,16 @@ many_meant v before (command.ReadAt u key) = refl
 many_meant v before c = refl
 
 pub place_inner : (st : Stage) (c : Command) → is_inner st ≡ true → misplaced st (Ask c) ≡ false
-place_inner stage.First c h = absurd (false≢true h)
-place_inner stage.Target c h = absurd (false≢true h)
 place_inner stage.Watch c h = refl
 place_inner stage.Commands c h = refl
-place_inner stage.Ended c h = absurd (false≢true h)
+place_inner st c h = absurd (false≢true h)
 
 pub command_step : (s : Reading) (o : Option Command) → is_inner s.stage ≡ true
     → step_by s (option_map Ask o) ≡ then_by (with_command s) (command_in s.version o)
 command_step s None is = refl
 command_step s (Some c) is =
-    judged (with_command s) (meant s.version c) (misplaced s.stage (Ask c)) (command_numbers_fit c) (command_key_fits s.version c)
+    judged kind.Form kind.Number kind.Key
+    (with_command s) (meant s.version c) (misplaced s.stage (Ask c)) (command_numbers_fit c) (command_key_fits s.version c)
     (later_kinds s (Ask c)) (moved s (Ask c))
     (place_inner s.stage c is)
     (rw (unknown_meant s.version s.sources (length s.script.bounds) c, many_meant s.version s.script.commands c)
@@ -178,27 +165,21 @@ refused : {A : Type 0} (s : Reading) (f : A → ScriptLine) (o : Option A) (c : 
 refused s f o c out none = mapped s f o out ∙ sym (ap (λ c. step_by s (option_map Ask c)) none)
 
 place_first : (st : Stage) (v : Version) → is_inner st ≡ true → misplaced st (First v) ≡ true
-place_first stage.First v h = absurd (false≢true h)
-place_first stage.Target v h = absurd (false≢true h)
 place_first stage.Watch v h = refl
 place_first stage.Commands v h = refl
-place_first stage.Ended v h = absurd (false≢true h)
+place_first st v h = absurd (false≢true h)
 
 place_target : (st : Stage) (bounds : List ℕ) → is_inner st ≡ true → misplaced st (Target bounds) ≡ true
-place_target stage.First v h = absurd (false≢true h)
-place_target stage.Target v h = absurd (false≢true h)
 place_target stage.Watch v h = refl
 place_target stage.Commands v h = refl
-place_target stage.Ended v h = absurd (false≢true h)
+place_target st v h = absurd (false≢true h)
 
 place_watch : (st : Stage) (word : List ℕ) (words : List (List ℕ)) → is_inner st ≡ true → is_watch_line st word ≡ false
     → bytes_eq word (codes "watch") ≡ true
     → misplaced st (Watch words) ≡ true
-place_watch stage.First word words h w e = absurd (false≢true h)
-place_watch stage.Target word words h w e = absurd (false≢true h)
 place_watch stage.Watch word words h w e = absurd (true≢false (sym e ∙ w))
 place_watch stage.Commands word words h w e = refl
-place_watch stage.Ended word words h w e = absurd (false≢true h)
+place_watch st word words h w e = absurd (false≢true h)
 
 -- where commands may stand, only a line that begins with `end`, or names the watched keys, is no command
 pub only_commands : (s : Reading) (word : List ℕ) (words : List (List ℕ)) → is_inner s.stage ≡ true → is_watch_line s.stage word ≡ false

@@ -1,5 +1,6 @@
 pub mod Kinds
 pub mod Words
+pub mod LineText
 pub mod ScriptText
 pub mod Allowed
 pub mod Spelled

@@ -23,13 +23,12 @@ use Rattle.xc_script.specs.declared.reading.Stage.{Stage}
 use Rattle.xc_script.specs.declared.reading.Stage.TheVariants as stage
 use Rattle.xc_script.specs.declared.reading.Reading.{Reading}
 use Rattle.xc_script.specs.declared.script.Script.{Script}
-use Rattle.xc_script.specs.Kinds.{first_kind}
+use Rattle.xc_script.specs.LineText.{BadLine as BadTextLine, Rules, first_kind, unless_bad, lines_from}
 use Rattle.xc_script.specs.Words.{ScriptLine, First, Target, Watch, Ask, End, line_of, numbers_fit, keys_fit, key_of, meant}
 use Rattle.xc_base.specs.declared.limits.TheConstants.{SCRIPT_LINES, WATCHED_KEYS, MOST_SCANS, MOST_DRAINS}
 
-pub record BadLine : Type 0 where
-  pub line : ℕ
-  pub kind : ScriptKind
+abbrev pub BadLine : Type 0
+BadLine = BadTextLine ScriptKind
 
 -- ---- the rules for one line
 
@@ -115,10 +114,6 @@ moved s (Watch words) = after_line s stage.Commands (record s.script { watched =
 moved s (Ask c) = asked s (meant s.version c)
 moved s End = after_line s stage.Ended s.script
 
-abbrev pub unless_bad : {A : Type 0} → Option ScriptKind → A → Result A ScriptKind
-unless_bad None x = Ok x
-unless_bad (Some k) x = Err k
-
 abbrev pub step_by : Reading → Option ScriptLine → Result Reading ScriptKind
 step_by s None = Err kind.Form
 step_by s (Some l) = unless_bad (first_kind (kinds s l)) (moved s l)
@@ -128,35 +123,16 @@ step s bytes = step_by s (line_of (split_on 32 bytes))
 
 -- ---- the whole text
 
--- the line after those so far is bad
-abbrev pub bad_next : Reading → ScriptKind → Result Script BadLine
-bad_next s k = Err (record { line = s.lines + 1; kind = k })
-
 -- a text that goes no further than these lines
 abbrev pub ending : Stage → Reading → Result Script BadLine
 ending stage.Ended s = Ok s.script
-ending _ s = bad_next s kind.NoEnd
+ending _ s = Err (record { line = s.lines + 1; kind = kind.NoEnd })
 
-abbrev pub is_empty : List ℕ → Bool
-is_empty [] = true
-is_empty (byte ∷ bytes) = false
-
--- the bytes after the last line end, which are to be none
-abbrev pub rest_of_text : Reading → List ℕ → Result Script BadLine
-rest_of_text s rest = if is_empty rest then ending s.stage s else bad_next s kind.Form
-
-abbrev pub go_on : Reading → Result Reading ScriptKind → (Reading → Result Script BadLine) → Result Script BadLine
-go_on s (Ok after) more = more after
-go_on s (Err k) more = bad_next s k
-
--- the lines that are left, each ended by a line end but for the last piece
-abbrev pub lines_from : Reading → List (List ℕ) → Result Script BadLine
-lines_from s [] = ending s.stage s
-lines_from s (piece ∷ []) = rest_of_text s piece
-lines_from s (piece ∷ (next ∷ pieces)) = go_on s (step s piece) (λ after. lines_from after (next ∷ pieces))
+abbrev pub rules : Rules Reading Script ScriptKind
+rules = record { lines = λ s. s.lines; step = step; ending = λ s. ending s.stage s; unended = kind.Form }
 
 unfoldable pub script_of : ℕ → List ℕ → Result Script BadLine
-script_of sources text = lines_from (begun sources) (split_on 10 text)
+script_of sources text = lines_from rules (begun sources) (split_on 10 text)
 
 -- ---- what calls answer
 

@@ -1,7 +1,8 @@
 // Reading a script.
 ghost use Rattle.std.specs.Prelude.{◌≡◌, ◌<◌, ◌++◌, ◌∷◌, [], map, IfOk};
 ghost use Rattle.xc_script.specs.Allowed.{IsScript};
-ghost use Rattle.xc_script.specs.ScriptText.{Reads, at_line, begun, lines_from, rest_of_text, script_of};
+ghost use Rattle.xc_script.specs.LineText.{lines_from, rest_of_text};
+ghost use Rattle.xc_script.specs.ScriptText.{Reads, at_line, begun, rules, script_of};
 
 use crate::kind::{Fail, ScriptFail, ScriptKind};
 use crate::reading::{Reading, Stage};
@@ -43,7 +44,7 @@ fn read_pieces(
     rest: &[u8],
     sources: u32,
 ) -> Result<Script, ScriptFail>
-    ensures { Reads result (lines_from (begun sources) (map (λ line. line.now) lines.now ++ rest.now ∷ [])) }
+    ensures { Reads result (lines_from rules (begun sources) (map (λ line. line.now) lines.now ++ rest.now ∷ [])) }
 {
     let mut reading = Reading::begun(alloc, sources);
     for line in lines {
@@ -58,7 +59,7 @@ fn read_pieces(
 // What a text gives that goes no further than this rest.
 fn ending(reading: Reading, rest: &[u8]) -> Result<Script, ScriptFail>
     requires { reading.lines < 65537 }
-    ensures { Reads result (rest_of_text reading rest.now) }
+    ensures { Reads result (rest_of_text rules reading rest.now) }
 {
     let kind = if !rest.is_empty() {
         ScriptKind::Form

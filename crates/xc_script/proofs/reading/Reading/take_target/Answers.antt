@@ -1,6 +1,7 @@
 use Rattle.std.proofs.Common.{◌≡◌, true, codes, arith, ap, ◌∙◌}
 use Rattle.std.specs.Prelude.{bytes_eq}
-use Rattle.xc_script.proofs.StepLaws.{target_step, then_by}
+use Rattle.xc_script.proofs.StepLaws.{target_step}
+use Rattle.xc_script.proofs.LineTextLaws.{then_by}
 use Rattle.xc_script.specs.ScriptText.{with_bounds}
 use Rattle.xc_script.proofs.WordLists.{texts}
 use Rattle.xc_script.proofs.reading.Reading.take_target.Goals as goal

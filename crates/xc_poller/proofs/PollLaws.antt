@@ -68,9 +68,7 @@ can-give headers counts asked old looked olds (step.Batch batch) r =
       tablets = λ k d low. subst (λ i. CanTake i batch.from batch.records (get_or olds k d)) (sym (id-same old looked r.looked_is))
           (can-take headers counts asked old looked batch (get_or olds k d) o (r.tablets k d low));
     }
-can-give headers counts asked old looked olds (step.Waits parent) r = tt
-can-give headers counts asked old looked olds step.AtEnd r = tt
-can-give headers counts asked old looked olds (step.Halted number kind) r = tt
+can-give headers counts asked old looked olds s r = tt
 
 -- ---- the tablets and the reader afterwards
 
@@ -80,9 +78,7 @@ TookOrStayed looked new batch x y = Took looked.header.id batch.from batch.recor
 abbrev TabletsCame : PollerState → PollerState → List TargetTablet → List TargetTablet → Step → Type 0
 TabletsCame looked new olds news (step.Batch batch) =
     AllZip (TookOrStayed looked new batch) olds news × (new.applied ≤ max looked.applied (looked.reader.cursor + length batch.records))
-TabletsCame looked new olds news (step.Waits parent) = (news ≡ olds) × (new.applied ≤ looked.applied)
-TabletsCame looked new olds news step.AtEnd = (news ≡ olds) × (new.applied ≤ looked.applied)
-TabletsCame looked new olds news (step.Halted number kind) = (news ≡ olds) × (new.applied ≤ looked.applied)
+TabletsCame looked new olds news s = (news ≡ olds) × (new.applied ≤ looked.applied)
 
 pub record Came (looked new : PollerState) (olds news : List TargetTablet) (s : Step) : Type 0 where
   pub at : ℕ
@@ -142,11 +138,7 @@ given-came looked new olds news (step.Batch batch) (Ok answer) g = record {
     each-unit [] = tt
     each-unit (x ∷ xs) = (tt, each-unit xs)
 given-came looked new olds news (step.Batch batch) (Err e) g = refused-came looked new olds news batch e g
-given-came looked new olds news (step.Waits parent) result g =
-    idle-came looked new olds news (step.Waits parent) g.1.0 (g.1.1, same-applied looked new g.1.0)
-given-came looked new olds news step.AtEnd result g = idle-came looked new olds news step.AtEnd g.1.0 (g.1.1, same-applied looked new g.1.0)
-given-came looked new olds news (step.Halted number kind) result g =
-    idle-came looked new olds news (step.Halted number kind) g.1.0 (g.1.1, same-applied looked new g.1.0)
+given-came looked new olds news s result g = idle-came looked new olds news s g.1.0 (g.1.1, same-applied looked new g.1.0)
 
 pub cut-came : (last : ℕ) (looked new : PollerState) (olds news : List TargetTablet) (s : Step) (result : Result PollAnswer NextFail)
     → IsCutOff last looked new olds news s result → Came looked new olds news s
@@ -158,12 +150,7 @@ cut-came last looked new olds news (step.Batch batch) (Ok answer) g = record {
   tablets = first-came looked new olds news batch (last + 1) (let a = ap (λ (p : PollerState). p.applied) g.1.0 in omega arith) g.1.1;
 }
 cut-came last looked new olds news (step.Batch batch) (Err e) g = refused-came looked new olds news batch e g
-cut-came last looked new olds news (step.Waits parent) result g =
-    idle-came looked new olds news (step.Waits parent) g.1.0 (g.1.1, same-applied looked new g.1.0)
-cut-came last looked new olds news step.AtEnd result g =
-    idle-came looked new olds news step.AtEnd g.1.0 (g.1.1, same-applied looked new g.1.0)
-cut-came last looked new olds news (step.Halted number kind) result g =
-    idle-came looked new olds news (step.Halted number kind) g.1.0 (g.1.1, same-applied looked new g.1.0)
+cut-came last looked new olds news s result g = idle-came looked new olds news s g.1.0 (g.1.1, same-applied looked new g.1.0)
 
 -- ---- whatever the feed tells
 
@@ -211,9 +198,7 @@ tablets-still headers counts asked old looked new olds news s r c =
         (subst (λ i. Took i batch.from batch.records x y) (id-same old looked r.looked_is) took) header is_open most)
         (λ e. let low : new.applied ≤ old.applied = let a = applied in let b = e.1 in omega arith in
         subst (CanPoll headers counts new) (sym e.0) (still-same headers counts old new x p header is_open low)) h) before t.0
-    go (step.Waits parent) r c t = same t
-    go step.AtEnd r c t = same t
-    go (step.Halted number kind) r c t = same t
+    go s r c t = same t
 
 stood : (headers : List Header) (counts : List ℕ) (asked : ℕ) (old looked new : PollerState) (olds news : List TargetTablet) (s : Step)
     → Ready headers counts asked old looked olds s → new ≡ looked → news ≡ olds
@@ -262,15 +247,9 @@ polled headers counts asked old looked new olds news (step.Batch batch) (Ok answ
 polled headers counts asked old looked new olds news (step.Batch batch) (Err e) r g =
     subst (λ a. IsPolled headers counts asked old new olds news (Err a)) (sym g.0)
     (refused headers counts asked old looked new olds news batch e r g)
-polled headers counts asked old looked new olds news (step.Waits parent) result r g =
+polled headers counts asked old looked new olds news s result r g =
     subst (IsPolled headers counts asked old new olds news) (sym g.0)
-    (stood headers counts asked old looked new olds news (step.Waits parent) r g.1.0 g.1.1)
-polled headers counts asked old looked new olds news step.AtEnd result r g =
-    subst (IsPolled headers counts asked old new olds news) (sym g.0)
-    (stood headers counts asked old looked new olds news step.AtEnd r g.1.0 g.1.1)
-polled headers counts asked old looked new olds news (step.Halted number kind) result r g =
-    subst (IsPolled headers counts asked old new olds news) (sym g.0)
-    (stood headers counts asked old looked new olds news (step.Halted number kind) r g.1.0 g.1.1)
+    (stood headers counts asked old looked new olds news s r g.1.0 g.1.1)
 
 pub stopped : (headers : List Header) (counts : List ℕ) (asked last : ℕ) (old looked new : PollerState) (olds news : List TargetTablet)
     (s : Step) (result : Result PollAnswer NextFail)
@@ -297,15 +276,9 @@ stopped headers counts asked last old looked new olds news (step.Batch batch) (O
 stopped headers counts asked last old looked new olds news (step.Batch batch) (Err e) r g =
     subst (λ a. IsStopped headers counts asked last old new olds news (Err a)) (sym g.0)
     (refused headers counts asked old looked new olds news batch e r g)
-stopped headers counts asked last old looked new olds news (step.Waits parent) result r g =
+stopped headers counts asked last old looked new olds news s result r g =
     subst (IsStopped headers counts asked last old new olds news) (sym g.0)
-    (stood headers counts asked old looked new olds news (step.Waits parent) r g.1.0 g.1.1)
-stopped headers counts asked last old looked new olds news step.AtEnd result r g =
-    subst (IsStopped headers counts asked last old new olds news) (sym g.0)
-    (stood headers counts asked old looked new olds news step.AtEnd r g.1.0 g.1.1)
-stopped headers counts asked last old looked new olds news (step.Halted number kind) result r g =
-    subst (IsStopped headers counts asked last old new olds news) (sym g.0)
-    (stood headers counts asked old looked new olds news (step.Halted number kind) r g.1.0 g.1.1)
+    (stood headers counts asked old looked new olds news s r g.1.0 g.1.1)
 
 -- ---- where the feed tells its logs
 
@@ -313,9 +286,7 @@ pub answers : (logs : Logs) (b : AcceptedTablet) (asked : ℕ) (old looked new :
     (answer : PollAnswer)
     → IsGiven looked new olds news s (Ok answer) → answer ≡ answer_of s
 answers logs b asked old looked new olds news (step.Batch batch) answer g = g.0
-answers logs b asked old looked new olds news (step.Waits parent) answer g = cc
-answers logs b asked old looked new olds news step.AtEnd answer g = cc
-answers logs b asked old looked new olds news (step.Halted number kind) answer g = cc
+answers logs b asked old looked new olds news s answer g = cc
 
 pub unmoved : (logs : Logs) (olds news : List TargetTablet) → news ≡ olds → KeepStanding logs olds news
 unmoved logs olds news e =
@@ -343,9 +314,7 @@ tablets-stand logs b headers counts asked old looked new olds news (step.Batch b
     (subst (λ i. Took i batch.from batch.records x y) (id-same old looked r.looked_is) took).taken)
     (λ e. subst (TabletStandsFor logs u) (sym e.0) stands) h)
     (recursion_from_All (CanPoll headers counts old) olds r.tablets) c.tablets.0
-tablets-stand logs b headers counts asked old looked new olds news (step.Waits parent) r st of c = unmoved logs olds news c.tablets.0
-tablets-stand logs b headers counts asked old looked new olds news step.AtEnd r st of c = unmoved logs olds news c.tablets.0
-tablets-stand logs b headers counts asked old looked new olds news (step.Halted number kind) r st of c = unmoved logs olds news c.tablets.0
+tablets-stand logs b headers counts asked old looked new olds news s r st of c = unmoved logs olds news c.tablets.0
 
 pub given-stands : (logs : Logs) (b : AcceptedTablet) (headers : List Header) (counts : List ℕ) (asked : ℕ) (old looked new : PollerState)
     (olds news : List TargetTablet) (s : Step) (result : Result PollAnswer NextFail)
@@ -363,11 +332,7 @@ given-stands logs b headers counts asked old looked new olds news (step.Batch ba
     ∙ ap (λ n. take (length batch.records) (drop n b.records)) (sym same)))
 given-stands logs b headers counts asked old looked new olds news (step.Batch batch) (Err e) r st of g =
     subst (λ (p : PollerState). StandsFor logs p b) (sym g.1.0) st
-given-stands logs b headers counts asked old looked new olds news (step.Waits parent) result r st of g =
-    subst (λ (p : PollerState). StandsFor logs p b) (sym g.1.0) st
-given-stands logs b headers counts asked old looked new olds news step.AtEnd result r st of g =
-    subst (λ (p : PollerState). StandsFor logs p b) (sym g.1.0) st
-given-stands logs b headers counts asked old looked new olds news (step.Halted number kind) result r st of g =
+given-stands logs b headers counts asked old looked new olds news s result r st of g =
     subst (λ (p : PollerState). StandsFor logs p b) (sym g.1.0) st
 
 pub cut-stands : (logs : Logs) (b : AcceptedTablet) (last : ℕ) (looked new : PollerState) (olds news : List TargetTablet) (s : Step)
@@ -378,10 +343,7 @@ cut-stands logs b last looked new olds news (step.Batch batch) (Ok answer) st g 
     subst (λ (p : PollerState). StandsFor logs p b) (sym g.1.0)
     (record { reads = record { tablet = r.tablet; reached = r.reached; checked = r.checked; order = r.order }; floor = st.floor })
 cut-stands logs b last looked new olds news (step.Batch batch) (Err e) st g = subst (λ (p : PollerState). StandsFor logs p b) (sym g.1.0) st
-cut-stands logs b last looked new olds news (step.Waits parent) result st g = subst (λ (p : PollerState). StandsFor logs p b) (sym g.1.0) st
-cut-stands logs b last looked new olds news step.AtEnd result st g = subst (λ (p : PollerState). StandsFor logs p b) (sym g.1.0) st
-cut-stands logs b last looked new olds news (step.Halted number kind) result st g =
-    subst (λ (p : PollerState). StandsFor logs p b) (sym g.1.0) st
+cut-stands logs b last looked new olds news s result st g = subst (λ (p : PollerState). StandsFor logs p b) (sym g.1.0) st
 
 -- ---- the premises, as a call has them
 
@@ -427,6 +389,4 @@ given-rises old looked new olds news (step.Batch batch) (Ok answer) look g =
     let above = up.floor in
     subst (Rises old) (sym g.1.0) (record { applied = omega arith; floor = omega arith })
 given-rises old looked new olds news (step.Batch batch) (Err e) look g = rises-same old looked new look g.1.0
-given-rises old looked new olds news (step.Waits parent) result look g = rises-same old looked new look g.1.0
-given-rises old looked new olds news step.AtEnd result look g = rises-same old looked new look g.1.0
-given-rises old looked new olds news (step.Halted number kind) result look g = rises-same old looked new look g.1.0
+given-rises old looked new olds news s result look g = rises-same old looked new look g.1.0

@@ -22,6 +22,7 @@ use Rattle.xc_record.proofs.AcceptedLaws.{IsGrown, accepted_tablets-grown}
 use Rattle.xc_model.proofs.SplitEnd.{accepted-head}
 use Rattle.xc_model.proofs.Parents.{UnderParent, each-get, each-root, StartsRoot, get-id, get-under}
 use Rattle.xc_change.proofs.ReaderLaws.{drop-min}
+use Rattle.xc_poller.specs.declared.poller.Poller.TheInside.{Inside as PollerFields}
 use Rattle.xc_poller.specs.Poller.{PollerState, StandsFor, before_first, new_poller, is_closed, raised_by, done, Rises}
 
 -- ---- safe values of accepted records
@@ -159,6 +160,17 @@ reached-child logs s p b above there parent low at =
     reached-get [] (accepted_tablets logs) s b (reached-all logs) there
     ∙ ap (reached_after (take s (accepted_tablets logs))) parent
     ∙ ap (λ o. option_map_or (λ (d : AcceptedTablet). d.reached && d.end.split) o false) (get-take (accepted_tablets logs) s p low ∙ at)
+
+-- what contracts see of a poller's fields
+abbrev pub seen : PollerFields → PollerState
+seen p = record {
+  header = p.header;
+  reader = p.reader;
+  acknowledged = p.acknowledged;
+  applied = p.applied;
+  floor = p.floor;
+  is_open = p.is_open;
+}
 
 -- ---- a new poller
 

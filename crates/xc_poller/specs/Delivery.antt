@@ -24,9 +24,7 @@ pub record CanGiveBatch (p : PollerState) (olds : List TargetTablet) (batch : Ba
 
 abbrev pub CanGive : PollerState → List TargetTablet → Step → Type 0
 CanGive p olds (step.Batch batch) = CanGiveBatch p olds batch
-CanGive p olds (step.Waits parent) = Unit {0}
-CanGive p olds step.AtEnd = Unit {0}
-CanGive p olds (step.Halted number kind) = Unit {0}
+CanGive p olds s = Unit {0}
 
 -- nothing is given
 abbrev pub IsIdle : PollerState → PollerState → List TargetTablet → List TargetTablet → Step → Result PollAnswer NextFail → Type 0
@@ -41,15 +39,11 @@ IsGiven old new olds news (step.Batch batch) (Ok answer) =
     (answer ≡ poll.Polled (length batch.records)) ×
     ((new ≡ done batch.records old) × TookAll old.header.id batch.from batch.records olds news)
 IsGiven old new olds news (step.Batch batch) (Err e) = Refused old new olds news batch e
-IsGiven old new olds news (step.Waits parent) result = IsIdle old new olds news (step.Waits parent) result
-IsGiven old new olds news step.AtEnd result = IsIdle old new olds news step.AtEnd result
-IsGiven old new olds news (step.Halted number kind) result = IsIdle old new olds news (step.Halted number kind) result
+IsGiven old new olds news s result = IsIdle old new olds news s result
 
 abbrev pub IsCutOff : ℕ → PollerState → PollerState → List TargetTablet → List TargetTablet → Step → Result PollAnswer NextFail → Type 0
 IsCutOff last old new olds news (step.Batch batch) (Ok answer) =
     (answer ≡ poll.Polled (length batch.records)) ×
     ((new ≡ restarted old) × TookFirst old.header.id batch.from batch.records (last + 1) olds news)
 IsCutOff last old new olds news (step.Batch batch) (Err e) = Refused old new olds news batch e
-IsCutOff last old new olds news (step.Waits parent) result = IsIdle old new olds news (step.Waits parent) result
-IsCutOff last old new olds news step.AtEnd result = IsIdle old new olds news step.AtEnd result
-IsCutOff last old new olds news (step.Halted number kind) result = IsIdle old new olds news (step.Halted number kind) result
+IsCutOff last old new olds news s result = IsIdle old new olds news s result

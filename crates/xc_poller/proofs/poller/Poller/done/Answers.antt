@@ -1,21 +1,12 @@
 use Rattle.std.proofs.Common.{◌≡◌, ◌+◌, ◌-◌, ◌≤◌, length, take, drop, sym, subst}
 use Rattle.xc_poller.specs.Poller.{PollerState, StandsFor, Rises, done}
-use Rattle.xc_poller.proofs.StandLaws.{done-stands, done-rises, last-part}
+use Rattle.xc_poller.proofs.StandLaws.{seen, done-stands, done-rises, last-part}
 use Rattle.xc_poller.proofs.poller.Poller.done.Goals as goal
 
 pub returns-clause-stands : goal.returns-clause-stands
 returns-clause-stands c logs b st is =
     let rs = c.args.batch.now.records in
-    let p : PollerState =
-    record {
-      header = c.self.inside.header;
-      reader = c.self.inside.reader;
-      acknowledged = c.self.inside.acknowledged;
-      applied =
-          c.self.inside.applied;
-      floor = c.self.inside.floor;
-      is_open = c.self.inside.is_open;
-    } in
+    let p = seen c.self.inside in
     let stood : StandsFor logs p b = subst (λ (q : PollerState). StandsFor logs q b) (sym c.self.view_is) st in
     let within : p.reader.cursor + length rs ≤ p.reader.checked =
     subst (λ (q : PollerState). q.reader.cursor + length rs ≤ q.reader.checked) (sym c.self.view_is) c.requires.checked in
@@ -35,16 +26,7 @@ returns-clause-stands c logs b st is =
 pub returns-clause-rises : goal.returns-clause-rises
 returns-clause-rises c =
     let rs = c.args.batch.now.records in
-    let p : PollerState =
-    record {
-      header = c.self.inside.header;
-      reader = c.self.inside.reader;
-      acknowledged = c.self.inside.acknowledged;
-      applied =
-          c.self.inside.applied;
-      floor = c.self.inside.floor;
-      is_open = c.self.inside.is_open;
-    } in
+    let p = seen c.self.inside in
     rw (
       c.move_to.ensures,
       c.max-self-inside.ensures,

@@ -1,31 +1,13 @@
 use Rattle.std.proofs.Common.{◌≡◌, sym, subst, true, Some}
 use Rattle.xc_record.specs.Accepted.{accepted_tablet}
 use Rattle.xc_poller.specs.Poller.{PollerState, StandsFor, is_closed}
-use Rattle.xc_poller.proofs.StandLaws.{opened-stands}
+use Rattle.xc_poller.proofs.StandLaws.{seen, opened-stands}
 use Rattle.xc_poller.proofs.poller.Poller.open.Goals as goal
 
 pub returns-clause-stands : goal.returns-clause-stands
 returns-clause-stands c logs above b unopened valid st there same =
-    let p : PollerState =
-    record {
-      header = c.self.inside.header;
-      reader = c.self.inside.reader;
-      acknowledged = c.self.inside.acknowledged;
-      applied =
-          c.self.inside.applied;
-      floor = c.self.inside.floor;
-      is_open = c.self.inside.is_open;
-    } in
-    let parent : PollerState =
-    record {
-      header = c.parent.inside.header;
-      reader = c.parent.inside.reader;
-      acknowledged = c.parent.inside.acknowledged;
-      applied =
-          c.parent.inside.applied;
-      floor = c.parent.inside.floor;
-      is_open = c.parent.inside.is_open;
-    } in
+    let p = seen c.self.inside in
+    let parent = seen c.parent.inside in
     let child : p.header.parent ≡ Some parent.header.id =
     subst (λ (q : PollerState). q.header.parent ≡ Some parent.header.id) (sym c.self.view_is)
     (subst (λ (q : PollerState). c.args.self.now.header.parent ≡ Some q.header.id) (sym c.parent.view_is) c.requires.parent) in

@@ -24,10 +24,15 @@ use Rattle.xc_poller.specs.Poller.{PollerState, position_of, confirmed, restarte
 use Rattle.xc_poller.specs.Polled.{CanPoll}
 use Rattle.xc_tablet.proofs.Zips.{zip-to}
 use Rattle.xc_change.specs.Reader.{FitsFeed as ReaderFits}
+use Rattle.xc_target.specs.declared.target.Target.TheInside.{Inside as TargetFields}
 use Rattle.xc_target.specs.Target.{TargetState, headers_of_pollers, FitsFeed}
 use Rattle.xc_target.specs.Stands.{IsAhead, WasAhead, AreKept, Polls, StandsForSession}
 use Rattle.xc_target.specs.Answers.{Made}
 use Rattle.xc_target.proofs.SessionLaws.{place-is, position-is}
+
+-- what contracts see of a target's fields
+abbrev pub seen : TargetFields → TargetState
+seen t = record { tablets = t.tablets.items; pollers = t.pollers.items; cutoff = t.retention; closed = t.closed }
 
 -- ---- lists
 
@@ -187,7 +192,7 @@ same-can headers counts p q x h a o c = record {
   started = λ is. ap (λ (w : Header). has_started x.floors w.id) h ∙ c.started (sym o ∙ is);
 }
 
-pub fits-put : (headers : List Header) (counts : List ℕ) (t : TargetState) (id : ℕ) (p q : PollerState) → slice_get t.pollers id ≡ Some p
+fits-put : (headers : List Header) (counts : List ℕ) (t : TargetState) (id : ℕ) (p q : PollerState) → slice_get t.pollers id ≡ Some p
     → q.header ≡ p.header → q.applied ≡ p.applied → q.is_open ≡ p.is_open
     → q.reader.id ≡ p.reader.id → (ReaderFits headers counts p.reader → ReaderFits headers counts q.reader) → FitsFeed headers counts t
     → FitsFeed headers counts (record t { pollers = slice_set t.pollers id q })
@@ -200,6 +205,16 @@ fits-put headers counts t id p q at h a o n r f = record {
       (λ x. Each (λ p. CanPoll headers counts p x) (slice_set t.pollers id q))
       (λ x w. each-put (λ p. CanPoll headers counts p x) t.pollers id p q at (same-can headers counts p q x h a o) w) t.tablets f.tablets;
 }
+
+-- a poller that went to another place of those that were looked at, or begins at another one again
+pub fits-placed : (headers : List Header) (counts : List ℕ) (t : TargetState) (id : ℕ) (p q : PollerState) (cursor acknowledged : ℕ)
+    → slice_get t.pollers id ≡ Some p
+    → q ≡ record p { reader = record p.reader { cursor = cursor }; acknowledged = acknowledged }
+    → (ReaderFits headers counts p.reader → ReaderFits headers counts q.reader) → FitsFeed headers counts t
+    → FitsFeed headers counts (record t { pollers = slice_set t.pollers id q })
+fits-placed headers counts t id p q cursor acknowledged at is =
+    fits-put headers counts t id p q at (ap (λ (p : PollerState). p.header) is) (ap (λ (p : PollerState). p.applied) is)
+    (ap (λ (p : PollerState). p.is_open) is) (ap (λ (p : PollerState). p.reader.id) is)
 
 -- what a tablet keeps of its floors and places
 can-kept : (headers : List Header) (counts : List ℕ) (p : PollerState) (x : TargetTablet) (vs : List KeyVersion) (hs : List KeyWaiting)

@@ -9,7 +9,7 @@ use Rattle.xc_model.specs.Stands.{restore}
 use Rattle.xc_target.specs.Target.{TargetState, least_open, FitsFeed}
 use Rattle.xc_target.specs.Stands.{StandsForSession}
 use Rattle.xc_target.proofs.SessionLaws.{safe-is}
-use Rattle.xc_target.proofs.MoveLaws.{is-closed, ranges-thin, length-thin, fits-thin, restore-thins}
+use Rattle.xc_target.proofs.MoveLaws.{seen, is-closed, ranges-thin, length-thin, fits-thin, restore-thins}
 use Rattle.xc_target.proofs.target.Target.failover.Goals as goal
 
 restored : (c : goal.After-self-2-1) → AllZip (λ x y. y ≡ restore c.least_open-t.result x) c.self.inside.tablets.items
@@ -30,14 +30,7 @@ invariant_of-self c = record {
 
 pub returns-clause-step : goal.returns-clause-step
 returns-clause-step c = λ logs m is st.
-    let t : TargetState =
-    record {
-      tablets = c.self.inside.tablets.items;
-      pollers = c.self.inside.pollers.items;
-      cutoff = c.self.inside.retention;
-      closed =
-          c.self.inside.closed;
-    } in
+    let t = seen c.self.inside in
     let safe : c.least_open-t.result ≡ safe_now logs m = c.least_open-t.ensures ∙ ap least_open c.deref.ensures.value
     ∙ ap (λ (t : TargetState). least_open t.pollers) c.self.view_is ∙ safe-is logs m c.args.self.now is st in
     is-closed logs m t is (subst (StandsForSession logs m) (sym c.self.view_is) st) c.in_default.is c.least_open-t.result
@@ -45,14 +38,7 @@ returns-clause-step c = λ logs m is st.
 
 pub returns-clause-fits : goal.returns-clause-fits
 returns-clause-fits c = λ headers counts f.
-    let t : TargetState =
-    record {
-      tablets = c.self.inside.tablets.items;
-      pollers = c.self.inside.pollers.items;
-      cutoff = c.self.inside.retention;
-      closed =
-          c.self.inside.closed;
-    } in
+    let t = seen c.self.inside in
     fits-thin headers counts t (λ x y. y ≡ restore c.least_open-t.result x) (restore-thins c.least_open-t.result)
     (with_items c.self.inside.tablets c.restore.new.tablets).items c.self.inside.retention (Some c.least_open-t.result) (restored c)
     (subst (FitsFeed headers counts) (sym c.self.view_is) f)

@@ -21,7 +21,7 @@ use Rattle.xc_target.specs.Target.{TargetState, headers_of_pollers, FitsFeed, Op
 use Rattle.xc_target.specs.Stands.{StandsForSession}
 use Rattle.xc_target.specs.Answers.{IsPolled, MovesOn}
 use Rattle.xc_target.proofs.CursorLaws.{moves-there, opened-there}
-use Rattle.xc_target.proofs.MoveLaws.{get-set-here}
+use Rattle.xc_target.proofs.MoveLaws.{seen, get-set-here}
 use Rattle.xc_target.proofs.PollFacts.{polled-ended}
 use Rattle.xc_target.proofs.PollSteps.{Called, make-called, put_in, with_pollers, told, told-is, told-ok, length-called, same-ranges}
 use Rattle.xc_target.proofs.PollSteps.{ranges-called}
@@ -32,12 +32,7 @@ use Rattle.xc_target.proofs.target.Target.poll.Goals as goal
 use Rattle.xc_target.proofs.target.Target.poll.Goals.{After-poll-polled}
 
 abbrev before : (g : Over) → After-poll-polled g → TargetState
-before g c = record {
-  tablets = c.self.inside.tablets.items;
-  pollers = c.self.inside.pollers.items;
-  cutoff = c.self.inside.retention;
-  closed = c.self.inside.closed;
-}
+before g c = seen c.self.inside
 
 called : (g : Over) (c : After-poll-polled g)
     → Called (g.F.Feed.headers c.args.feed.now) (g.F.Feed.counts c.args.feed.now) (g.F.Feed.logs c.args.feed.now) c.args.n c.args.id

@@ -11,7 +11,7 @@ use Rattle.xc_retain.specs.declared.retention.Ahead.{Ahead}
 use Rattle.xc_target.specs.Target.{TargetState, least_open, FitsFeed}
 use Rattle.xc_target.specs.Stands.{StandsForSession}
 use Rattle.xc_target.proofs.SessionLaws.{safe-is}
-use Rattle.xc_target.proofs.MoveLaws.{Thins, ranges-thin, length-thin, fits-thin}
+use Rattle.xc_target.proofs.MoveLaws.{seen, Thins, ranges-thin, length-thin, fits-thin}
 use Rattle.xc_target.proofs.PruneLaws.{thinned, same-thins, pruned-at, refused-as}
 use Rattle.xc_target.proofs.target.Target.prune.Goals as goal
 use Rattle.xc_target.proofs.target.Target.prune.Goals.{in-Ok, in-Err}
@@ -42,14 +42,7 @@ invariant_of-self c = record {
 
 pub returns-clause-step : goal.returns-clause-step
 returns-clause-step c = λ logs m is st.
-    let t : TargetState =
-    record {
-      tablets = c.self.inside.tablets.items;
-      pollers = c.self.inside.pollers.items;
-      cutoff = c.self.inside.retention;
-      closed =
-          c.self.inside.closed;
-    } in
+    let t = seen c.self.inside in
     let safe : c.least_open-safe.result ≡ safe_now logs m = c.least_open-safe.ensures ∙ ap least_open c.deref.ensures.value
     ∙ ap (λ (t : TargetState). least_open t.pollers) c.self.view_is ∙ safe-is logs m c.args.self.now is st in
     let stands = subst (StandsForSession logs m) (sym c.self.view_is) st in
@@ -63,14 +56,7 @@ returns-clause-step c = λ logs m is st.
 
 pub returns-clause-fits : goal.returns-clause-fits
 returns-clause-fits c = λ headers counts f.
-    let t : TargetState =
-    record {
-      tablets = c.self.inside.tablets.items;
-      pollers = c.self.inside.pollers.items;
-      cutoff = c.self.inside.retention;
-      closed =
-          c.self.inside.closed;
-    } in
+    let t = seen c.self.inside in
     fits-thin headers counts t Thins same-thins (after c) c.prune.new.self c.self.inside.closed (thin c)
     (subst (FitsFeed headers counts) (sym c.self.view_is) f)
 

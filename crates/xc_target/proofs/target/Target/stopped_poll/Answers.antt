@@ -11,6 +11,7 @@ use Rattle.xc_target.specs.Target.{TargetState, FitsFeed}
 use Rattle.xc_target.specs.Stands.{StandsForSession}
 use Rattle.xc_poller.specs.Polled.{IsStopped as PollerStopped}
 use Rattle.xc_target.specs.Answers.{IsStopped, GaveFirst}
+use Rattle.xc_target.proofs.MoveLaws.{seen}
 use Rattle.xc_target.proofs.PollFacts.{stopped-ended}
 use Rattle.xc_target.proofs.PollSteps.{Called, make-called, put_in, told, told-is, length-called, same-ranges, ranges-called, fits-called}
 use Rattle.xc_target.proofs.PollSteps.{fits-now, stopped-step, gave-first}
@@ -19,12 +20,7 @@ use Rattle.xc_target.proofs.target.Target.stopped_poll.Goals as goal
 use Rattle.xc_target.proofs.target.Target.stopped_poll.Goals.{After-stopped_poll-stopped}
 
 abbrev before : (g : Over) → After-stopped_poll-stopped g → TargetState
-before g c = record {
-  tablets = c.self.inside.tablets.items;
-  pollers = c.self.inside.pollers.items;
-  cutoff = c.self.inside.retention;
-  closed = c.self.inside.closed;
-}
+before g c = seen c.self.inside
 
 called : (g : Over) (c : After-stopped_poll-stopped g)
     → Called (g.F.Feed.headers c.args.feed.now) (g.F.Feed.counts c.args.feed.now) (g.F.Feed.logs c.args.feed.now) c.args.n c.args.id

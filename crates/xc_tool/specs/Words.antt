@@ -8,7 +8,7 @@ use Rattle.std.specs.Prelude.{None}
 use Rattle.std.specs.Prelude.{option_and_then}
 use Rattle.std.specs.Str.{bytes_eq}
 use Rattle.xc_base.specs.Words.{number_of}
-use Rattle.xc_tool.specs.declared.words.TheConstants.{MOST_STEPS}
+use Rattle.xc_source.specs.declared.workload.TheConstants.{MOST_STEPS}
 use Rattle.xc_tool.specs.declared.words.Form.{Form}
 use Rattle.xc_tool.specs.declared.words.Form.TheVariants.{Audit, Gen, Make, Replay, Upgrade}
 

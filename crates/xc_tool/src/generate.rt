@@ -15,7 +15,7 @@ ghost use Rattle.xc_tool.specs.Answers.{row_line};
 ghost use Rattle.xc_tool.specs.AuditLines.{line_of_words};
 ghost use Rattle.xc_tool.specs.Generated.{digest, made_words, shown_words, summary_line, summary_of};
 ghost use Rattle.xc_tool.specs.Outcome.{gen_output};
-ghost use Rattle.xc_tool.specs.declared.words.TheConstants.{MOST_STEPS};
+ghost use Rattle.xc_source.specs.declared.workload.TheConstants.{MOST_STEPS};
 
 use crate::answer::print_rows;
 use std::alloc::{AllocError, Global};

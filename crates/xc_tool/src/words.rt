@@ -3,9 +3,7 @@ ghost use Rattle.std.specs.Prelude.{◌≡◌, IfSome, map, string_bytes};
 ghost use Rattle.xc_tool.specs.Words.{form_of, is_name, number_from, workload_of, FormFits};
 
 use xc_base::read_number;
-
-// The most steps of a generated workload.
-pub(crate) const MOST_STEPS: u64 = 100_000;
+use xc_source::MOST_STEPS;
 
 /// A command of the command line.
 #[derive(Clone, Copy, Debug, PartialEq, Eq)]

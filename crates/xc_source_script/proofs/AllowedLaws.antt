@@ -1,7 +1,7 @@
 -- What the lines give may be said: each line keeps it.
-use Rattle.std.proofs.Common.{◌≡◌, ℕ, ◌+◌, ◌^◌, ◌<◌, ◌≤◌, Bool, true, false, ◌&&◌, ◌==◌, not, nat_le, nat_lt, List, []}
-use Rattle.std.proofs.Common.{◌∷◌, ◌++◌, length, Option, Some, None, Result, Ok, Err, refl, sym, ap, subst, ◌∙◌, append_assoc, arith}
-use Rattle.std.specs.Prelude.{if◌then◌else◌, is_none, ⊤}
+use Rattle.std.proofs.Common.{◌≡◌, ℕ, ◌+◌, ◌^◌, ◌<◌, ◌≤◌, true, false, ◌&&◌, ◌==◌, not, nat_le, nat_lt, List, []}
+use Rattle.std.proofs.Common.{◌∷◌, ◌++◌, length, Option, Some, None, Ok, refl, sym, ap, subst, ◌∙◌, append_assoc, arith}
+use Rattle.std.specs.Prelude.{is_none}
 use Rattle.std.specs.List.{list_all}
 use Rattle.std.specs.Option.{option_map_or}
 use Rattle.std.proofs.lemmas.Bool.{true≢false, and_parts, and_from}
@@ -12,19 +12,18 @@ use Rattle.xc_record.specs.Headers.{fit_from, headers_fit, are_headers}
 use Rattle.xc_record.specs.declared.record.Header.{Header}
 use Rattle.xc_record.specs.declared.headers.Next.TheVariants.{RootAt}
 use Rattle.xc_script.proofs.AllowedLaws.{none_is, is_below, or_none, is_true}
+use Rattle.xc_script.proofs.LineTextLaws.{AllFalse, lines_found, ok_is, passed}
 use Rattle.xc_script.proofs.ReadBack.{all_with, lt_is}
 use Rattle.xc_source.specs.declared.command.SourceCommand.{SourceCommand}
 use Rattle.xc_text.specs.declared.line.Version.{Version}
 use Rattle.xc_text.specs.Lines.{header_numbers_fit}
-use Rattle.xc_source_script.specs.declared.kind.SourceKind.{SourceKind}
 use Rattle.xc_source_script.specs.declared.reading.Reading.{Reading}
 use Rattle.xc_source_script.specs.declared.reading.Stage.{Stage}
 use Rattle.xc_source_script.specs.declared.reading.Stage.TheVariants as stage
 use Rattle.xc_source_script.specs.declared.script.SourceScript.{SourceScript}
-use Rattle.xc_source_script.specs.Kinds.{first_kind}
 use Rattle.xc_source_script.specs.Words.{SourceLine, First, Start, Root, Ask, End, is_moment, numbers_fit, names_fit, line_of}
-use Rattle.xc_source_script.specs.SourceText.{BadLine, begun, breaks_roots, commands_began, ending, follows, go_on, is_root, kinds}
-use Rattle.xc_source_script.specs.SourceText.{lines_from, misplaced, moved, rest_of_text, source_of, step, step_by, unless_bad}
+use Rattle.xc_source_script.specs.SourceText.{begun, breaks_roots, commands_began, ending, follows, is_root, kinds}
+use Rattle.xc_source_script.specs.SourceText.{misplaced, moved, rules, source_of, step, step_by}
 use Rattle.xc_source_script.specs.Allowed.{is_allowed, IsSourceScript}
 
 -- ---- roots
@@ -112,20 +111,6 @@ pub record Passes (s : Reading) (l : SourceLine) : Type 0 where
   pub roots : breaks_roots s l ≡ false
   pub few : nat_le 65536 s.lines ≡ false
 
-pub AllFalse : List (Bool × SourceKind) → Type 0
-AllFalse [] = ⊤
-AllFalse (row ∷ rows) = (row.0 ≡ false) × AllFalse rows
-
-pub passed : (rows : List (Bool × SourceKind)) (m after : Reading) → unless_bad (first_kind rows) m ≡ Ok after → AllFalse rows × (m ≡ after)
-unfolding AllFalse
-passed [] m after e = (tt, cc)
-passed (row ∷ rows) m after e = by row.0 refl e (λ e. passed rows m after e)
-  where
-    by : (b : Bool) → row.0 ≡ b → unless_bad (if b then Some row.1 else first_kind rows) m ≡ Ok after
-        → (unless_bad (first_kind rows) m ≡ Ok after → AllFalse rows × (m ≡ after)) → ((row.0 ≡ false) × AllFalse rows) × (m ≡ after)
-    by true is e more = cc
-    by false is e more = let rest = more e in ((is, rest.0), rest.1)
-
 pub passes : (s : Reading) (l : SourceLine) → AllFalse (kinds s l) → Passes s l
 unfolding AllFalse
 passes s l all =
@@ -136,10 +121,7 @@ passes s l all =
 from_first : (s : Reading) (v : Version) (st : Stage) → misplaced st (First v) ≡ false → Shape st s → IsEmpty 1 (moved s (First v))
 from_first s v stage.First p shape =
     record { roots = shape.roots; commands = shape.commands; covered = shape.covered; lines = ap (λ n. n + 1) shape.lines }
-from_first s v stage.Start p shape = absurd (true≢false p)
-from_first s v stage.Roots p shape = absurd (true≢false p)
-from_first s v stage.Commands p shape = absurd (true≢false p)
-from_first s v stage.Ended p shape = absurd (true≢false p)
+from_first s v st p shape = absurd (true≢false p)
 
 from_start : (s : Reading) (time : ℕ) (st : Stage) → misplaced st (Start time) ≡ false → is_moment time ≡ true → Shape st s
     → IsRooted (moved s (Start time))
@@ -159,10 +141,7 @@ from_start s time stage.Start p fit shape =
       };
       commands = none;
     }
-from_start s time stage.First p fit shape = absurd (true≢false p)
-from_start s time stage.Roots p fit shape = absurd (true≢false p)
-from_start s time stage.Commands p fit shape = absurd (true≢false p)
-from_start s time stage.Ended p fit shape = absurd (true≢false p)
+from_start s time st p fit shape = absurd (true≢false p)
 
 one_longer : {X : Type 0} (xs : List X) (x : X) → length (xs ++ x ∷ []) ≡ length xs + 1
 one_longer xs x = length-append xs (x ∷ [])
@@ -199,23 +178,17 @@ from_root s h stage.Roots is p fit shape =
 from_root s h stage.Commands is p fit shape =
     let parts = or_none (commands_began s.stage) (not (follows s.script.roots s.covered h)) fit.roots in
     absurd (true≢false (ap commands_began (sym is) ∙ parts.0))
-from_root s h stage.First is p fit shape = absurd (true≢false p)
-from_root s h stage.Start is p fit shape = absurd (true≢false p)
-from_root s h stage.Ended is p fit shape = absurd (true≢false p)
+from_root s h st is p fit shape = absurd (true≢false p)
 
 inner_inside : (s : Reading) (c : SourceCommand) (st : Stage) → misplaced st (Ask c) ≡ false → Shape st s → IsInside s
 inner_inside s c stage.Roots p shape = shape.inside
 inner_inside s c stage.Commands p shape = shape
-inner_inside s c stage.First p shape = absurd (true≢false p)
-inner_inside s c stage.Start p shape = absurd (true≢false p)
-inner_inside s c stage.Ended p shape = absurd (true≢false p)
+inner_inside s c st p shape = absurd (true≢false p)
 
 end_inside : (s : Reading) (st : Stage) → misplaced st End ≡ false → Shape st s → IsInside s
 end_inside s stage.Roots p shape = shape.inside
 end_inside s stage.Commands p shape = shape
-end_inside s stage.First p shape = absurd (true≢false p)
-end_inside s stage.Start p shape = absurd (true≢false p)
-end_inside s stage.Ended p shape = absurd (true≢false p)
+end_inside s st p shape = absurd (true≢false p)
 
 from_ask : (s : Reading) (c : SourceCommand) → Passes s (Ask c) → IsInside s → IsInside (moved s (Ask c))
 from_ask s c fit inside = record {
@@ -258,33 +231,14 @@ step_keeps s bytes after is e = step_cases s (line_of s.version (split_on 32 byt
 
 -- ---- the whole text
 
-ok_is : (a b : SourceScript) → (let whole : Result SourceScript BadLine = Ok a in whole) ≡ Ok b → a ≡ b
-ok_is a b e = cc
-
 ending_allowed : (s : Reading) (st : Stage) (script : SourceScript) → Shape st s → ending st s ≡ Ok script → IsSourceScript script
 ending_allowed s stage.Ended script shape e = subst IsSourceScript (ok_is s.script script e) shape
-ending_allowed s stage.First script shape e = cc
-ending_allowed s stage.Start script shape e = cc
-ending_allowed s stage.Roots script shape e = cc
-ending_allowed s stage.Commands script shape e = cc
-
-rest_allowed : (s : Reading) (rest : List ℕ) (script : SourceScript) → IsReading s → rest_of_text s rest ≡ Ok script → IsSourceScript script
-rest_allowed s [] script is e = ending_allowed s s.stage script is.shape e
-rest_allowed s (byte ∷ rest) script is e = cc
-
-lines_allowed : (s : Reading) (pieces : List (List ℕ)) (script : SourceScript) → IsReading s → lines_from s pieces ≡ Ok script
-    → IsSourceScript script
-lines_allowed s [] script is e = ending_allowed s s.stage script is.shape e
-lines_allowed s (piece ∷ []) script is e = rest_allowed s piece script is e
-lines_allowed s (piece ∷ (next ∷ pieces)) script is e = by (step s piece) refl e
-    (λ after is e. lines_allowed after (next ∷ pieces) script is e)
-  where
-    by : (r : Result Reading SourceKind) → step s piece ≡ r → go_on s r (λ after. lines_from after (next ∷ pieces)) ≡ Ok script
-        → ((after : Reading) → IsReading after → lines_from after (next ∷ pieces) ≡ Ok script → IsSourceScript script)
-        → IsSourceScript script
-    by (Ok after) is_step e on = on after (step_keeps s piece after is is_step) e
-    by (Err k) is_step e on = cc
+ending_allowed s st script shape e = cc
 
 pub script_allowed : (text : List ℕ) (script : SourceScript) → source_of text ≡ Ok script → IsSourceScript script
 unfolding source_of
-script_allowed text script e = lines_allowed begun (split_on 10 text) script begun_is e
+script_allowed text script e =
+    (lines_found rules (λ s before. IsReading s) (λ script words. IsSourceScript script)
+    (λ s after before bytes kept is. step_keeps s bytes after kept is)
+    (λ s before script kept is. ending_allowed s s.stage script kept.shape is)
+    begun [] (split_on 10 text) script begun_is e).spelled

@@ -1,7 +1,6 @@
 pub mod WordLists
 pub mod StepLaws
 pub mod AllowedLaws
-pub mod RunLaws
 pub mod SpelledWords
 pub mod SpelledRun
 pub mod ReadBack

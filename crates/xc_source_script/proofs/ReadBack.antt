@@ -1,8 +1,8 @@
 -- A text that is read as a source script spells it.
 use Rattle.std.proofs.Common.{◌≡◌, ℕ, ◌^◌, ◌<◌, ◌≤◌, Bool, true, false, ◌&&◌, nat_le, nat_lt, List, [], ◌∷◌, ◌++◌, map, Option, Some}
-use Rattle.std.proofs.Common.{None, Result, Ok, Err, option_map, refl, sym, ap, subst, ◌∙◌, append_assoc, codes, decimal, arith}
+use Rattle.std.proofs.Common.{None, Ok, option_map, refl, sym, ap, subst, ◌∙◌, append_assoc, codes, decimal, arith}
 use Rattle.std.specs.Prelude.{flat_map, if◌then◌else◌, bytes_eq}
-use Rattle.std.specs.List.{list_all, join_with_byte}
+use Rattle.std.specs.List.{list_all}
 use Rattle.std.proofs.lemmas.Bool.{true≢false, and_parts}
 use Rattle.std.proofs.lemmas.Bool.Decides.{nat_tests}
 use Rattle.std.proofs.lemmas.List.{append-nil}
@@ -13,7 +13,7 @@ use Rattle.xc_record.specs.declared.record.Header.{Header}
 use Rattle.xc_record.specs.declared.record.Op.{Op}
 use Rattle.xc_script.proofs.ReadBack.{chosen, some_same, From, made, word_of, lt_is, pair_same, triple_same, cons_same, mapped_back}
 use Rattle.xc_script.proofs.ReadBack.{all_with}
-use Rattle.xc_script.proofs.ReadBack.{lines_more, line_of_bytes}
+use Rattle.xc_script.proofs.LineTextLaws.{lines_found, ok_is, passed}
 use Rattle.xc_script.proofs.StepLaws.{is_text}
 use Rattle.xc_script.specs.Spelled.{words_line}
 use Rattle.xc_script.specs.Words.{is_word}
@@ -23,7 +23,6 @@ use Rattle.xc_text.proofs.ReadWords.{IsOp, op_is_word}
 use Rattle.xc_text.specs.Lines.{◌>>=◌, op_of, header_numbers_fit}
 use Rattle.xc_text.specs.declared.line.Version.{Version}
 use Rattle.xc_text.specs.declared.line.Version.TheVariants.{One, Two}
-use Rattle.xc_source_script.specs.declared.kind.SourceKind.{SourceKind}
 use Rattle.xc_source_script.specs.declared.reading.Reading.{Reading}
 use Rattle.xc_source_script.specs.declared.reading.Stage.{Stage}
 use Rattle.xc_source_script.specs.declared.reading.Stage.TheVariants as stage
@@ -33,10 +32,10 @@ use Rattle.xc_source_script.specs.Words.{start_of}
 use Rattle.xc_source_script.specs.Words.{root_by, root_of, from_version_2, bare_of, with_one, with_two, write_of, pair_of, command_of}
 use Rattle.xc_source_script.specs.Words.{end_of}
 use Rattle.xc_source_script.specs.Words.{line_by, line_in, line_of, numbers_fit, names_fit, command_numbers_fit, command_names_fit}
-use Rattle.xc_source_script.specs.SourceText.{BadLine, begun, ending, go_on, kinds, lines_from, misplaced, moved}
-use Rattle.xc_source_script.specs.SourceText.{rest_of_text, root_breaks, source_of, step, step_by}
+use Rattle.xc_source_script.specs.SourceText.{begun, ending, kinds, misplaced, moved, rules}
+use Rattle.xc_source_script.specs.SourceText.{root_breaks, source_of, step, step_by}
 use Rattle.xc_source_script.specs.Spelled.{command_words, command_spelled, version_word, root_words, source_words, ReadIsSpelled}
-use Rattle.xc_source_script.proofs.AllowedLaws.{IsReading, Passes, Shape, begun_is, passed, passes, script_allowed, step_keeps}
+use Rattle.xc_source_script.proofs.AllowedLaws.{IsReading, Passes, Shape, begun_is, passes, script_allowed, step_keeps}
 
 -- ---- the words of a line
 
@@ -380,25 +379,16 @@ record SoFar (s : Reading) (before : List (List (List ℕ))) : Type 0 where
 first_back : (s : Reading) (v : Version) (st : Stage) → misplaced st (First v) ≡ false
     → so_far st s ++ line_words s.version (First v) ∷ [] ≡ so_far stage.Start (moved s (First v))
 first_back s v stage.First p = refl
-first_back s v stage.Start p = absurd (true≢false p)
-first_back s v stage.Roots p = absurd (true≢false p)
-first_back s v stage.Commands p = absurd (true≢false p)
-first_back s v stage.Ended p = absurd (true≢false p)
+first_back s v st p = absurd (true≢false p)
 
 first_empty : (s : Reading) (v : Version) (st : Stage) → misplaced st (First v) ≡ false → Shape st s → s.script.commands ≡ []
 first_empty s v stage.First p shape = shape.commands
-first_empty s v stage.Start p shape = absurd (true≢false p)
-first_empty s v stage.Roots p shape = absurd (true≢false p)
-first_empty s v stage.Commands p shape = absurd (true≢false p)
-first_empty s v stage.Ended p shape = absurd (true≢false p)
+first_empty s v st p shape = absurd (true≢false p)
 
 begin_back : (s : Reading) (time : ℕ) (st : Stage) → misplaced st (Start time) ≡ false → Shape st s
     → so_far st s ++ line_words s.version (Start time) ∷ [] ≡ so_far stage.Roots (moved s (Start time))
 begin_back s time stage.Start p shape = rw (shape.roots, shape.commands) refl
-begin_back s time stage.First p shape = absurd (true≢false p)
-begin_back s time stage.Roots p shape = absurd (true≢false p)
-begin_back s time stage.Commands p shape = absurd (true≢false p)
-begin_back s time stage.Ended p shape = absurd (true≢false p)
+begin_back s time st p shape = absurd (true≢false p)
 
 abbrev first_two : Reading → List (List (List ℕ)) → List (List (List ℕ))
 first_two s lines = (codes "xcsource" ∷ version_word s.version ∷ []) ∷ (codes "start" ∷ decimal s.script.start ∷ []) ∷ lines
@@ -416,9 +406,7 @@ root_line : (s : Reading) (h : Header) (st : Stage) → s.stage ≡ st → mispl
 root_line s h stage.Roots is p breaks shape = root_head s h shape.commands
 root_line s h stage.Commands is p breaks shape =
     let began : root_breaks s h ≡ true = rw is refl in absurd (true≢false (sym began ∙ breaks))
-root_line s h stage.First is p breaks shape = absurd (true≢false p)
-root_line s h stage.Start is p breaks shape = absurd (true≢false p)
-root_line s h stage.Ended is p breaks shape = absurd (true≢false p)
+root_line s h st is p breaks shape = absurd (true≢false p)
 
 ask_head : (s : Reading) (c : SourceCommand)
     → head_of s.version s.script ++ command_words s.version c ∷ [] ≡ so_far stage.Commands (moved s (Ask c))
@@ -432,9 +420,7 @@ ask_back : (s : Reading) (c : SourceCommand) (st : Stage) → misplaced st (Ask 
     → so_far st s ++ command_words s.version c ∷ [] ≡ so_far stage.Commands (moved s (Ask c))
 ask_back s c stage.Roots p = ask_head s c
 ask_back s c stage.Commands p = ask_head s c
-ask_back s c stage.First p = absurd (true≢false p)
-ask_back s c stage.Start p = absurd (true≢false p)
-ask_back s c stage.Ended p = absurd (true≢false p)
+ask_back s c st p = absurd (true≢false p)
 
 end_head : (s : Reading) → head_of s.version s.script ++ (codes "end" ∷ []) ∷ [] ≡ source_words s.version s.script
 end_head s = ap (first_two s) (append_assoc (map root_words s.script.roots) (map (command_words s.version) s.script.commands)
@@ -444,9 +430,7 @@ last_back : (s : Reading) (st : Stage) → misplaced st End ≡ false
     → so_far st s ++ (codes "end" ∷ []) ∷ [] ≡ so_far stage.Ended (moved s End)
 last_back s stage.Roots p = end_head s
 last_back s stage.Commands p = end_head s
-last_back s stage.First p = absurd (true≢false p)
-last_back s stage.Start p = absurd (true≢false p)
-last_back s stage.Ended p = absurd (true≢false p)
+last_back s st p = absurd (true≢false p)
 
 one_more : (s : Reading) (before : List (List (List ℕ))) (words : List (List ℕ)) (l : SourceLine) → SoFar s before
     → words ≡ line_words s.version l → before ++ words ∷ [] ≡ so_far s.stage s ++ line_words s.version l ∷ []
@@ -492,75 +476,32 @@ step_back s after before bytes is back e =
 
 -- ---- the whole text
 
-record Found (before : List (List (List ℕ))) (pieces : List (List ℕ)) (script : SourceScript) : Type 0 where
+-- the words are those of the script's lines
+record IsSpelled (script : SourceScript) (words : List (List (List ℕ))) : Type 0 where
   version : Version
-  lines : flat_map words_line before ++ join_with_byte 10 pieces ≡ flat_map words_line (source_words version script)
+  lines : words ≡ source_words version script
   spelled : list_all (command_spelled version) script.commands ≡ true
 
-ok_same : (a b : SourceScript) → (let r : Result SourceScript BadLine = Ok a in r) ≡ Ok b → a ≡ b
-ok_same a b e = cc
-
 ended_back : (s : Reading) (before : List (List (List ℕ))) (script : SourceScript) (st : Stage) → s.stage ≡ st → SoFar s before
-    → ending st s ≡ Ok script
-    → Found before [] script
+    → ending st s ≡ Ok script → IsSpelled script before
 ended_back s before script stage.Ended is back e =
-    subst (Found before []) (ok_same s.script script e) (record {
-      version = s.version;
-      lines = append-nil (flat_map words_line before) ∙ ap (flat_map words_line) (back.lines ∙ ap (λ st. so_far st s) is);
-      spelled = back.spelled;
-    })
-ended_back s before script stage.First is back e = cc
-ended_back s before script stage.Start is back e = cc
-ended_back s before script stage.Roots is back e = cc
-ended_back s before script stage.Commands is back e = cc
+    subst (λ script. IsSpelled script before) (ok_is s.script script e)
+    (record { version = s.version; lines = back.lines ∙ ap (λ st. so_far st s) is; spelled = back.spelled })
+ended_back s before script st is back e = cc
 
-no_rest : (before : List (List (List ℕ))) (script : SourceScript) → Found before [] script → Found before ([] ∷ []) script
-no_rest before script found = record { version = found.version; lines = found.lines; spelled = found.spelled }
-
-rest_back : (s : Reading) (before : List (List (List ℕ))) (script : SourceScript) (rest : List ℕ) → SoFar s before
-    → rest_of_text s rest ≡ Ok script
-    → Found before (rest ∷ []) script
-rest_back s before script [] back e = no_rest before script (ended_back s before script s.stage refl back e)
-rest_back s before script (byte ∷ rest) back e = cc
-
-with_line : (before : List (List (List ℕ))) (piece next : List ℕ) (pieces : List (List ℕ)) (script : SourceScript)
-    → Found (before ++ split_on 32 piece ∷ []) (next ∷ pieces) script → Found before (piece ∷ (next ∷ pieces)) script
-with_line before piece next pieces script found = record {
-  version = found.version;
-  lines =
-      let rest = join_with_byte 10 (next ∷ pieces) in
-      ap (λ l. flat_map words_line before ++ l) (sym (line_of_bytes piece rest))
-      ∙ sym (append_assoc (flat_map words_line before) (words_line (split_on 32 piece)) rest)
-      ∙ ap (λ l. l ++ rest) (sym (lines_more before (split_on 32 piece)))
-      ∙ found.lines;
-  spelled = found.spelled;
-}
-
-lines_found : (s : Reading) (before : List (List (List ℕ))) (pieces : List (List ℕ)) (script : SourceScript) → IsReading s → SoFar s before
-    → lines_from s pieces ≡ Ok script
-    → Found before pieces script
-lines_found s before [] script is back e = ended_back s before script s.stage refl back e
-lines_found s before (piece ∷ []) script is back e = rest_back s before script piece back e
-lines_found s before (piece ∷ (next ∷ pieces)) script is back e =
-    by (step s piece) refl e (λ after before is back e. lines_found after before (next ∷ pieces) script is back e)
-  where
-    by : (r : Result Reading SourceKind) → step s piece ≡ r → go_on s r (λ after. lines_from after (next ∷ pieces)) ≡ Ok script
-        → ((after : Reading) (before : List (List (List ℕ))) → IsReading after → SoFar after before
-        → lines_from after (next ∷ pieces) ≡ Ok script
-        → Found before (next ∷ pieces) script) → Found before (piece ∷ (next ∷ pieces)) script
-    by (Ok after) is_step e on =
-        with_line before piece next pieces script
-        (on after (before ++ split_on 32 piece ∷ []) (step_keeps s piece after is is_step)
-        (step_back s after before piece is back is_step) e)
-    by (Err k) is_step e on = cc
+abbrev Reached : Reading → List (List (List ℕ)) → Type 0
+Reached s before = IsReading s × SoFar s before
 
 pub read_is_spelled : ReadIsSpelled
 unfolding source_of
 read_is_spelled text script e =
-    let found = lines_found begun [] (split_on 10 text) script begun_is (record { lines = refl; spelled = refl }) e in
+    let found = lines_found rules Reached IsSpelled
+    (λ s after before bytes at is. (step_keeps s bytes after at.0 is, step_back s after before bytes at.0 at.1 is))
+    (λ s before script at is. ended_back s before script s.stage refl at.1 is)
+    begun [] (split_on 10 text) script (begun_is, record { lines = refl; spelled = refl }) e in
     record {
       allowed = script_allowed text script e;
-      version = found.version;
-      lines = sym (join-split_on 10 text) ∙ found.lines;
-      spelled = found.spelled;
+      version = found.spelled.version;
+      lines = sym (join-split_on 10 text) ∙ found.lines ∙ ap (flat_map words_line) found.spelled.lines;
+      spelled = found.spelled.spelled;
     }

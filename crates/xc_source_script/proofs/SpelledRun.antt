@@ -1,6 +1,6 @@
 -- A text that spells a source script is read as that script.
 use Rattle.std.proofs.Common.{◌≡◌, ℕ, ◌+◌, ◌^◌, ◌<◌, ◌≤◌, true, false, not, nat_le, List, [], ◌∷◌, ◌++◌, length}
-use Rattle.std.proofs.Common.{map, Some, None, Result, Ok, refl, sym, ap, ◌∙◌, append_assoc, codes, decimal, arith}
+use Rattle.std.proofs.Common.{map, Some, None, Ok, refl, sym, ap, ◌∙◌, append_assoc, codes, decimal, arith}
 use Rattle.std.specs.List.{list_all, join_with_byte}
 use Rattle.std.proofs.lemmas.Bool.{false≢true, and_parts, and_from}
 use Rattle.std.proofs.lemmas.Bool.Decides.{nat_tests}
@@ -10,6 +10,8 @@ use Rattle.xc_base.specs.Words.{split_on}
 use Rattle.xc_record.specs.Headers.{are_headers, fit_from, headers_fit}
 use Rattle.xc_record.specs.declared.record.Header.{Header}
 use Rattle.xc_record.specs.declared.headers.Next.TheVariants.{RootAt}
+use Rattle.xc_script.specs.LineText.{lines_from}
+use Rattle.xc_script.proofs.LineTextLaws.{ok_is, taken}
 use Rattle.xc_script.proofs.SpelledWords.{above, bodies, decimal_is, is_lt, lines_back, words_back}
 use Rattle.xc_source.specs.declared.command.SourceCommand.{SourceCommand}
 use Rattle.xc_text.specs.declared.line.Version.{Version}
@@ -19,12 +21,11 @@ use Rattle.xc_source_script.specs.declared.reading.Stage.{Stage}
 use Rattle.xc_source_script.specs.declared.reading.Stage.TheVariants as stage
 use Rattle.xc_source_script.specs.declared.script.SourceScript.{SourceScript}
 use Rattle.xc_source_script.specs.Words.{SourceLine, First, Start, Root, Ask, End, command_numbers_fit, command_names_fit, line_of}
-use Rattle.xc_source_script.specs.SourceText.{BadLine, asked, begun, commands_began, go_on, is_inner, is_root, is_whole, lines_from}
-use Rattle.xc_source_script.specs.SourceText.{misplaced, moved, root_breaks, rooted, source_of, step, step_by}
+use Rattle.xc_source_script.specs.SourceText.{asked, begun, commands_began, is_inner, is_root, is_whole}
+use Rattle.xc_source_script.specs.SourceText.{misplaced, moved, root_breaks, rooted, rules, source_of, step, step_by}
 use Rattle.xc_source_script.specs.Allowed.{is_allowed, IsSourceScript}
 use Rattle.xc_source_script.specs.Spelled.{command_words, command_spelled, root_words, source_words, version_word, SpelledIsRead, SpellsOne}
 use Rattle.xc_source_script.proofs.AllowedLaws.{IsNext, Passes}
-use Rattle.xc_source_script.proofs.RunLaws.{one_line}
 use Rattle.xc_source_script.proofs.StepLaws.{place_ask}
 use Rattle.xc_source_script.proofs.SpelledWords.{command_said, first_is, follows_is, root_numbers, root_said, within_hashes}
 
@@ -43,12 +44,6 @@ step_is s word words l clear is p =
 below_limit : (n : ℕ) → n + 1 ≤ 65536 → nat_le 65536 n ≡ false
 below_limit n h = grind (arith, nat_tests)
 
--- a line is taken, and the others follow
-taken : (s after : Reading) (piece : List ℕ) (later : List (List ℕ)) (whole : Result SourceScript BadLine) → step s piece ≡ Ok after
-    → lines_from after (later ++ [] ∷ []) ≡ whole → lines_from s (piece ∷ (later ++ [] ∷ [])) ≡ whole
-taken s after piece later whole is on = one_line s piece later [] ∙ ap (λ r. go_on s r (λ after. lines_from after (later ++ [] ∷ []))) is
-    ∙ on
-
 -- ---- commands
 
 -- what is left to say fits behind what is read
@@ -60,11 +55,9 @@ record Left (s : Reading) (cs : List SourceCommand) : Type 0 where
   lines : s.lines + length cs + 1 ≤ 65536
 
 place_end : (st : Stage) → is_inner st ≡ true → misplaced st End ≡ false
-place_end stage.First h = absurd (false≢true h)
-place_end stage.Start h = absurd (false≢true h)
 place_end stage.Roots h = refl
 place_end stage.Commands h = refl
-place_end stage.Ended h = absurd (false≢true h)
+place_end st h = absurd (false≢true h)
 
 end_line : (v : Version) → line_of v (codes "end" ∷ []) ≡ Some End
 unfolding line_of
@@ -113,7 +106,7 @@ abbrev tail_of : Version → List SourceCommand → List (List (List ℕ))
 tail_of v cs = map (command_words v) cs ++ (codes "end" ∷ []) ∷ []
 
 commands_run : (s : Reading) (cs : List SourceCommand) → Left s cs
-    → lines_from s (bodies (tail_of s.version cs) ++ [] ∷ []) ≡ Ok (with_commands s.script (s.script.commands ++ cs))
+    → lines_from rules s (bodies (tail_of s.version cs) ++ [] ∷ []) ≡ Ok (with_commands s.script (s.script.commands ++ cs))
 commands_run s [] left =
     let lines = left.lines in
     let passes : Passes s End = record {
@@ -123,12 +116,12 @@ commands_run s [] left =
       roots = ap not left.whole;
       few = below_limit s.lines (omega (arith, lines));
     } in
-    taken s (moved s End) (codes "end") [] _ (step_is s (codes "end") [] End refl (end_line s.version) passes)
-    (ap (λ cs. Ok (with_commands s.script cs)) (sym (append-nil s.script.commands)))
+    taken rules s (moved s End) (codes "end") [] [] (step_is s (codes "end") [] End refl (end_line s.version) passes)
+    ∙ ap (λ cs. Ok (with_commands s.script cs)) (sym (append-nil s.script.commands))
 commands_run s (c ∷ cs) left =
-    taken s (asked s c) (join_with_byte 32 (command_words s.version c)) (bodies (tail_of s.version cs)) _ (command_step s c cs left)
-    (commands_run (asked s c) cs (left_next s c cs left)
-    ∙ ap (λ cs. Ok (with_commands s.script cs)) (append_assoc s.script.commands (c ∷ []) cs))
+    taken rules s (asked s c) (join_with_byte 32 (command_words s.version c)) (bodies (tail_of s.version cs)) [] (command_step s c cs left)
+    ∙ commands_run (asked s c) cs (left_next s c cs left)
+    ∙ ap (λ cs. Ok (with_commands s.script cs)) (append_assoc s.script.commands (c ∷ []) cs)
 
 commands_above : (v : Version) (cs : List SourceCommand) → list_all is_allowed cs ≡ true → list_all (command_spelled v) cs ≡ true
     → list_all (list_all above) (map (command_words v) cs) ≡ true
@@ -195,7 +188,7 @@ root_step s h hs cs left =
     }
 
 roots_run : (s : Reading) (hs : List Header) (cs : List SourceCommand) → LeftRoots s hs cs
-    → lines_from s (bodies (map root_words hs ++ tail_of s.version cs) ++ [] ∷ [])
+    → lines_from rules s (bodies (map root_words hs ++ tail_of s.version cs) ++ [] ∷ [])
     ≡ Ok (with_both s.script (s.script.roots ++ hs) (s.script.commands ++ cs))
 roots_run s [] cs left =
     let lines = left.lines in
@@ -208,9 +201,9 @@ roots_run s [] cs left =
     }) ∙ ap (λ hs. Ok (with_both s.script hs (s.script.commands ++ cs))) (sym (append-nil s.script.roots))
 roots_run s (h ∷ hs) cs left =
     let one = root_step s h hs cs left in
-    taken s (rooted s h) (join_with_byte 32 (root_words h)) (bodies (map root_words hs ++ tail_of s.version cs)) _ one.step
-    (roots_run (rooted s h) hs cs one.left
-    ∙ ap (λ hs. Ok (with_both s.script hs (s.script.commands ++ cs))) (append_assoc s.script.roots (h ∷ []) hs))
+    taken rules s (rooted s h) (join_with_byte 32 (root_words h)) (bodies (map root_words hs ++ tail_of s.version cs)) [] one.step
+    ∙ roots_run (rooted s h) hs cs one.left
+    ∙ ap (λ hs. Ok (with_both s.script hs (s.script.commands ++ cs))) (append_assoc s.script.roots (h ∷ []) hs)
 
 roots_above : (v : Version) (before : List Header) (covered : ℕ) (hs : List Header) → list_all is_root hs ≡ true
     → fit_from before (RootAt covered) hs ≡ true → length before + length hs ≤ 64 → list_all (list_all above) (map root_words hs) ≡ true
@@ -262,7 +255,7 @@ unfolding are_headers headers_fit
 roots_are hs h = let p = and_parts (nat_le (length hs) 64) (fit_from [] (RootAt 0) hs) h in record { few = few_le _ p.0; fit = p.1 }
 
 head_run : (v : Version) (script : SourceScript) → IsSourceScript script → list_all (command_spelled v) script.commands ≡ true
-    → lines_from begun (bodies (source_words v script) ++ [] ∷ []) ≡ Ok script
+    → lines_from rules begun (bodies (source_words v script) ++ [] ∷ []) ≡ Ok script
 head_run v script is spelled =
     let are = roots_are script.roots is.headers in
     let lines = is.lines in
@@ -270,14 +263,14 @@ head_run v script is spelled =
     let first : Passes begun (First v) = record { place = refl; numbers = refl; names = refl; roots = refl; few = refl } in
     let second : Passes (named v) (Start script.start) =
     record { place = refl; numbers = is_lt script.start (2 ^ 62) is.start; names = refl; roots = refl; few = refl } in
-    taken begun (named v) (join_with_byte 32 (codes "xcsource" ∷ version_word v ∷ []))
-    (bodies ((codes "start" ∷ decimal script.start ∷ []) ∷ (map root_words script.roots ++ tail_of v script.commands))) _
+    taken rules begun (named v) (join_with_byte 32 (codes "xcsource" ∷ version_word v ∷ []))
+    (bodies ((codes "start" ∷ decimal script.start ∷ []) ∷ (map root_words script.roots ++ tail_of v script.commands))) []
     (step_is begun (codes "xcsource") (version_word v ∷ []) (First v) (first_words v) (first_line v) first)
-    (taken (named v) (started v script.start) (join_with_byte 32 (codes "start" ∷ decimal script.start ∷ []))
-    (bodies (map root_words script.roots ++ tail_of v script.commands)) _
+    ∙ taken rules (named v) (started v script.start) (join_with_byte 32 (codes "start" ∷ decimal script.start ∷ []))
+    (bodies (map root_words script.roots ++ tail_of v script.commands)) []
     (step_is (named v) (codes "start") (decimal script.start ∷ []) (Start script.start) (start_above script.start is.start)
     (start_line v script.start is.start) second)
-    (roots_run (started v script.start) script.roots script.commands (record {
+    ∙ roots_run (started v script.start) script.roots script.commands (record {
       roots_may = refl;
       roots = is.roots;
       fit = are.fit;
@@ -285,7 +278,7 @@ head_run v script is spelled =
       allowed = is.commands;
       spelled = spelled;
       lines = omega (arith, lines);
-    })))
+    })
 
 source_above : (v : Version) (script : SourceScript) → IsSourceScript script → list_all (command_spelled v) script.commands ≡ true
     → list_all (list_all above) (source_words v script) ≡ true
@@ -303,14 +296,12 @@ source_above v script is spelled =
 pub spelled_is_read : SpelledIsRead
 unfolding source_of
 spelled_is_read text script spells =
-    ap (λ text. lines_from begun (split_on 10 text)) spells.lines
-    ∙ ap (lines_from begun) (lines_back (codes "xcsource" ∷ version_word spells.version ∷ [])
+    ap (λ text. lines_from rules begun (split_on 10 text)) spells.lines
+    ∙ ap (lines_from rules begun) (lines_back (codes "xcsource" ∷ version_word spells.version ∷ [])
     ((codes "start" ∷ decimal script.start ∷ []) ∷ (map root_words script.roots ++ tail_of spells.version script.commands))
     (source_above spells.version script spells.allowed spells.spelled))
     ∙ head_run spells.version script spells.allowed spells.spelled
 
-same_script : (a b : SourceScript) (whole : Result SourceScript BadLine) → whole ≡ Ok a → whole ≡ Ok b → a ≡ b
-same_script a b whole e f = cc
-
 pub spells_one : SpellsOne
-spells_one text script other one two = same_script script other _ (spelled_is_read text script one) (spelled_is_read text other two)
+spells_one text script other one two =
+    ok_is script other (sym (spelled_is_read text script one) ∙ spelled_is_read text other two)

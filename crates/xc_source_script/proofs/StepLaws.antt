@@ -1,42 +1,27 @@
 -- What a line gives, by what its words are read as.
-use Rattle.std.proofs.Common.{◌≡◌, ℕ, Bool, true, false, not, nat_le, List, [], ◌∷◌, Option, Some, None, Result, Ok, Err, option_map, refl}
+use Rattle.std.proofs.Common.{◌≡◌, ℕ, Bool, true, false, not, nat_le, List, [], ◌∷◌, Option, Some, None, Ok, Err, option_map, refl}
 use Rattle.std.proofs.Common.{sym, ap, ◌∙◌, codes}
 use Rattle.std.specs.Prelude.{if◌then◌else◌, bytes_eq}
-use Rattle.std.proofs.lemmas.Bool.{true≢false, false≢true}
+use Rattle.std.proofs.lemmas.Bool.{false≢true}
 use Rattle.std.proofs.lemmas.Slice.Eq.{bytes_eq-Decides}
 use Rattle.xc_record.specs.declared.record.Header.{Header}
+use Rattle.xc_script.specs.LineText.{first_kind, unless_bad}
+use Rattle.xc_script.proofs.LineTextLaws.{then_by, judged}
 use Rattle.xc_source.specs.declared.command.SourceCommand.{SourceCommand}
 use Rattle.xc_text.specs.declared.line.Version.{Version}
 use Rattle.xc_text.specs.Lines.{header_numbers_fit}
-use Rattle.xc_source_script.specs.declared.kind.SourceKind.{SourceKind}
 use Rattle.xc_source_script.specs.declared.kind.SourceKind.TheVariants as kind
 use Rattle.xc_source_script.specs.declared.reading.Reading.{Reading}
 use Rattle.xc_source_script.specs.declared.reading.Stage.{Stage}
 use Rattle.xc_source_script.specs.declared.reading.Stage.TheVariants as stage
-use Rattle.xc_source_script.specs.Kinds.{first_kind}
 use Rattle.xc_source_script.specs.Words.{SourceLine, First, Start, Root, Ask, is_moment, command_numbers_fit, command_names_fit, version_of}
 use Rattle.xc_source_script.specs.Words.{start_of, root_of, end_of, command_of, command_in, root_in, start_in, line_by, numbers_fit}
 use Rattle.xc_source_script.specs.Words.{names_fit}
-use Rattle.xc_source_script.specs.SourceText.{misplaced, later_kinds, moved, step_by, unless_bad, is_inner, is_whole, root_breaks}
+use Rattle.xc_source_script.specs.SourceText.{misplaced, later_kinds, moved, step_by, is_inner, is_whole, root_breaks}
 use Rattle.xc_source_script.specs.SourceText.{with_start}
 use Rattle.xc_source_script.specs.SourceText.{with_root, with_command}
 
 -- ---- lines that were read by themselves
-
--- a reading by itself, and what the step goes on to
-abbrev pub then_by : {B : Type 0} → (B → Result Reading SourceKind) → Result B SourceKind → Result Reading SourceKind
-then_by more (Ok b) = more b
-then_by more (Err k) = Err k
-
-judged : {B : Type 0} (more : B → Result Reading SourceKind) (b : B) (place numbers names : Bool) (later : List (Bool × SourceKind))
-    (after : Reading)
-    → place ≡ false → unless_bad (first_kind later) after ≡ more b
-    → unless_bad (first_kind ((place, kind.Form) ∷ (not numbers, kind.Number) ∷ (not names, kind.Key) ∷ later)) after
-    ≡ then_by more (if numbers then (if names then Ok b else Err kind.Key) else Err kind.Number)
-judged more b true numbers names later after p e = absurd (true≢false p)
-judged more b false true true later after p e = e
-judged more b false true false later after p e = refl
-judged more b false false names later after p e = refl
 
 at_stage : (s : Reading) (other : Stage) (l : SourceLine) (b : Bool) → s.stage ≡ other → misplaced other l ≡ b → misplaced s.stage l ≡ b
 at_stage s other l b is out = ap (λ st. misplaced st l) is ∙ out
@@ -58,35 +43,34 @@ start_cases : (s : Reading) (o : Option ℕ) → s.stage ≡ stage.Start
     → step_by s (option_map Start o) ≡ then_by (with_start s) (start_in o)
 start_cases s None is = refl
 start_cases s (Some time) is =
-    judged (with_start s) time (misplaced s.stage (Start time)) (is_moment time) true (later_kinds s (Start time)) (moved s (Start time))
+    judged kind.Form kind.Number kind.Key
+    (with_start s) time (misplaced s.stage (Start time)) (is_moment time) true (later_kinds s (Start time)) (moved s (Start time))
     (at_stage s _ (Start time) false is refl) (by_roots false (nat_le 65536 s.lines) (moved s (Start time)))
 
 pub place_root : (st : Stage) (h : Header) → is_inner st ≡ true → misplaced st (Root h) ≡ false
-place_root stage.First h i = absurd (false≢true i)
-place_root stage.Start h i = absurd (false≢true i)
 place_root stage.Roots h i = refl
 place_root stage.Commands h i = refl
-place_root stage.Ended h i = absurd (false≢true i)
+place_root st h i = absurd (false≢true i)
 
 pub place_ask : (st : Stage) (c : SourceCommand) → is_inner st ≡ true → misplaced st (Ask c) ≡ false
-place_ask stage.First c i = absurd (false≢true i)
-place_ask stage.Start c i = absurd (false≢true i)
 place_ask stage.Roots c i = refl
 place_ask stage.Commands c i = refl
-place_ask stage.Ended c i = absurd (false≢true i)
+place_ask st c i = absurd (false≢true i)
 
 root_cases : (s : Reading) (o : Option Header) → is_inner s.stage ≡ true
     → step_by s (option_map Root o) ≡ then_by (with_root s) (root_in o)
 root_cases s None is = refl
 root_cases s (Some h) is =
-    judged (with_root s) h (misplaced s.stage (Root h)) (header_numbers_fit h) true (later_kinds s (Root h)) (moved s (Root h))
+    judged kind.Form kind.Number kind.Key
+    (with_root s) h (misplaced s.stage (Root h)) (header_numbers_fit h) true (later_kinds s (Root h)) (moved s (Root h))
     (place_root s.stage h is) (by_roots (root_breaks s h) (nat_le 65536 s.lines) (moved s (Root h)))
 
 ask_cases : (s : Reading) (o : Option SourceCommand) → is_inner s.stage ≡ true
     → step_by s (option_map Ask o) ≡ then_by (with_command s) (command_in o)
 ask_cases s None is = refl
 ask_cases s (Some c) is =
-    judged (with_command s) c (misplaced s.stage (Ask c)) (command_numbers_fit c) (command_names_fit c) (later_kinds s (Ask c)) (moved s
+    judged kind.Form kind.Number kind.Key
+    (with_command s) c (misplaced s.stage (Ask c)) (command_numbers_fit c) (command_names_fit c) (later_kinds s (Ask c)) (moved s
     (Ask c))
     (place_ask s.stage c is) (by_whole (is_whole s) (nat_le 65536 s.lines) (moved s (Ask c)))
 

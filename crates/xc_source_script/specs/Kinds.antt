@@ -1,10 +1,9 @@
 -- Why a line of a source script is bad.
 --     kind_name kind      the word for it in what is printed
---     first_kind rows      the kind of the first row whose test is true; None where none is
 -- The rest is what single functions answer; what a text spells doesn't rest on it.
 --     judge numbers names form      a form, if its numbers and its names fit
 --     Answers view result reading      a call answered what the reading gives, seen by view, or that memory ran out
-use Rattle.std.specs.Prelude.{◌≡◌, ℕ, Bool, List, [], ◌∷◌, Option, Some, None, Result, Ok, Err, if◌then◌else◌, codes}
+use Rattle.std.specs.Prelude.{◌≡◌, ℕ, Bool, List, Option, Some, None, Result, Ok, Err, if◌then◌else◌, codes}
 use Rattle.xc_source_script.specs.declared.kind.SourceKind.{SourceKind}
 use Rattle.xc_source_script.specs.declared.kind.SourceKind.TheVariants.{Form, Number, Key, Header, Limit, NoEnd}
 use Rattle.xc_source_script.specs.declared.kind.Fail.{Fail}
@@ -17,10 +16,6 @@ kind_name Key = codes "key"
 kind_name Header = codes "header"
 kind_name Limit = codes "limit"
 kind_name NoEnd = codes "no-end"
-
-abbrev pub first_kind : List (Bool × SourceKind) → Option SourceKind
-first_kind [] = None
-first_kind (row ∷ rows) = if row.0 then Some row.1 else first_kind rows
 
 -- form is looked for over the whole line first, then number, then key
 abbrev pub judge : {A : Type 0} → (A → Bool) → (A → Bool) → Option A → Result A SourceKind

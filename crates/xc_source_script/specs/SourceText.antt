@@ -9,6 +9,7 @@ use Rattle.std.specs.Prelude.{◌≡◌, ℕ, ◌+◌, Bool, true, false, ◌&&�
 use Rattle.std.specs.Prelude.{Some, None, Result, Ok, Err, if◌then◌else◌, is_none}
 use Rattle.xc_base.specs.Words.{split_on}
 use Rattle.xc_record.specs.declared.record.Header.{Header}
+use Rattle.xc_script.specs.LineText.{BadLine as BadTextLine, Rules, first_kind, unless_bad, lines_from}
 use Rattle.xc_source.specs.declared.command.SourceCommand.{SourceCommand}
 use Rattle.xc_text.specs.declared.line.Version.{Version}
 use Rattle.xc_text.specs.declared.line.Version.TheVariants.{One}
@@ -22,13 +23,11 @@ use Rattle.xc_source_script.specs.declared.reading.Stage.{Stage}
 use Rattle.xc_source_script.specs.declared.reading.Stage.TheVariants as stage
 use Rattle.xc_source_script.specs.declared.reading.Reading.{Reading}
 use Rattle.xc_source_script.specs.declared.script.SourceScript.{SourceScript}
-use Rattle.xc_source_script.specs.Kinds.{first_kind}
 use Rattle.xc_source_script.specs.Words.{SourceLine, First, Start, Root, Ask, End, line_of, numbers_fit, names_fit}
 use Rattle.xc_base.specs.declared.limits.TheConstants.{SCRIPT_LINES}
 
-pub record BadLine : Type 0 where
-  pub line : ℕ
-  pub kind : SourceKind
+abbrev pub BadLine : Type 0
+BadLine = BadTextLine SourceKind
 
 -- ---- the rules for one line
 
@@ -117,10 +116,6 @@ moved s (Root h) = rooted s h
 moved s (Ask c) = asked s c
 moved s End = after_line s stage.Ended s.script
 
-abbrev pub unless_bad : {A : Type 0} → Option SourceKind → A → Result A SourceKind
-unless_bad None x = Ok x
-unless_bad (Some k) x = Err k
-
 abbrev pub step_by : Reading → Option SourceLine → Result Reading SourceKind
 step_by s None = Err kind.Form
 step_by s (Some l) = unless_bad (first_kind (kinds s l)) (moved s l)
@@ -130,35 +125,16 @@ step s bytes = step_by s (line_of s.version (split_on 32 bytes))
 
 -- ---- the whole text
 
--- the line after those so far is bad
-abbrev pub bad_next : Reading → SourceKind → Result SourceScript BadLine
-bad_next s k = Err (record { line = s.lines + 1; kind = k })
-
 -- a text that goes no further than these lines
 abbrev pub ending : Stage → Reading → Result SourceScript BadLine
 ending stage.Ended s = Ok s.script
-ending _ s = bad_next s kind.NoEnd
+ending _ s = Err (record { line = s.lines + 1; kind = kind.NoEnd })
 
-abbrev pub is_empty : List ℕ → Bool
-is_empty [] = true
-is_empty (byte ∷ bytes) = false
-
--- the bytes after the last line end, which are to be none
-abbrev pub rest_of_text : Reading → List ℕ → Result SourceScript BadLine
-rest_of_text s rest = if is_empty rest then ending s.stage s else bad_next s kind.Form
-
-abbrev pub go_on : Reading → Result Reading SourceKind → (Reading → Result SourceScript BadLine) → Result SourceScript BadLine
-go_on s (Ok after) more = more after
-go_on s (Err k) more = bad_next s k
-
--- the lines that are left, each ended by a line end but for the last piece
-abbrev pub lines_from : Reading → List (List ℕ) → Result SourceScript BadLine
-lines_from s [] = ending s.stage s
-lines_from s (piece ∷ []) = rest_of_text s piece
-lines_from s (piece ∷ (next ∷ pieces)) = go_on s (step s piece) (λ after. lines_from after (next ∷ pieces))
+abbrev pub rules : Rules Reading SourceScript SourceKind
+rules = record { lines = λ s. s.lines; step = step; ending = λ s. ending s.stage s; unended = kind.Form }
 
 unfoldable pub source_of : List ℕ → Result SourceScript BadLine
-source_of text = lines_from begun (split_on 10 text)
+source_of text = lines_from rules begun (split_on 10 text)
 
 -- ---- what calls answer
 

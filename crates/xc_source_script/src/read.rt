@@ -1,7 +1,8 @@
 // Reading a source script.
 ghost use Rattle.std.specs.Prelude.{◌≡◌, ◌<◌, ◌++◌, ◌∷◌, [], map, IfOk};
 ghost use Rattle.xc_source_script.specs.Allowed.{IsSourceScript};
-ghost use Rattle.xc_source_script.specs.SourceText.{Reads, at_line, begun, lines_from, rest_of_text, source_of};
+ghost use Rattle.xc_script.specs.LineText.{lines_from, rest_of_text};
+ghost use Rattle.xc_source_script.specs.SourceText.{Reads, at_line, begun, rules, source_of};
 
 use crate::kind::{Fail, SourceKind, SourceScriptFail};
 use crate::reading::{Reading, Stage};
@@ -42,7 +43,7 @@ fn read_pieces(
     lines: &[&[u8]],
     rest: &[u8],
 ) -> Result<SourceScript, SourceScriptFail>
-    ensures { Reads result (lines_from begun (map (λ line. line.now) lines.now ++ rest.now ∷ [])) }
+    ensures { Reads result (lines_from rules begun (map (λ line. line.now) lines.now ++ rest.now ∷ [])) }
 {
     let mut reading = Reading::begun(alloc);
     for line in lines {
@@ -57,7 +58,7 @@ fn read_pieces(
 // What a text gives that goes no further than this rest.
 fn ending(reading: Reading, rest: &[u8]) -> Result<SourceScript, SourceScriptFail>
     requires { reading.lines < 65537 }
-    ensures { Reads result (rest_of_text reading rest.now) }
+    ensures { Reads result (rest_of_text rules reading rest.now) }
 {
     let kind = if !rest.is_empty() {
         SourceKind::Form

@@ -1,4 +1,5 @@
 pub mod IntentLaws
+pub mod GiftLaws
 pub mod Trees
 pub mod Chains
 pub mod Links

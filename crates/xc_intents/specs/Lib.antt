@@ -1,2 +1,3 @@
 pub mod HeldOps
+pub mod Gifts
 pub mod Slots

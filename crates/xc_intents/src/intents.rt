@@ -4,6 +4,7 @@ ghost use Rattle.std.specs.Prelude.{◌≡◌, ◌≤◌, ◌+◌, ◌++◌, ◌
 ghost use Rattle.std.specs.List.{find};
 ghost use Rattle.std.specs.Option.{option_map};
 ghost use Rattle.xc_intents.specs.HeldOps.{held_op, is_part, is_rest, is_sought, without_first, given};
+ghost use Rattle.xc_intents.specs.Gifts.{WalksGiveAll};
 
 use crate::held::Held;
 use crate::slots::{Chain, Slot, append, gather, take_next, walk};
@@ -191,3 +192,8 @@ impl Intents {
         self.slots.len() - self.dead
     }
 }
+
+/// The calls of a walk take, one after another, all operations that it looks for, in the order held, and no others.
+pub fn walks_give_all()
+    ensures { WalksGiveAll }
+{}

@@ -7,7 +7,7 @@ mod slots;
 mod tree;
 
 pub use held::Held;
-pub use intents::Intents;
+pub use intents::{Intents, walks_give_all};
 
 #[cfg(test)]
 mod tests;

@@ -112,11 +112,40 @@ fn read(versions: &Versions, keys: &str, n: u64) -> u64 {
     found
 }
 
+fn hash(key: &Key) -> u16 {
+    let mut hash = 0u16;
+    for byte in key.bytes() {
+        hash = hash.wrapping_mul(31).wrapping_add(u16::from(*byte));
+    }
+    hash
+}
+
+// By transaction and place, the hash beside the operation.
+type Held = BTreeMap<(u32, u64), (u16, Key, Option<Value>)>;
+
+// How many operations of one transaction are taken out by sixteen ranges of hashes.
+fn apply(n: u64, value: Value) -> u64 {
+    let mut held = Held::new();
+    for i in 0..n {
+        let key = name(i);
+        held.insert((1, i), (hash(&key), key, Some(value)));
+    }
+    for range in 0..16u16 {
+        let (lo, hi) = (range * 4096, range * 4096 + 4095);
+        held.retain(|_, op| op.0 < lo || hi < op.0);
+    }
+    n - held.len() as u64
+}
+
 fn main() {
     let words: Vec<String> = std::env::args().skip(1).collect();
     let (order, keys, job) = (words[0].as_str(), words[1].as_str(), words[2].as_str());
     let n: u64 = words[3].parse().unwrap();
     let value = Value { _len: 5, _bytes: [1; 64] };
+    if job == "apply" {
+        println!("{} found", apply(n, value));
+        return;
+    }
     let mut versions = Versions::new();
     for i in 0..n {
         let commit = match order {

@@ -1,10 +1,13 @@
-//! Measures versions alone: adds so many of them, and then prunes, scans or reads. bench/versions runs it beside the
-//! same work in plain Rust. The words are the order of the commits, the keys, the job, and how many versions.
+//! Measures versions and operations that wait, each alone: adds so many versions, and then prunes, scans or reads; or
+//! holds so many operations, and takes them out by ranges. bench/versions runs it beside the same work in plain Rust.
+//! The words are the order of the commits, the keys, the job, and how many versions or operations.
 #![tactic(auto)]
 
 use std::alloc::Global;
 use std::env;
 use xc_base::{Key, Value};
+use xc_intents::Intents;
+use xc_record::Op;
 use xc_versions::Versions;
 
 // The order in which commits come.
@@ -23,13 +26,14 @@ enum Keys {
     Each,
 }
 
-// What is done once the versions are there.
+// What is done once the versions are there; an apply takes operations that wait, and there are no versions.
 #[derive(Clone, Copy)]
 enum Job {
     Fill,
     Prune,
     Scan,
     Read,
+    Apply,
 }
 
 fn order_of(word: &str) -> Order {
@@ -59,6 +63,8 @@ fn job_of(word: &str) -> Job {
         Job::Scan
     } else if word == "read" {
         Job::Read
+    } else if word == "apply" {
+        Job::Apply
     } else {
         Job::Fill
     }
@@ -146,10 +152,34 @@ fn read(versions: &Versions, keys: Keys, n: u64) -> u64 {
     found
 }
 
+// So many operations of one transaction, each of a key of its own, that wait.
+fn hold(alloc: Global, n: u64) -> Option<Intents> {
+    let mut held = Intents::new(alloc);
+    held.reserve(n as usize).ok()?;
+    for i in 0..n {
+        let key = name(i)?;
+        let value = written();
+        held.hold(1, 0, Op { key, value });
+    }
+    Some(held)
+}
+
+// How many operations of one transaction are taken out by sixteen ranges of hashes, one after another.
+fn apply(alloc: Global, n: u64) -> Option<u64> {
+    let mut held = hold(alloc, n)?;
+    for range in 0..16u16 {
+        held.forget(1, range * 4096, range * 4096 + 4095);
+    }
+    Some(n.saturating_sub(held.len() as u64))
+}
+
 fn run(alloc: Global, order: Order, keys: Keys, job: Job, n: u64) -> Option<(usize, u64)> {
+    if matches!(job, Job::Apply) {
+        return Some((0, apply(alloc, n)?));
+    }
     let mut versions = fill(alloc, n, keys, order)?;
     let found = match job {
-        Job::Fill => 0,
+        Job::Fill | Job::Apply => 0,
         Job::Prune => {
             prune(&mut versions, n);
             0
@@ -172,7 +202,7 @@ fn main(rt: HostRuntime) {
     }
     if words.len() != 4 {
         let _ = println!(rt;
-            "the words are: rising|falling|random one|thousand|each fill|prune|scan|read COUNT"
+            "the words are: rising|falling|random one|thousand|each fill|prune|scan|read|apply COUNT"
         );
         return;
     }

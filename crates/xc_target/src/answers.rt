@@ -33,12 +33,14 @@ pub enum TargetFail {
 }
 
 // A poller's failure, as the target tells it.
-pub(crate) fn failed(fail: NextFail) -> TargetFail
-    ensures { result ≡ fail_of fail }
-{
-    match fail {
-        NextFail::ReadFault => TargetFail::ReadFault,
-        NextFail::NoMemory => TargetFail::NoMemory,
+impl From<NextFail> for TargetFail {
+    ghost from_gives = { λ fail e. e ≡ fail_of fail };
+
+    fn from(fail: NextFail) -> TargetFail {
+        match fail {
+            NextFail::ReadFault => TargetFail::ReadFault,
+            NextFail::NoMemory => TargetFail::NoMemory,
+        }
     }
 }
 

@@ -18,7 +18,7 @@ ghost use Rattle.xc_target.specs.Stands.{StandsForSession};
 ghost use Rattle.xc_target.specs.Answers.{Made, IsAcknowledged, IsRestarted, IsNotReadable, IsPruned, IsClosed};
 ghost use Rattle.xc_target.specs.Answers.{IsPolled, IsStopped, GaveFirst, MovesOn, halts, IsDrainFail};
 
-use crate::answers::{Closed, Halt, PruneFail, SessionLine, TargetFail, failed};
+use crate::answers::{Closed, Halt, PruneFail, SessionLine, TargetFail};
 use crate::draining::drain_tablet;
 use crate::looks::{least_open, shown};
 use crate::opening::{new_pollers, new_tablets, open_children};
@@ -158,7 +158,7 @@ impl Target {
         let poller = &mut self.pollers[id as usize];
         let polled = poller.poll(alloc, feed, n, &mut self.tablets);
         let after = *poller;
-        let answer = polled.map_err(failed)?;
+        let answer = polled?;
         let PollAnswer::Polled(count) = answer else {
             return Ok(answer);
         };
@@ -213,7 +213,7 @@ impl Target {
         }
         let poller = &mut self.pollers[id as usize];
         let stopped = poller.stopped_poll(alloc, feed, n, &mut self.tablets, last);
-        stopped.map_err(failed)
+        stopped.map_err(TargetFail::from)
     }
 
     /// Polls each source tablet, 64 records at a time, until it is at its end, at a break of the order rules, or waits

@@ -23,7 +23,7 @@ use Rattle.xc_target.specs.Answers.{IsPolled, MovesOn}
 use Rattle.xc_target.proofs.CursorLaws.{moves-there, opened-there}
 use Rattle.xc_target.proofs.MoveLaws.{seen, get-set-here}
 use Rattle.xc_target.proofs.PollFacts.{polled-ended}
-use Rattle.xc_target.proofs.PollSteps.{Called, make-called, put_in, with_pollers, told, told-is, told-ok, length-called, same-ranges}
+use Rattle.xc_target.proofs.PollSteps.{Called, make-called, put_in, with_pollers, told, told-ok, length-called, same-ranges}
 use Rattle.xc_target.proofs.PollSteps.{ranges-called}
 use Rattle.xc_target.proofs.PollSteps.{fits-called, fits-children, fits-now, headers-here, after-open, after-shut, after-idle, polled-step}
 use Rattle.xc_target.proofs.PollSteps.{after_call}
@@ -148,12 +148,12 @@ pub returns-in_err-answer-clause-step : goal.returns-in_err-answer-clause-step
 returns-in_err-answer-clause-step g c =
     let a = (goal.at.returns-in_err-answer-clause-step g c).After-poll-polled in
     let p = err_from_is_err_and c.from_residual.result c.from_residual.ensures.1 in
-    rw (p.1, p.2) (steps-to g a _ _ (told-is _ _ c.map_err.ensures.cases ∙ c.in_err-answer.was) refl)
+    rw (p.1, p.2) (steps-to g a _ _ (ap told c.in_err-answer.was) refl)
 
 pub returns-in_default-answer-clause-step : goal.returns-in_default-answer-clause-step
 returns-in_default-answer-clause-step g c =
     let a = (goal.at.returns-in_default-answer-clause-step g c).After-poll-polled in
-    steps-to g a _ _ (told-is _ _ c.map_err.ensures.cases ∙ c.in_ok-answer.was)
+    steps-to g a _ _ (ap told c.in_ok-answer.was)
     (after-idle c.in_ok-answer.answer a.poll-polled.new.self (put g a) c.in_default-answer.not-Polled)
 
 pub open_children-requires-clause-headers : goal.open_children-requires-clause-headers
@@ -190,7 +190,7 @@ returns-then-closed-clause-step g c =
     let opens = subst (λ (w : List PollerState). AllZip (Opens q) w rs) c.deref_mut-then-closed.ensures.value c.open_children.ensures in
     let shut : is_closed q ≡ true = sym c.closed.ensures.closed ∙ c.if-closed.true in
     steps-to g a (Ok (poll.Polled c.in-Polled.count)) _
-    (told-is _ _ c.map_err.ensures.cases ∙ c.in_ok-answer.was ∙ ap Ok c.in-Polled.is)
+    (ap told c.in_ok-answer.was ∙ ap Ok c.in-Polled.is)
     (after-open q (put g a) rs shut opens ∙ sym (pollers-are (with_item a.self.inside.pollers a.args.id q) q rs opens))
 
 pub returns-else-closed-clause-step : goal.returns-else-closed-clause-step
@@ -199,7 +199,7 @@ returns-else-closed-clause-step g c =
     let q = a.poll-polled.new.self in
     let shut : is_closed q ≡ false = sym c.closed.ensures.closed ∙ c.if-closed.false in
     steps-to g a (Ok (poll.Polled c.in-Polled.count)) _
-    (told-is _ _ c.map_err.ensures.cases ∙ c.in_ok-answer.was ∙ ap Ok c.in-Polled.is)
+    (ap told c.in_ok-answer.was ∙ ap Ok c.in-Polled.is)
     (after-shut q (put g a) shut)
 
 pub returns-then-closed-clause-moves : goal.returns-then-closed-clause-moves
@@ -208,7 +208,7 @@ returns-then-closed-clause-moves g c =
     let q = a.poll-polled.new.self in
     let rs = c.open_children.new.pollers in
     let opens = subst (λ (w : List PollerState). AllZip (Opens q) w rs) c.deref_mut-then-closed.ensures.value c.open_children.ensures in
-    let polled = told-is _ _ c.map_err.ensures.cases ∙ c.in_ok-answer.was ∙ ap Ok c.in-Polled.is in
+    let polled = ap told c.in_ok-answer.was ∙ ap Ok c.in-Polled.is in
     let there = opened-there _ _ _ _ _ c.in-Polled.count _ _ q a.deref_mut.result.now _ a.poll-polled.result
     (told-ok a.poll-polled.result (poll.Polled c.in-Polled.count) polled) (called g a) a.deref_mut.ensures.value
     a.poll-polled.ensures.polled (g.met.F.Feed.shape a.args.feed.now) (fitted g a) rs opens in
@@ -218,7 +218,7 @@ returns-then-closed-clause-moves g c =
 pub returns-else-closed-clause-moves : goal.returns-else-closed-clause-moves
 returns-else-closed-clause-moves g c =
     let a = (goal.at.returns-else-closed-clause-moves g c).After-poll-polled in
-    moves g a c.in-Polled.count (put g a) (told-is _ _ c.map_err.ensures.cases ∙ c.in_ok-answer.was ∙ ap Ok c.in-Polled.is)
+    moves g a c.in-Polled.count (put g a) (ap told c.in_ok-answer.was ∙ ap Ok c.in-Polled.is)
     (get-set-here _ a.args.id _ a.poll-polled.new.self (called g a).at)
 
 pub returns-in_err-answer-clause-ranges : goal.returns-in_err-answer-clause-ranges

@@ -236,7 +236,7 @@ impl Transaction {
         }
     }
 
-    // Its operations that weren't rolled back, in the order written.
+    // Its operations that weren't rolled back, in the order written and in memory of their exact size.
     pub(crate) fn kept_ops(&self, alloc: Global) -> Result<Ops, AllocError>
         ensures { IfOk result (λ ops. ops ≡ kept_ops self.now) }
     {
@@ -246,7 +246,7 @@ impl Transaction {
                 ops.push(write.op)?;
             }
         }
-        Ok(ops)
+        ops.clone_in(alloc)
     }
 
     // The subtransactions that were rolled back.

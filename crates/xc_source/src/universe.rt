@@ -77,13 +77,13 @@ fn push_number(numbers: &mut Vec<u32>, number: u32) -> Result<(), AllocError>
     }
 }
 
-// The operation alone.
+// The operation alone, in memory of its exact size.
 fn one_op(alloc: Global, op: Op) -> Result<Ops, AllocError>
     ensures { IfOk result (λ ops. ops ≡ op ∷ []) }
 {
     let mut ops = Ops::new(alloc);
     ops.push(op)?;
-    Ok(ops)
+    ops.clone_in(alloc)
 }
 
 impl SourceUniverse {
@@ -295,7 +295,7 @@ impl SourceUniverse {
     {
         let id = self.journal.owner(&op.key);
         let ops = one_op(self.alloc, op)?;
-        let listed = one_op(self.alloc, op)?;
+        let listed = ops.clone_in(self.alloc)?;
         let time = self.journal.now() + 1;
         push_commit(&mut self.commits, time, 0, listed)?;
         match self.journal.log(id, Kind::Write { ops }) {

@@ -1,18 +1,19 @@
 -- Slots and pages while their operations are moved to other bytes, one after another.
-use Rattle.std.proofs.Common.{◌≡◌, ℕ, ◌+◌, ◌-◌, ◌*◌, ◌<◌, ◌≤◌, true, List, [], ◌∷◌, ◌++◌, length, get_or, set, take, drop, map}
+use Rattle.std.proofs.Common.{◌≡◌, ℕ, ◌+◌, ◌-◌, ◌*◌, ◌<◌, ◌≤◌, List, [], ◌∷◌, ◌++◌, length, get_or, set, take, drop, map}
 use Rattle.std.proofs.Common.{max, refl, ap, sym}
 use Rattle.std.proofs.Common.{◌∙◌, subst, arith, append_assoc, append-nil, length-append, take-append-drop}
 use Rattle.std.proofs.lemmas.List.{length-map, map-append, length-set, take_more, take_more_set, drop-set-lt, drop_more, take_all}
 use Rattle.std.proofs.lemmas.List.Concat.{flat_map-append}
-use Rattle.xc_record.specs.Packed.{encode_op, is_op}
+use Rattle.xc_record.specs.Packed.{encode_op}
 use Rattle.xc_record.proofs.ListLaws.{Each, Each-append}
 use Rattle.xc_versions.specs.declared.stored.Slot.{Slot}
 use Rattle.xc_versions.specs.declared.page.Page.{Page}
-use Rattle.xc_versions.specs.Slots.{op_at, seen, bytes_of, Lies}
+use Rattle.xc_arena.specs.Arena.{op_at, Lies}
+use Rattle.xc_versions.specs.Slots.{seen, bytes_of}
 use Rattle.xc_versions.specs.Pages.{held, live_of, IsPage, over, load, spare_of}
 use Rattle.xc_versions.specs.Dues.{dues_of}
 use Rattle.xc_versions.proofs.SplitLaws.{each-at}
-use Rattle.xc_versions.proofs.ArenaLaws.{lies-op, lies-last}
+use Rattle.xc_arena.proofs.ArenaLaws.{lies-well, lies-last}
 use Rattle.xc_versions.proofs.MoveLaws.{Alike, slots-more, lie-more, page-more, seen-last}
 
 -- the first i of the slots are moved behind the bytes `first`
@@ -25,10 +26,6 @@ pub record Moving (b first : List ℕ) (old : List Slot) (to : List ℕ) (items 
 
 pub moving-start : (b first : List ℕ) (old : List Slot) → Moving b first old first old 0
 moving-start b first old = record { long = refl; to_is = sym (append-nil first); alike = refl; lie = tt; rest = refl }
-
--- the operation at a slot is well-formed
-lies-well : (b : List ℕ) (at : ℕ) → Lies b at → is_op (op_at b at) ≡ true
-lies-well b at l = ap is_op (lies-op b at l) ∙ l.well
 
 -- what is read at i is still the old one
 pub still-old : {X : Type 0} (old items : List X) (i : ℕ) (x : X) → drop i items ≡ drop i old → i < length items → i < length old

@@ -3,7 +3,6 @@ pub mod VersionLaws
 pub mod ShownLaws
 pub mod RowsSeenLaws
 pub mod SlotLaws
-pub mod ArenaLaws
 pub mod SplitLaws
 pub mod PageLaws
 pub mod AddLaws

@@ -10,10 +10,11 @@ use Rattle.xc_versions.specs.declared.stored.StoredVersion.{StoredVersion}
 use Rattle.xc_versions.specs.declared.stored.Slot.{Slot}
 use Rattle.xc_versions.specs.declared.page.Page.{Page}
 use Rattle.xc_versions.specs.Stored.{InOrder, stored}
-use Rattle.xc_versions.specs.Slots.{key_at, value_at, seen, Lies}
+use Rattle.xc_arena.specs.Arena.{key_at, value_at, Lies}
+use Rattle.xc_versions.specs.Slots.{seen}
 use Rattle.xc_versions.specs.Pages.{held, items_of, IsPage, IsPaged, Idle, Dues}
 use Rattle.xc_versions.specs.Pool.{IsStore}
-use Rattle.xc_versions.proofs.ArenaLaws.{lies-more, key_at-more, value_at-more, last-key, last-value}
+use Rattle.xc_arena.proofs.ArenaLaws.{lies-more, key_at-more, value_at-more, last-key, last-value}
 
 -- pages qs in the bytes c hold what the pages ps in the bytes b hold
 abbrev pub Alike : List ℕ → List Page → List ℕ → List Page → Type 0

@@ -16,7 +16,8 @@ use Rattle.std.specs.declared.alloc.Global.{Global}
 use Rattle.xc_versions.specs.declared.stored.StoredVersion.{StoredVersion}
 use Rattle.xc_versions.specs.declared.stored.Slot.{Slot}
 use Rattle.xc_versions.specs.declared.page.Page.{Page}
-use Rattle.xc_versions.specs.Slots.{seen, bytes_of, Lies}
+use Rattle.xc_arena.specs.Arena.{Lies}
+use Rattle.xc_versions.specs.Slots.{seen, bytes_of}
 use Rattle.xc_versions.specs.Stored.{is_replaced, next_replaces, InOrder}
 
 abbrev pub held : List ℕ → Page → List StoredVersion

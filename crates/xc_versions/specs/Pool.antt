@@ -1,8 +1,7 @@
 -- Pages of versions, whose keys and values lie in the bytes b, beside empty pages.
 --     HasRoom pages pool      both can hold all pages and all empty pages
 --     IsStored b pages pool least      and what is said of each 64 pages holds
---     room_of v      how many operations can be put behind the bytes of v for certain, so that each begins below 2^32
-use Rattle.std.specs.Prelude.{ℕ, ◌+◌, ◌-◌, ◌/◌, ◌≤◌, List, [], length, min, vec_len, vec_capacity, Vec}
+use Rattle.std.specs.Prelude.{ℕ, ◌+◌, ◌≤◌, List, [], length, vec_capacity, Vec}
 use Rattle.std.specs.VecDeque.{deque_capacity}
 use Rattle.std.specs.declared.collections.VecDeque.{VecDeque}
 use Rattle.std.specs.List.{AllByRecursion}
@@ -25,6 +24,3 @@ pub record IsStored (b : List ℕ) (pages : VecDeque Page Global) (pool : Vec (V
     : Type 0 where
   pub store : IsStore b pages pool
   pub dues : Covers (dues_of pages.items) least.items
-
-abbrev pub room_of : Vec ℕ Global → ℕ
-room_of v = (min (vec_capacity v) 4294967295 - vec_len v) / 99

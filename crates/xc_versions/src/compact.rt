@@ -2,15 +2,17 @@
 ghost use Rattle.std.specs.Prelude.{◌≡◌, ◌≤◌, ◌+◌, ◌++◌, [], length, map, min, IfSome, vec_len, vec_capacity};
 ghost use Rattle.std.specs.VecDeque.{deque_capacity};
 ghost use Rattle.std.specs.List.{AllByRecursion};
-ghost use Rattle.xc_versions.specs.Slots.{seen, bytes_of, Lies};
+ghost use Rattle.xc_arena.specs.Arena.{Lies};
+ghost use Rattle.xc_arena.specs.declared.limits.TheConstants.{ARENA_BYTES};
+ghost use Rattle.xc_versions.specs.Slots.{seen, bytes_of};
 ghost use Rattle.xc_versions.specs.Pages.{items_of, live_of, spare_of, IsPage};
 ghost use Rattle.xc_versions.specs.Pool.{IsStore};
 ghost use Rattle.xc_versions.specs.Dues.{dues_of};
 
-use crate::arena::{op_bytes, put_bytes};
 use crate::page::Page;
 use crate::stored::Slot;
 use std::collections::VecDeque;
+use xc_arena::{move_op, op_bytes};
 
 // How many bytes the operations of the slots have.
 fn page_bytes(bytes: &[u8], items: &VecDeque<Slot>) -> Option<usize>
@@ -41,7 +43,7 @@ pub(crate) fn live_bytes(bytes: &[u8], pages: &VecDeque<Page>) -> Option<usize>
 fn move_page(bytes: &[u8], to: &mut Vec<u8>, items: &mut VecDeque<Slot>)
     requires lie { AllByRecursion (λ s. Lies bytes.now s.at) items.old.items }
     requires room { vec_len to.old + length (bytes_of bytes.now items.old.items)
-        ≤ min (vec_capacity to.old) 4294967295 }
+        ≤ min (vec_capacity to.old) ARENA_BYTES }
     ensures to { to.new.items ≡ to.old.items ++ bytes_of bytes.now items.old.items }
     ensures held { map (seen to.new.items) items.new.items ≡ map (seen bytes.now) items.old.items }
     ensures lie { AllByRecursion (λ s. Lies to.new.items s.at) items.new.items }
@@ -49,9 +51,7 @@ fn move_page(bytes: &[u8], to: &mut Vec<u8>, items: &mut VecDeque<Slot>)
     ensures capacity { deque_capacity items.new ≡ deque_capacity items.old }
 {
     for i in 0..items.len() {
-        let op = op_bytes(bytes, items[i].at);
-        let at = to.len() as u32;
-        put_bytes(to, op);
+        let at = move_op(bytes, items[i].at, to);
         let slot = &mut items[i];
         slot.at = at;
     }
@@ -66,7 +66,7 @@ pub(crate) fn move_pages(
 )
     requires store { IsStore bytes.now pages.old pool.now }
     requires none { to.old.items ≡ [] }
-    requires room { length (live_of bytes.now pages.old.items) ≤ min (vec_capacity to.old) 4294967295 }
+    requires room { length (live_of bytes.now pages.old.items) ≤ min (vec_capacity to.old) ARENA_BYTES }
     ensures store { IsStore to.new.items pages.new pool.now }
     ensures items { items_of to.new.items pages.new.items ≡ items_of bytes.now pages.old.items }
     ensures to { vec_len to.new ≡ length (live_of bytes.now pages.old.items) }

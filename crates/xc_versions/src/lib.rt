@@ -3,7 +3,6 @@
 
 ghost use Rattle.std.specs.Prelude.{◌≤◌, length};
 
-mod arena;
 mod compact;
 mod least;
 mod page;

@@ -5,7 +5,8 @@ ghost use Rattle.std.specs.Ordering.{is_gt};
 ghost use Rattle.std.specs.List.{AllByRecursion};
 ghost use Rattle.xc_versions.specs.Stored.{stored_cmp, InOrder, with_version, reaches};
 ghost use Rattle.xc_versions.specs.Splits.{Splits, Falls};
-ghost use Rattle.xc_versions.specs.Slots.{seen, Lies};
+ghost use Rattle.xc_arena.specs.Arena.{Lies};
+ghost use Rattle.xc_versions.specs.Slots.{seen};
 ghost use Rattle.xc_versions.specs.Pages.{held, items_of, IsPage, IsEmptyPage, is_first_passed};
 
 use crate::queue::{insert_at, move_behind};

@@ -4,14 +4,15 @@ ghost use Rattle.std.specs.VecDeque.{deque_capacity};
 ghost use Rattle.std.specs.Option.{option_to_list};
 ghost use Rattle.xc_versions.specs.Stored.{next_commit, pruned_before};
 ghost use Rattle.std.specs.List.{AllByRecursion};
-ghost use Rattle.xc_versions.specs.Slots.{seen, Lies};
+ghost use Rattle.xc_arena.specs.Arena.{Lies};
+ghost use Rattle.xc_versions.specs.Slots.{seen};
 ghost use Rattle.xc_versions.specs.Pages.{held, IdleNext};
 ghost use Rattle.xc_versions.specs.declared.stored.StoredVersion.{StoredVersion};
 
-use crate::arena::{key_bytes, op_bytes};
 use crate::page::Page;
 use crate::queue::remove_at;
 use crate::stored::Slot;
+use xc_arena::{key_bytes, op_bytes};
 
 // The commit of the next version, where it is of the same key.
 #[inline]

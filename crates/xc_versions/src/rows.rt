@@ -4,10 +4,10 @@ ghost use Rattle.std.specs.List.{AllByRecursion};
 ghost use Rattle.xc_record.specs.Path.{Written};
 ghost use Rattle.xc_record.specs.Rows.{put_row, rows_after};
 ghost use Rattle.xc_versions.specs.Stored.{InOrder};
-ghost use Rattle.xc_versions.specs.Slots.{key_at, value_at, seen, Lies};
+ghost use Rattle.xc_arena.specs.Arena.{key_at, value_at, Lies};
+ghost use Rattle.xc_versions.specs.Slots.{seen};
 ghost use Rattle.xc_versions.specs.RowsSeen.{row_of, is_row_of, Below, Under, ops_to};
 
-use crate::arena;
 use crate::stored::Slot;
 use std::alloc::{AllocError, Global};
 use std::collections::VecDeque;
@@ -93,9 +93,9 @@ fn put_version(rows: &mut Vec<(Key, Value)>, bytes: &[u8], at: u32) -> Result<()
     requires lies { Lies bytes.now at }
     ensures { OnOk result (rows.new.items ≡ put_row (key_at bytes.now at) (value_at bytes.now at) rows.old.items) }
 {
-    let key = arena::key(bytes, at);
+    let key = xc_arena::key(bytes, at);
     drop_row(rows, &key);
-    if let Some(value) = arena::value_of(bytes, at) {
+    if let Some(value) = xc_arena::value_of(bytes, at) {
         rows.push((key, value))?;
     }
     Ok(())

@@ -6,9 +6,9 @@ ghost use Rattle.xc_versions.specs.Stored.{stored_cmp, InOrder, reaches};
 ghost use Rattle.xc_versions.specs.Slots.{seen};
 ghost use Rattle.xc_versions.specs.Splits.{Splits};
 
-use crate::arena::key_bytes;
 use std::cmp::Ordering;
 use std::collections::VecDeque;
+use xc_arena::key_bytes;
 use xc_base::{Key, Value};
 
 /// A version of a row: what its key was set to, by which transaction, and when that committed. Contracts speak of

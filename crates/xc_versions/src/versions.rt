@@ -2,7 +2,6 @@ ghost use Rattle.std.specs.Prelude.{◌≡◌, ◌≤◌, ◌+◌, ◌*◌, ◌�
 ghost use Rattle.xc_record.specs.Kept.{shown, rows_at};
 ghost use Rattle.xc_versions.specs.Stored.{InOrder, IsNew, stored, stored_at, key_versions, with_version, kept, up_to};
 
-use crate::arena::{ARENA_BYTES, key_bytes, put_op, reserve_ops, value_of};
 use crate::compact::{live_bytes, move_pages};
 use crate::page::Page;
 use crate::pages::{add, grow, last_reaching, put_pages};
@@ -12,6 +11,7 @@ use crate::stored::Slot;
 use std::alloc::Global;
 use std::collections::VecDeque;
 use std::marker::Model;
+use xc_arena::{ARENA_BYTES, key_bytes, put_op, reserve_ops, value_of};
 use xc_base::{Key, NoMemory, Value};
 
 // An arena in which fewer bytes are of versions that are gone is left as it is.
@@ -39,7 +39,8 @@ impl Model for Versions {
     ghost use Rattle.std.specs.Prelude.{length, min};
     ghost use Rattle.xc_versions.specs.Stored.{Store};
     ghost use Rattle.xc_versions.specs.Pages.{items_of, spare_of};
-    ghost use Rattle.xc_versions.specs.Pool.{IsStored, room_of};
+    ghost use Rattle.xc_versions.specs.Pool.{IsStored};
+    ghost use Rattle.xc_arena.specs.Arena.{room_of};
 
     ghost Value = { Store };
 

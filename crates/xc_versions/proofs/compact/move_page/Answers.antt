@@ -1,9 +1,10 @@
-use Rattle.std.proofs.Common.{◌≡◌, ℕ, ◌+◌, ◌<◌, ◌≤◌, ◌++◌, List, length, get_or, set, take, ap, sym, subst, ◌∙◌, arith}
+use Rattle.std.proofs.Common.{◌≡◌, ℕ, ◌+◌, ◌<◌, ◌≤◌, List, length, get_or, set, take, ap, sym, subst, ◌∙◌, arith}
 use Rattle.std.proofs.Common.{length-append}
 use Rattle.std.proofs.lemmas.List.{get_or_default}
 use Rattle.xc_record.specs.Packed.{encode_op}
 use Rattle.xc_versions.specs.declared.stored.Slot.{Slot}
-use Rattle.xc_versions.specs.Slots.{op_at, bytes_of}
+use Rattle.xc_arena.specs.Arena.{op_at}
+use Rattle.xc_versions.specs.Slots.{bytes_of}
 use Rattle.xc_versions.proofs.AddLaws.{vec-long}
 use Rattle.xc_versions.proofs.SplitLaws.{deque-long}
 use Rattle.xc_versions.proofs.CompactLaws.{Moving, moving-more, still-old, bytes-within}
@@ -20,27 +21,14 @@ fits b first old to items i x m h e =
     let parts = length-append first (bytes_of b (take i old)) in
     omega arith
 
-pub overflow_cast-at : goal.overflow_cast-at
-overflow_cast-at c =
+pub move_op-at-requires-clause-room : goal.move_op-at-requires-clause-room
+move_op-at-requires-clause-room c =
     let m = c.loop-i.invariant.moving in
     let long = m.long in
     let count = deque-long c.args.items.now in
     let end = c.len-i-end.ensures in
     let more = fits c.args.bytes.now c.args.to.now.items c.args.items.now.items c.loop-i.to.items c.loop-i.items.items c.loop-i.i
     c.index.result.now m (omega arith) c.index.ensures in
-    let first_long = vec-long c.args.to.now in
-    let to_long = vec-long c.loop-i.to in
-    omega arith
-
-pub put_bytes-requires : goal.put_bytes-requires
-put_bytes-requires c =
-    let m = c.loop-i.invariant.moving in
-    let long = m.long in
-    let count = deque-long c.args.items.now in
-    let end = c.len-i-end.ensures in
-    let more = fits c.args.bytes.now c.args.to.now.items c.args.items.now.items c.loop-i.to.items c.loop-i.items.items c.loop-i.i
-    c.index.result.now m (omega arith) c.index.ensures in
-    let op = ap length c.op_bytes-op.ensures in
     let first_long = vec-long c.args.to.now in
     let to_long = vec-long c.loop-i.to in
     let capacity = c.loop-i.invariant.to_capacity in
@@ -66,16 +54,13 @@ loop-i-preserved c =
     let within : i < length items = omega arith in
     let same : c.index_mut-slot.result.now ≡ x =
     c.index_mut-slot.ensures.value ∙ get_or_default items i c.index_mut-slot.result.now x within ∙ sym c.index.ensures in
-    let place : c.len-at.result ≡ length to = c.len-at.ensures ∙ vec-long c.loop-i.to in
-    let slot = moved-to c.index_mut-slot.result.now c.len-at.result in
+    let slot = moved-to c.index_mut-slot.result.now c.move_op-at.result in
     let is : slot ≡ moved-to x (length to) =
-    ap (λ (s : Slot). moved-to s c.len-at.result) same ∙ ap (moved-to x) place in
-    let more : c.put_bytes.new.bytes.items ≡ to ++ encode_op (op_at b x.at) =
-    c.put_bytes.ensures.items ∙ ap (λ w. to ++ w) c.op_bytes-op.ensures in
+    ap (λ (s : Slot). moved-to s c.move_op-at.result) same ∙ ap (moved-to x) c.move_op-at.ensures.place in
     let had = c.loop-i.invariant.to_capacity in
-    let grew = c.put_bytes.ensures.capacity in
+    let grew = c.move_op-at.ensures.capacity in
     record {
-      moving = subst (λ (w : List ℕ). Moving b first old w (set items i slot) (i + 1)) (sym more)
+      moving = subst (λ (w : List ℕ). Moving b first old w (set items i slot) (i + 1)) (sym c.move_op-at.ensures.items)
           (moving-more b first old to items i x slot c.requires.lie m within c.index.ensures is);
       to_capacity = omega arith;
       capacity = c.loop-i.invariant.capacity;

@@ -8,7 +8,8 @@ use Rattle.xc_versions.specs.declared.page.Page.{Page}
 use Rattle.xc_versions.specs.Stored.{up_to}
 use Rattle.xc_record.proofs.ListLaws.{Each}
 use Rattle.xc_versions.specs.declared.stored.Slot.{Slot}
-use Rattle.xc_versions.specs.Slots.{seen, Lies}
+use Rattle.xc_arena.specs.Arena.{Lies}
+use Rattle.xc_versions.specs.Slots.{seen}
 use Rattle.xc_versions.proofs.SlotLaws.{map-filter, each-filtered}
 use Rattle.xc_versions.specs.Pages.{held, items_of, IsPage, IsPaged, Idle, spare_of}
 use Rattle.xc_versions.proofs.AddLaws.{set-cut, page-at}

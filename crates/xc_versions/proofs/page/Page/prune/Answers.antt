@@ -6,7 +6,8 @@ use Rattle.xc_record.proofs.ListLaws.{Each}
 use Rattle.xc_versions.specs.declared.stored.StoredVersion.{StoredVersion}
 use Rattle.xc_versions.specs.declared.stored.Slot.{Slot}
 use Rattle.xc_versions.specs.Stored.{is_due}
-use Rattle.xc_versions.specs.Slots.{seen, Lies}
+use Rattle.xc_arena.specs.Arena.{Lies}
+use Rattle.xc_versions.specs.Slots.{seen}
 use Rattle.xc_versions.proofs.SplitLaws.{each-at}
 use Rattle.xc_versions.proofs.SlotLaws.{read-map, map-remove, each-removed}
 use Rattle.xc_versions.proofs.PruneLaws.{Going, going-kept, going-removed}

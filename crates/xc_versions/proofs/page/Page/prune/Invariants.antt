@@ -1,7 +1,8 @@
 use Rattle.std.proofs.Common.{◌≡◌, deque_capacity}
 use Rattle.std.specs.Prelude.{option_map}
 use Rattle.std.specs.List.{AllByRecursion}
-use Rattle.xc_versions.specs.Slots.{seen, Lies}
+use Rattle.xc_arena.specs.Arena.{Lies}
+use Rattle.xc_versions.specs.Slots.{seen}
 use Rattle.xc_versions.specs.Pages.{held}
 use Rattle.xc_versions.proofs.PruneLaws.{Going}
 use Rattle.xc_versions.proofs.page.Page.prune.Given as goal

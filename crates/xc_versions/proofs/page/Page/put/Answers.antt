@@ -1,6 +1,7 @@
 use Rattle.std.proofs.Common.{◌∙◌, subst, sym, ap, List}
 use Rattle.xc_versions.specs.declared.stored.Slot.{Slot}
-use Rattle.xc_versions.specs.Slots.{seen, Lies}
+use Rattle.xc_arena.specs.Arena.{Lies}
+use Rattle.xc_versions.specs.Slots.{seen}
 use Rattle.std.specs.Ordering.{is_gt}
 use Rattle.xc_versions.specs.Stored.{stored_cmp}
 use Rattle.xc_record.proofs.ListLaws.{Each}

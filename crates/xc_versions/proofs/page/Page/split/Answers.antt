@@ -3,7 +3,7 @@ use Rattle.std.proofs.lemmas.List.{length-take-le, length-drop}
 use Rattle.std.proofs.Common.{List, sym, subst}
 use Rattle.xc_record.proofs.ListLaws.{Each}
 use Rattle.xc_versions.specs.declared.stored.Slot.{Slot}
-use Rattle.xc_versions.specs.Slots.{Lies}
+use Rattle.xc_arena.specs.Arena.{Lies}
 use Rattle.xc_versions.proofs.SlotLaws.{each-taken}
 use Rattle.xc_versions.proofs.page.Page.split.Goals as goal
 

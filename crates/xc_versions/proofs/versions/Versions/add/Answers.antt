@@ -4,11 +4,12 @@ use Rattle.xc_record.specs.Packed.{encode_op}
 use Rattle.xc_versions.specs.declared.stored.StoredVersion.{StoredVersion}
 use Rattle.xc_versions.specs.declared.stored.Slot.{Slot}
 use Rattle.xc_versions.specs.Stored.{IsNew, stored, with_version}
-use Rattle.xc_versions.specs.Slots.{seen, Lies}
+use Rattle.xc_arena.specs.Arena.{Lies}
+use Rattle.xc_versions.specs.Slots.{seen}
 use Rattle.xc_versions.specs.Pages.{items_of}
 use Rattle.xc_versions.specs.Pool.{IsStore}
 use Rattle.xc_versions.proofs.AddLaws.{vec-long}
-use Rattle.xc_versions.proofs.ArenaLaws.{lies-last}
+use Rattle.xc_arena.proofs.ArenaLaws.{lies-last}
 use Rattle.xc_versions.proofs.MoveLaws.{items-more, store-more, seen-last}
 use Rattle.xc_versions.proofs.versions.Versions.add.Goals as goal
 

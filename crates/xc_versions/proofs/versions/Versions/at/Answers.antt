@@ -4,7 +4,8 @@ use Rattle.xc_record.specs.Kept.{shown, last_of}
 use Rattle.xc_versions.specs.declared.stored.Slot.{Slot}
 use Rattle.xc_versions.specs.declared.page.Page.{Page}
 use Rattle.xc_versions.specs.Stored.{InOrder, stored_at, reaches}
-use Rattle.xc_versions.specs.Slots.{key_at, value_at, seen}
+use Rattle.xc_arena.specs.Arena.{key_at, value_at}
+use Rattle.xc_versions.specs.Slots.{seen}
 use Rattle.xc_versions.specs.Pages.{items_of}
 use Rattle.xc_versions.proofs.ShownLaws.{shown-reaching, value_at as value_in}
 use Rattle.xc_versions.proofs.versions.Versions.at.Goals as goal

@@ -12,7 +12,7 @@ use Rattle.xc_record.specs.Path.{Written}
 use Rattle.xc_record.specs.declared.record.Op.{Op}
 use Rattle.xc_record.specs.Packed.{encode_value, encode_op, is_op, text_of, after_text, value_of, after_value, after_op, HasText, HasValue}
 use Rattle.xc_record.specs.Packed.{IsAt}
-use Rattle.xc_versions.specs.Slots.{key_at, value_at, op_at, Lies}
+use Rattle.xc_arena.specs.Arena.{key_at, value_at, op_at, Lies}
 
 -- ---- one text, one value in front
 
@@ -120,13 +120,15 @@ lies-more bytes more at l = record {
   well = l.well;
 }
 
-pub key_at-more : (bytes more : List ℕ) (at : ℕ) → Lies bytes at → key_at (bytes ++ more) at ≡ key_at bytes at
+pub op_at-more : (bytes more : List ℕ) (at : ℕ) → Lies bytes at → op_at (bytes ++ more) at ≡ op_at bytes at
 unfolding lies-more
-key_at-more bytes more at l = lies-key (bytes ++ more) at (lies-more bytes more at l) ∙ sym (lies-key bytes at l)
+op_at-more bytes more at l = lies-op (bytes ++ more) at (lies-more bytes more at l) ∙ sym (lies-op bytes at l)
+
+pub key_at-more : (bytes more : List ℕ) (at : ℕ) → Lies bytes at → key_at (bytes ++ more) at ≡ key_at bytes at
+key_at-more bytes more at l = ap (λ (o : Op). o.key) (op_at-more bytes more at l)
 
 pub value_at-more : (bytes more : List ℕ) (at : ℕ) → Lies bytes at → value_at (bytes ++ more) at ≡ value_at bytes at
-unfolding lies-more
-value_at-more bytes more at l = lies-value (bytes ++ more) at (lies-more bytes more at l) ∙ sym (lies-value bytes at l)
+value_at-more bytes more at l = ap (λ (o : Op). o.value) (op_at-more bytes more at l)
 
 -- the operation that was put last
 pub lies-last : (bytes : List ℕ) (op : Op) → is_op op ≡ true → Lies (bytes ++ encode_op op) (length bytes)
@@ -138,6 +140,26 @@ lies-last bytes op w = record {
   place = refl;
   well = w;
 }
+
+pub op_at-last : (bytes : List ℕ) (op : Op) → is_op op ≡ true → op_at (bytes ++ encode_op op) (length bytes) ≡ op
+unfolding lies-last
+op_at-last bytes op w = lies-op (bytes ++ encode_op op) (length bytes) (lies-last bytes op w)
+
+pub last-key : (bytes : List ℕ) (op : Op) → is_op op ≡ true → key_at (bytes ++ encode_op op) (length bytes) ≡ op.key
+last-key bytes op w = ap (λ (o : Op). o.key) (op_at-last bytes op w)
+
+pub last-value : (bytes : List ℕ) (op : Op) → is_op op ≡ true → value_at (bytes ++ encode_op op) (length bytes) ≡ op.value
+last-value bytes op w = ap (λ (o : Op). o.value) (op_at-last bytes op w)
+
+pub put-lies : (bytes new : List ℕ) (op : Op) → is_op op ≡ true → new ≡ bytes ++ encode_op op → Lies new (length bytes)
+put-lies bytes new op w e = subst (λ (b : List ℕ). Lies b (length bytes)) (sym e) (lies-last bytes op w)
+
+pub put-op : (bytes new : List ℕ) (op : Op) → is_op op ≡ true → new ≡ bytes ++ encode_op op → op_at new (length bytes) ≡ op
+put-op bytes new op w e = ap (λ b. op_at b (length bytes)) e ∙ op_at-last bytes op w
+
+-- what lies in bytes is well-formed
+pub lies-well : (bytes : List ℕ) (at : ℕ) → Lies bytes at → is_op (op_at bytes at) ≡ true
+lies-well bytes at l = ap is_op (lies-op bytes at l) ∙ l.well
 
 -- ---- a place behind the last byte
 
@@ -174,11 +196,3 @@ key_at-some bytes at last rest e t l =
     let some : 0 < length rest = grind (arith, nat_tests) in
     let long = length-drop 1 rest in
     take-clip (drop 1 rest) (get_or rest 0 0) (last - 1) (omega arith) ∙ ap text_of e
-
-pub last-key : (bytes : List ℕ) (op : Op) → is_op op ≡ true → key_at (bytes ++ encode_op op) (length bytes) ≡ op.key
-unfolding lies-last
-last-key bytes op w = lies-key (bytes ++ encode_op op) (length bytes) (lies-last bytes op w)
-
-pub last-value : (bytes : List ℕ) (op : Op) → is_op op ≡ true → value_at (bytes ++ encode_op op) (length bytes) ≡ op.value
-unfolding lies-last
-last-value bytes op w = lies-value (bytes ++ encode_op op) (length bytes) (lies-last bytes op w)

@@ -2,21 +2,17 @@
 // text. A text is its length and then its bytes.
 ghost use Rattle.std.specs.Prelude.{◌≡◌, ◌<◌, ◌≤◌, ◌+◌, ◌*◌, ◌++◌, ◌∷◌, length, drop, min, true, OnOk, vec_len};
 ghost use Rattle.std.specs.Prelude.{vec_capacity};
+ghost use Rattle.xc_arena.specs.declared.limits.TheConstants.{OP_BYTES, ARENA_BYTES};
 ghost use Rattle.xc_record.specs.Packed.{encode_op, is_op, HasText, HasValue, IsAt};
 ghost use Rattle.xc_record.specs.Packed.{after_text, after_value, text_of, value_of};
-ghost use Rattle.xc_versions.specs.Slots.{Lies, key_at, value_at, op_at};
+ghost use Rattle.xc_arena.specs.Arena.{Lies, key_at, value_at, op_at};
 
+use crate::limits::{ARENA_BYTES, OP_BYTES};
 use xc_base::{Key, NoMemory, Value};
 
-/// The most bytes of an operation.
-const OP_BYTES: usize = 99;
-
-/// The most bytes of all operations, so that a u32 says where each begins.
-pub(crate) const ARENA_BYTES: usize = 0xffff_ffff;
-
-/// The bytes of the key at the place. Behind the last byte there are none.
+/// The bytes of the key of the operation at the place. Behind the last byte there are none.
 #[inline]
-pub(crate) fn key_bytes(bytes: &[u8], at: u32) -> &[u8]
+pub fn key_bytes(bytes: &[u8], at: u32) -> &[u8]
     ensures { result.now ≡ key_at bytes.now at }
 {
     let from = bytes.len().min(at as usize);
@@ -79,15 +75,15 @@ fn from(bytes: &[u8], at: u32) -> &[u8]
 }
 
 /// The key of the operation at the place.
-pub(crate) fn key(bytes: &[u8], at: u32) -> Key
+pub fn key(bytes: &[u8], at: u32) -> Key
     requires { Lies bytes.now at }
     ensures { result ≡ key_at bytes.now at }
 {
     Key::of(text(from(bytes, at)))
 }
 
-/// The value of the operation at the place.
-pub(crate) fn value_of(bytes: &[u8], at: u32) -> Option<Value>
+/// The value of the operation at the place, or None where it removes its key.
+pub fn value_of(bytes: &[u8], at: u32) -> Option<Value>
     requires { Lies bytes.now at }
     ensures { result ≡ value_at bytes.now at }
 {
@@ -95,7 +91,7 @@ pub(crate) fn value_of(bytes: &[u8], at: u32) -> Option<Value>
 }
 
 /// The bytes of the operation at the place.
-pub(crate) fn op_bytes(bytes: &[u8], at: u32) -> &[u8]
+pub fn op_bytes(bytes: &[u8], at: u32) -> &[u8]
     requires { Lies bytes.now at }
     ensures { result.now ≡ encode_op (op_at bytes.now at) }
 {
@@ -117,22 +113,14 @@ fn put_text(bytes: &mut Vec<u8>, text: &[u8])
     let _ = bytes.extend_from_slice(text);
 }
 
-/// Puts bytes last, for which there is room.
-pub(crate) fn put_bytes(bytes: &mut Vec<u8>, more: &[u8])
-    requires { vec_len bytes.old + length more.now ≤ vec_capacity bytes.old }
-    ensures items { bytes.new.items ≡ bytes.old.items ++ more.now }
-    ensures len { vec_len bytes.new ≡ vec_len bytes.old + length more.now }
-    ensures capacity { vec_capacity bytes.old ≤ vec_capacity bytes.new }
-{
-    let _ = bytes.extend_from_slice(more);
-}
-
 /// Puts an operation last, for which there is room.
-pub(crate) fn put_op(bytes: &mut Vec<u8>, key: &Key, value: &Option<Value>)
-    requires room { vec_len bytes.old + 99 ≤ vec_capacity bytes.old }
+pub fn put_op(bytes: &mut Vec<u8>, key: &Key, value: &Option<Value>)
+    requires room { vec_len bytes.old + OP_BYTES ≤ vec_capacity bytes.old }
     ensures items { bytes.new.items ≡ bytes.old.items ++ encode_op (record { key = key.now; value = value.now }) }
     ensures well { is_op (record { key = key.now; value = value.now }) ≡ true }
-    ensures len { vec_len bytes.new ≤ vec_len bytes.old + 99 }
+    ensures lies { Lies bytes.new.items (length bytes.old.items) }
+    ensures op { op_at bytes.new.items (length bytes.old.items) ≡ record { key = key.now; value = value.now } }
+    ensures len { vec_len bytes.new ≤ vec_len bytes.old + OP_BYTES }
     ensures capacity { vec_capacity bytes.old ≤ vec_capacity bytes.new }
 {
     put_text(bytes, key.bytes());
@@ -145,12 +133,30 @@ pub(crate) fn put_op(bytes: &mut Vec<u8>, key: &Key, value: &Option<Value>)
     }
 }
 
-/// Makes room for n operations more, of the most bytes. Where a u32 wouldn't say where each begins, there is none.
-pub(crate) fn reserve_ops(bytes: &mut Vec<u8>, n: usize) -> Result<(), NoMemory>
+/// Puts the operation at the place in `bytes` last in another arena, which has room for it, and says where it begins
+/// there.
+pub fn move_op(bytes: &[u8], at: u32, to: &mut Vec<u8>) -> u32
+    requires lies { Lies bytes.now at }
+    requires room { vec_len to.old + length (encode_op (op_at bytes.now at)) ≤ min (vec_capacity to.old) ARENA_BYTES }
+    ensures items { to.new.items ≡ to.old.items ++ encode_op (op_at bytes.now at) }
+    ensures place { result ≡ length to.old.items }
+    ensures lies { Lies to.new.items result }
+    ensures op { op_at to.new.items result ≡ op_at bytes.now at }
+    ensures len { vec_len to.new ≡ vec_len to.old + length (encode_op (op_at bytes.now at)) }
+    ensures capacity { vec_capacity to.old ≤ vec_capacity to.new }
+{
+    let place = to.len() as u32;
+    let _ = to.extend_from_slice(op_bytes(bytes, at));
+    place
+}
+
+/// Makes room for n operations more, of the most bytes. Out of memory the bytes are as before, and so where a u32
+/// wouldn't say where each begins.
+pub fn reserve_ops(bytes: &mut Vec<u8>, n: usize) -> Result<(), NoMemory>
     ensures items { bytes.new.items ≡ bytes.old.items }
     ensures len { vec_len bytes.new ≡ vec_len bytes.old }
     ensures capacity { vec_capacity bytes.old ≤ vec_capacity bytes.new }
-    ensures room { OnOk result (vec_len bytes.old + 99 * n ≤ min (vec_capacity bytes.new) 4294967295) }
+    ensures room { OnOk result (vec_len bytes.old + OP_BYTES * n ≤ min (vec_capacity bytes.new) ARENA_BYTES) }
 {
     if bytes.len() > ARENA_BYTES || n > (ARENA_BYTES - bytes.len()) / OP_BYTES {
         return Err(NoMemory);

@@ -1,7 +1,7 @@
 use Rattle.std.proofs.Common.{ap, ◌∙◌}
 use Rattle.xc_record.specs.Packed.{after_text, value_of}
-use Rattle.xc_versions.specs.Slots.{value_at}
-use Rattle.xc_versions.proofs.arena.value_of.Goals as goal
+use Rattle.xc_arena.specs.Arena.{value_at}
+use Rattle.xc_arena.proofs.arena.value_of.Goals as goal
 
 pub returns : goal.returns
 unfolding value_at

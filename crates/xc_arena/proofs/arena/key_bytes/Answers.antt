@@ -1,5 +1,5 @@
-use Rattle.xc_versions.proofs.ArenaLaws.{rest-from, key_at-none, key_at-some}
-use Rattle.xc_versions.proofs.arena.key_bytes.Goals as goal
+use Rattle.xc_arena.proofs.ArenaLaws.{rest-from, key_at-none, key_at-some}
+use Rattle.xc_arena.proofs.arena.key_bytes.Goals as goal
 
 pub returns-then-is_empty : goal.returns-then-is_empty
 returns-then-is_empty c =

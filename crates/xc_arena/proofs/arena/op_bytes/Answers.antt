@@ -1,7 +1,7 @@
 use Rattle.std.proofs.Common.{◌-◌, List, ℕ, length, take, ap, ◌∙◌}
 use Rattle.xc_record.specs.Packed.{after_value}
-use Rattle.xc_versions.proofs.ArenaLaws.{lies-cut}
-use Rattle.xc_versions.proofs.arena.op_bytes.Goals as goal
+use Rattle.xc_arena.proofs.ArenaLaws.{lies-cut}
+use Rattle.xc_arena.proofs.arena.op_bytes.Goals as goal
 
 pub returns : goal.returns
 returns c =

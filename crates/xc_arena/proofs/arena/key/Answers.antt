@@ -1,7 +1,7 @@
 use Rattle.std.proofs.Common.{ap, ◌∙◌}
 use Rattle.xc_record.specs.Packed.{text_of}
-use Rattle.xc_versions.specs.Slots.{key_at}
-use Rattle.xc_versions.proofs.arena.key.Goals as goal
+use Rattle.xc_arena.specs.Arena.{key_at}
+use Rattle.xc_arena.proofs.arena.key.Goals as goal
 
 pub returns : goal.returns
 unfolding key_at

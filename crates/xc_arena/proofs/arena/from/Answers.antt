@@ -1,8 +1,8 @@
 use Rattle.std.proofs.Common.{◌-◌, length, drop, sym, subst, arith}
 use Rattle.std.proofs.lemmas.List.{take_all, length-drop}
 use Rattle.xc_record.specs.Packed.{IsAt}
-use Rattle.xc_versions.proofs.ArenaLaws.{lies-is_at}
-use Rattle.xc_versions.proofs.arena.from.Goals as goal
+use Rattle.xc_arena.proofs.ArenaLaws.{lies-is_at}
+use Rattle.xc_arena.proofs.arena.from.Goals as goal
 
 pub returns-clause-op : goal.returns-clause-op
 returns-clause-op c =

@@ -1,0 +1,11 @@
+//! Operations packed in bytes, one behind another, each found by the place where it begins.
+#![tactic(auto)]
+
+mod arena;
+mod limits;
+
+pub use arena::{key, key_bytes, move_op, op_bytes, put_op, reserve_ops, value_of};
+pub use limits::{ARENA_BYTES, OP_BYTES};
+
+#[cfg(test)]
+mod tests;

@@ -8,24 +8,25 @@ use Rattle.xc_record.specs.Packed.{encode_op}
 use Rattle.xc_record.proofs.ListLaws.{Each, Each-append}
 use Rattle.xc_versions.specs.declared.stored.Slot.{Slot}
 use Rattle.xc_versions.specs.declared.page.Page.{Page}
-use Rattle.xc_arena.specs.Arena.{op_at, Lies}
+use Rattle.xc_arena.specs.Arena.{op_at}
 use Rattle.xc_versions.specs.Slots.{seen, bytes_of}
+use Rattle.xc_versions.specs.Heads.{IsSlot}
 use Rattle.xc_versions.specs.Pages.{held, live_of, IsPage, over, load, spare_of}
 use Rattle.xc_versions.specs.Dues.{dues_of}
 use Rattle.xc_versions.proofs.SplitLaws.{each-at}
-use Rattle.xc_arena.proofs.ArenaLaws.{lies-well, lies-last}
-use Rattle.xc_versions.proofs.MoveLaws.{Alike, slots-more, lie-more, page-more, seen-last}
+use Rattle.xc_arena.proofs.ArenaLaws.{lies-well}
+use Rattle.xc_versions.proofs.MoveLaws.{Alike, slots-more, all-more, page-more, seen-last, slot-last}
 
 -- the first i of the slots are moved behind the bytes `first`
 pub record Moving (b first : List ℕ) (old : List Slot) (to : List ℕ) (items : List Slot) (i : ℕ) : Type 0 where
   pub long : length items ≡ length old
   pub to_is : to ≡ first ++ bytes_of b (take i old)
   pub alike : map (seen to) (take i items) ≡ map (seen b) (take i old)
-  pub lie : Each (λ s. Lies to s.at) (take i items)
+  pub slots : Each (IsSlot to) (take i items)
   pub rest : drop i items ≡ drop i old
 
 pub moving-start : (b first : List ℕ) (old : List Slot) → Moving b first old first old 0
-moving-start b first old = record { long = refl; to_is = sym (append-nil first); alike = refl; lie = tt; rest = refl }
+moving-start b first old = record { long = refl; to_is = sym (append-nil first); alike = refl; slots = tt; rest = refl }
 
 -- what is read at i is still the old one
 pub still-old : {X : Type 0} (old items : List X) (i : ℕ) (x : X) → drop i items ≡ drop i old → i < length items → i < length old
@@ -57,15 +58,14 @@ bytes-more b xs i x h e =
     ∙ ap (λ w. bytes_of b (take i xs) ++ w) (append-nil (encode_op (op_at b x.at)))
 
 pub moving-more : (b first : List ℕ) (old : List Slot) (to : List ℕ) (items : List Slot) (i : ℕ) (x y : Slot)
-    → Each (λ s. Lies b s.at) old → Moving b first old to items i → i < length items → x ≡ get_or items i x
+    → Each (IsSlot b) old → Moving b first old to items i → i < length items → x ≡ get_or items i x
     → y ≡ record x { at = length to }
     → Moving b first old (to ++ encode_op (op_at b x.at)) (set items i y) (i + 1)
-moving-more b first old to items i x y lies m h e f =
+moving-more b first old to items i x y slots m h e f =
     let long = m.long in
     let is_old = still-old old items i x m.rest h (omega arith) e in
-    let here : Lies b x.at =
-    subst (λ (s : Slot). Lies b s.at) (sym is_old) (each-at (λ (s : Slot). Lies b s.at) old i x lies (omega arith)) in
-    let well = lies-well b x.at here in
+    let here : IsSlot b x = subst (IsSlot b) (sym is_old) (each-at (IsSlot b) old i x slots (omega arith)) in
+    let well = lies-well b x.at here.lies in
     let op = op_at b x.at in
     let more = encode_op op in
     let front : take (i + 1) (set items i y) ≡ take i items ++ y ∷ [] = take_more_set items i y h in
@@ -74,17 +74,17 @@ moving-more b first old to items i x y lies m h e f =
     let at : y.at ≡ length to = ap (λ (s : Slot). s.at) f in
     let moved : seen (to ++ more) y ≡ seen b x =
     ap (seen (to ++ more)) f ∙ seen-last to (record x { at = length to }) op well refl in
-    let lie_y : Lies (to ++ more) y.at = subst (λ (n : ℕ). Lies (to ++ more) n) (sym at) (lies-last to op well) in
+    let slot : IsSlot (to ++ more) y = slot-last to y op well at (ap (λ (s : Slot). s.head) f ∙ here.head) in
     record {
       long = length-set items i y ∙ m.long;
       to_is = ap (λ w. w ++ more) m.to_is ∙ append_assoc first (bytes_of b (take i old)) more
           ∙ ap (λ w. first ++ w) (sym (bytes-more b old i x (omega arith) is_old));
       alike = ap (map (seen (to ++ more))) front ∙ map-append (seen (to ++ more)) (take i items) (y ∷ [])
-          ∙ ap (λ w. w ++ seen (to ++ more) y ∷ []) (slots-more to more (take i items) m.lie ∙ m.alike)
+          ∙ ap (λ w. w ++ seen (to ++ more) y ∷ []) (slots-more to more (take i items) m.slots ∙ m.alike)
           ∙ ap (λ v. map (seen b) (take i old) ++ v ∷ []) moved
           ∙ sym (ap (map (seen b)) front_old ∙ map-append (seen b) (take i old) (x ∷ []));
-      lie = subst (λ (ss : List Slot). Each (λ s. Lies (to ++ more) s.at) ss) (sym front)
-          (Each-append (λ (s : Slot). Lies (to ++ more) s.at) (take i items) (y ∷ []) (lie-more to more (take i items) m.lie) (lie_y, tt));
+      slots = subst (λ (ss : List Slot). Each (IsSlot (to ++ more)) ss) (sym front)
+          (Each-append (IsSlot (to ++ more)) (take i items) (y ∷ []) (all-more to more (take i items) m.slots) (slot, tt));
       rest = drop-set-lt (i + 1) items i y (omega arith) ∙ drop-behind old items i x m.rest h (omega arith);
     }
 
@@ -92,7 +92,7 @@ moving-more b first old to items i x y lies m h e f =
 pub record Moved (b first : List ℕ) (old : List Slot) (to : List ℕ) (items : List Slot) : Type 0 where
   pub to_is : to ≡ first ++ bytes_of b old
   pub alike : map (seen to) items ≡ map (seen b) old
-  pub lie : Each (λ s. Lies to s.at) items
+  pub slots : Each (IsSlot to) items
 
 pub moving-done : (b first : List ℕ) (old : List Slot) (to : List ℕ) (items : List Slot) (i : ℕ) → Moving b first old to items i
     → length old ≤ i → Moved b first old to items
@@ -103,7 +103,7 @@ moving-done b first old to items i m h =
     record {
       to_is = m.to_is ∙ ap (λ xs. first ++ bytes_of b xs) all_old;
       alike = sym (ap (map (seen to)) all) ∙ m.alike ∙ ap (map (seen b)) all_old;
-      lie = subst (λ (ss : List Slot). Each (λ s. Lies to s.at) ss) all m.lie;
+      slots = subst (λ (ss : List Slot). Each (IsSlot to) ss) all m.slots;
     }
 
 -- the bytes of what isn't moved yet fit
@@ -159,7 +159,7 @@ alike-on b [] c more qs a g = (a, subst (λ (w : List Page). Each (IsPage (c ++ 
 alike-on b (p ∷ ps) c more [] a g = absurd a
 alike-on b (p ∷ ps) c more (q ∷ qs) a g =
     let rest = alike-on b ps c more qs a.1.1 g.1 in (
-      (slots-more c more q.items.items g.0.lies ∙ a.0, (a.1.0, rest.0)),
+      (slots-more c more q.items.items g.0.slots ∙ a.0, (a.1.0, rest.0)),
       (page-more c more q g.0, rest.1),
     )
 

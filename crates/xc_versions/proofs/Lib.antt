@@ -3,6 +3,7 @@ pub mod VersionLaws
 pub mod ShownLaws
 pub mod RowsSeenLaws
 pub mod SlotLaws
+pub mod HeadLaws
 pub mod SplitLaws
 pub mod PageLaws
 pub mod AddLaws

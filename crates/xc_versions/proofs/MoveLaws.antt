@@ -12,9 +12,10 @@ use Rattle.xc_versions.specs.declared.page.Page.{Page}
 use Rattle.xc_versions.specs.Stored.{InOrder, stored}
 use Rattle.xc_arena.specs.Arena.{key_at, value_at, Lies}
 use Rattle.xc_versions.specs.Slots.{seen}
+use Rattle.xc_versions.specs.Heads.{head_of, IsSlot}
 use Rattle.xc_versions.specs.Pages.{held, items_of, IsPage, IsPaged, Idle, Dues}
 use Rattle.xc_versions.specs.Pool.{IsStore}
-use Rattle.xc_arena.proofs.ArenaLaws.{lies-more, key_at-more, value_at-more, last-key, last-value}
+use Rattle.xc_arena.proofs.ArenaLaws.{lies-more, lies-last, key_at-more, value_at-more, last-key, last-value}
 
 -- pages qs in the bytes c hold what the pages ps in the bytes b hold
 abbrev pub Alike : List ℕ → List Page → List ℕ → List Page → Type 0
@@ -56,21 +57,27 @@ seen-more b more s l =
     ap (λ k. as_seen s k (value_at (b ++ more) s.at)) (key_at-more b more s.at l)
     ∙ ap (as_seen s (key_at b s.at)) (value_at-more b more s.at l)
 
-pub slots-more : (b more : List ℕ) (xs : List Slot) → Each (λ s. Lies b s.at) xs → map (seen (b ++ more)) xs ≡ map (seen b) xs
+pub slots-more : (b more : List ℕ) (xs : List Slot) → Each (IsSlot b) xs → map (seen (b ++ more)) xs ≡ map (seen b) xs
 slots-more b more [] h = refl
 slots-more b more (x ∷ xs) h =
-    ap (λ v. v ∷ map (seen (b ++ more)) xs) (seen-more b more x h.0) ∙ ap (λ w. seen b x ∷ w) (slots-more b more xs h.1)
+    ap (λ v. v ∷ map (seen (b ++ more)) xs) (seen-more b more x h.0.lies) ∙ ap (λ w. seen b x ∷ w) (slots-more b more xs h.1)
 
-pub lie-more : (b more : List ℕ) (xs : List Slot) → Each (λ s. Lies b s.at) xs → Each (λ s. Lies (b ++ more) s.at) xs
-lie-more b more [] h = tt
-lie-more b more (x ∷ xs) h = (lies-more b more x.at h.0, lie-more b more xs h.1)
+slot-more : (b more : List ℕ) (s : Slot) → IsSlot b s → IsSlot (b ++ more) s
+slot-more b more s g = record {
+  lies = lies-more b more s.at g.lies;
+  head = g.head ∙ ap head_of (sym (key_at-more b more s.at g.lies));
+}
+
+pub all-more : (b more : List ℕ) (xs : List Slot) → Each (IsSlot b) xs → Each (IsSlot (b ++ more)) xs
+all-more b more [] h = tt
+all-more b more (x ∷ xs) h = (slot-more b more x h.0, all-more b more xs h.1)
 
 pub page-more : (b more : List ℕ) (p : Page) → IsPage b p → IsPage (b ++ more) p
-page-more b more p g = record { some = g.some; few = g.few; room = g.room; lies = lie-more b more p.items.items g.lies }
+page-more b more p g = record { some = g.some; few = g.few; room = g.room; slots = all-more b more p.items.items g.slots }
 
 alike-more : (b more : List ℕ) (ps : List Page) → Each (IsPage b) ps → Alike b ps (b ++ more) ps
 alike-more b more [] h = refl
-alike-more b more (p ∷ ps) h = (slots-more b more p.items.items h.0.lies, (refl, alike-more b more ps h.1))
+alike-more b more (p ∷ ps) h = (slots-more b more p.items.items h.0.slots, (refl, alike-more b more ps h.1))
 
 pages-more : (b more : List ℕ) (ps : List Page) → Each (IsPage b) ps → Each (IsPage (b ++ more)) ps
 pages-more b more [] h = tt
@@ -90,6 +97,13 @@ store-more b more pages pool s =
     }
 
 -- the slot of the operation that was put last
+pub slot-last : (b : List ℕ) (s : Slot) (op : Op) → is_op op ≡ true → s.at ≡ length b → s.head ≡ head_of op.key
+    → IsSlot (b ++ encode_op op) s
+slot-last b s op w e h = record {
+  lies = subst (λ (n : ℕ). Lies (b ++ encode_op op) n) (sym e) (lies-last b op w);
+  head = h ∙ ap head_of (sym (ap (key_at (b ++ encode_op op)) e ∙ last-key b op w));
+}
+
 pub seen-last : (b : List ℕ) (s : Slot) (op : Op) → is_op op ≡ true → s.at ≡ length b
     → seen (b ++ encode_op op) s ≡ stored op.key s.commit s.txn s.place op.value
 seen-last b s op w e =

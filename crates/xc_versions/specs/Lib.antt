@@ -1,5 +1,6 @@
 pub mod Stored
 pub mod Slots
+pub mod Heads
 pub mod Splits
 pub mod RowsSeen
 pub mod Pages

@@ -16,8 +16,8 @@ use Rattle.std.specs.declared.alloc.Global.{Global}
 use Rattle.xc_versions.specs.declared.stored.StoredVersion.{StoredVersion}
 use Rattle.xc_versions.specs.declared.stored.Slot.{Slot}
 use Rattle.xc_versions.specs.declared.page.Page.{Page}
-use Rattle.xc_arena.specs.Arena.{Lies}
 use Rattle.xc_versions.specs.Slots.{seen, bytes_of}
+use Rattle.xc_versions.specs.Heads.{IsSlot}
 use Rattle.xc_versions.specs.Stored.{is_replaced, next_replaces, InOrder}
 
 abbrev pub held : List ℕ → Page → List StoredVersion
@@ -33,7 +33,7 @@ pub record IsPage (b : List ℕ) (p : Page) : Type 0 where
   pub some : 0 < length p.items.items
   pub few : length p.items.items ≤ 64
   pub room : 65 ≤ deque_capacity p.items
-  pub lies : AllByRecursion (λ s. Lies b s.at) p.items.items
+  pub slots : AllByRecursion (IsSlot b) p.items.items
 
 pub record IsEmptyPage (v : VecDeque Slot Global) : Type 0 where
   pub none : v.items ≡ []

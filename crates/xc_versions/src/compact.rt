@@ -2,9 +2,9 @@
 ghost use Rattle.std.specs.Prelude.{◌≡◌, ◌≤◌, ◌+◌, ◌++◌, [], length, map, min, IfSome, vec_len, vec_capacity};
 ghost use Rattle.std.specs.VecDeque.{deque_capacity};
 ghost use Rattle.std.specs.List.{AllByRecursion};
-ghost use Rattle.xc_arena.specs.Arena.{Lies};
 ghost use Rattle.xc_arena.specs.declared.limits.TheConstants.{ARENA_BYTES};
 ghost use Rattle.xc_versions.specs.Slots.{seen, bytes_of};
+ghost use Rattle.xc_versions.specs.Heads.{IsSlot};
 ghost use Rattle.xc_versions.specs.Pages.{items_of, live_of, spare_of, IsPage};
 ghost use Rattle.xc_versions.specs.Pool.{IsStore};
 ghost use Rattle.xc_versions.specs.Dues.{dues_of};
@@ -16,7 +16,7 @@ use xc_arena::{move_op, op_bytes};
 
 // How many bytes the operations of the slots have.
 fn page_bytes(bytes: &[u8], items: &VecDeque<Slot>) -> Option<usize>
-    requires { AllByRecursion (λ s. Lies bytes.now s.at) items.now.items }
+    requires { AllByRecursion (IsSlot bytes.now) items.now.items }
     ensures { IfSome result (λ n. n ≡ length (bytes_of bytes.now items.now.items)) }
 {
     let mut live: usize = 0;
@@ -41,12 +41,12 @@ pub(crate) fn live_bytes(bytes: &[u8], pages: &VecDeque<Page>) -> Option<usize>
 
 // Moves the operations of the slots behind those of another arena, which has room for them.
 fn move_page(bytes: &[u8], to: &mut Vec<u8>, items: &mut VecDeque<Slot>)
-    requires lie { AllByRecursion (λ s. Lies bytes.now s.at) items.old.items }
+    requires slots { AllByRecursion (IsSlot bytes.now) items.old.items }
     requires room { vec_len to.old + length (bytes_of bytes.now items.old.items)
         ≤ min (vec_capacity to.old) ARENA_BYTES }
     ensures to { to.new.items ≡ to.old.items ++ bytes_of bytes.now items.old.items }
     ensures held { map (seen to.new.items) items.new.items ≡ map (seen bytes.now) items.old.items }
-    ensures lie { AllByRecursion (λ s. Lies to.new.items s.at) items.new.items }
+    ensures slots { AllByRecursion (IsSlot to.new.items) items.new.items }
     ensures to_capacity { vec_capacity to.old ≤ vec_capacity to.new }
     ensures capacity { deque_capacity items.new ≡ deque_capacity items.old }
 {

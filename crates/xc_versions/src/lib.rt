@@ -4,6 +4,7 @@
 ghost use Rattle.std.specs.Prelude.{◌≤◌, length};
 
 mod compact;
+mod head;
 mod least;
 mod page;
 mod pages;
@@ -36,7 +37,7 @@ mod tests {
         let mut commit = 0;
         for (key, value) in list {
             commit += 1;
-            let key = Key::new(key.as_bytes())?;
+            let key = Key::any(key.as_bytes())?;
             versions.add(key, commit, 0, 0, Value::new(value.as_bytes()).ok());
         }
         Ok(versions)
@@ -96,6 +97,30 @@ mod tests {
             let at = versions.at(&aaa, t);
             let at = at.as_ref().map(|value| value.bytes());
             assert!(rt; at == value.map(|text| text.as_bytes()), "{t}");
+        }
+        Ok(())
+    }
+
+    #[test]
+    fn keys_that_begin_alike_are_told_apart(rt: HostRuntime) -> Result<(), Fail> {
+        let alloc = rt.alloc();
+        let list = [
+            ("abcdefghijklmnopq", "17"),
+            ("abcdefghijklmno", "15"),
+            ("a\0", "2"),
+            ("abcdefghijklmnop", "16"),
+            ("a", "1"),
+        ];
+        let versions = rising(alloc, &list)?;
+        let text = shown(alloc, &versions, 9)?;
+        assert_eq!(rt;
+            text.as_str(),
+            "a1 a\02 abcdefghijklmno15 abcdefghijklmnop16 abcdefghijklmnopq17 "
+        );
+        for (key, value) in &list {
+            let at = versions.at(&Key::any(key.as_bytes())?, 9);
+            let at = at.as_ref().map(|value| value.bytes());
+            assert!(rt; at == Some(value.as_bytes()), "{key}");
         }
         Ok(())
     }

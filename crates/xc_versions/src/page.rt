@@ -5,10 +5,11 @@ ghost use Rattle.std.specs.Ordering.{is_gt};
 ghost use Rattle.std.specs.List.{AllByRecursion};
 ghost use Rattle.xc_versions.specs.Stored.{stored_cmp, InOrder, with_version, reaches};
 ghost use Rattle.xc_versions.specs.Splits.{Splits, Falls};
-ghost use Rattle.xc_arena.specs.Arena.{Lies};
 ghost use Rattle.xc_versions.specs.Slots.{seen};
+ghost use Rattle.xc_versions.specs.Heads.{IsSlot, head_of};
 ghost use Rattle.xc_versions.specs.Pages.{held, items_of, IsPage, IsEmptyPage, is_first_passed};
 
+use crate::head::Head;
 use crate::queue::{insert_at, move_behind};
 use crate::stored::{Slot, place_of};
 use std::collections::VecDeque;
@@ -30,6 +31,7 @@ pub(crate) struct Page {
 fn all_begin_before(bytes: &[u8], pages: &VecDeque<Page>, slot: &Slot) -> bool
     requires pages { AllByRecursion (IsPage bytes.now) pages.now.items }
     requires ordered { InOrder (items_of bytes.now pages.now.items) }
+    requires slot { IsSlot bytes.now slot.now }
     ensures { result ≡ true
         → Splits (λ p. is_first_passed (λ x. is_gt (stored_cmp (seen bytes.now slot.now) x)) (held bytes.now p))
         (length pages.now.items) pages.now.items }
@@ -46,6 +48,7 @@ fn all_begin_before(bytes: &[u8], pages: &VecDeque<Page>, slot: &Slot) -> bool
 pub(crate) fn pages_before(bytes: &[u8], pages: &VecDeque<Page>, slot: &Slot) -> usize
     requires pages { AllByRecursion (IsPage bytes.now) pages.now.items }
     requires ordered { InOrder (items_of bytes.now pages.now.items) }
+    requires slot { IsSlot bytes.now slot.now }
     ensures { Splits (λ p. is_first_passed (λ x. is_gt (stored_cmp (seen bytes.now slot.now) x)) (held bytes.now p))
         result pages.now.items }
 {
@@ -68,6 +71,8 @@ pub(crate) fn pages_before(bytes: &[u8], pages: &VecDeque<Page>, slot: &Slot) ->
 
 #[inline]
 fn begins_before(bytes: &[u8], items: &VecDeque<Slot>, slot: &Slot) -> bool
+    requires slots { AllByRecursion (IsSlot bytes.now) items.now.items }
+    requires slot { IsSlot bytes.now slot.now }
     ensures { result ≡ is_first_passed (λ x. is_gt (stored_cmp (seen bytes.now slot.now) x))
         (map (seen bytes.now) items.now.items) }
 {
@@ -77,10 +82,17 @@ fn begins_before(bytes: &[u8], items: &VecDeque<Slot>, slot: &Slot) -> bool
     }
 }
 
-/// How many pages begin with a version that reaches the key at t.
-pub(crate) fn pages_reaching(bytes: &[u8], pages: &VecDeque<Page>, key: &Key, t: u64) -> usize
+/// How many pages begin with a version that reaches the key at t. The head is that of the key.
+pub(crate) fn pages_reaching(
+    bytes: &[u8],
+    pages: &VecDeque<Page>,
+    key: &Key,
+    head: &Head,
+    t: u64,
+) -> usize
     requires pages { AllByRecursion (IsPage bytes.now) pages.now.items }
     requires ordered { InOrder (items_of bytes.now pages.now.items) }
+    requires head { head.now ≡ head_of key.now }
     ensures { Splits (λ p. is_first_passed (reaches key.now t) (held bytes.now p)) result pages.now.items }
 {
     let mut low = 0;
@@ -88,7 +100,7 @@ pub(crate) fn pages_reaching(bytes: &[u8], pages: &VecDeque<Page>, key: &Key, t:
     while low < high {
         let middle = low + (high - low) / 2;
         let page = &pages[middle];
-        if begins_reaching(bytes, &page.items, key, t) {
+        if begins_reaching(bytes, &page.items, key, head, t) {
             low = middle + 1;
         } else {
             high = middle;
@@ -98,11 +110,13 @@ pub(crate) fn pages_reaching(bytes: &[u8], pages: &VecDeque<Page>, key: &Key, t:
 }
 
 #[inline]
-fn begins_reaching(bytes: &[u8], items: &VecDeque<Slot>, key: &Key, t: u64) -> bool
+fn begins_reaching(bytes: &[u8], items: &VecDeque<Slot>, key: &Key, head: &Head, t: u64) -> bool
+    requires slots { AllByRecursion (IsSlot bytes.now) items.now.items }
+    requires head { head.now ≡ head_of key.now }
     ensures { result ≡ is_first_passed (reaches key.now t) (map (seen bytes.now) items.now.items) }
 {
     match items.front() {
-        Some(first) => first.reaches(bytes, key, t),
+        Some(first) => first.reaches(bytes, key, head, t),
         None => false,
     }
 }
@@ -133,12 +147,12 @@ impl Page {
         requires ordered { InOrder (held bytes.now self.old) }
         requires few { length self.old.items.items ≤ 64 }
         requires room { 65 ≤ deque_capacity self.old.items }
-        requires all_lie { AllByRecursion (λ s. Lies bytes.now s.at) self.old.items.items }
-        requires lies { Lies bytes.now slot.at }
+        requires slots { AllByRecursion (IsSlot bytes.now) self.old.items.items }
+        requires slot { IsSlot bytes.now slot }
         ensures items { held bytes.now self.new ≡ with_version (seen bytes.now slot) (held bytes.now self.old) }
         ensures len { length self.new.items.items ≡ length self.old.items.items + 1 }
         ensures room { 65 ≤ deque_capacity self.new.items }
-        ensures lie { AllByRecursion (λ s. Lies bytes.now s.at) self.new.items.items }
+        ensures slots { AllByRecursion (IsSlot bytes.now) self.new.items.items }
         ensures due { self.new.due ≡ min self.old.due slot.commit }
     {
         let at = place_of(bytes, &self.items, &slot);
@@ -149,7 +163,7 @@ impl Page {
     /// Moves all but the first 32 versions to a page of their own, which takes over the empty one.
     pub(crate) fn split(&mut self, bytes: &[u8], mut upper: VecDeque<Slot>) -> Page
         requires empty { IsEmptyPage upper }
-        requires lie { AllByRecursion (λ s. Lies bytes.now s.at) self.old.items.items }
+        requires slots { AllByRecursion (IsSlot bytes.now) self.old.items.items }
         requires full { length self.old.items.items ≡ 65 }
         requires room { 65 ≤ deque_capacity self.old.items }
         ensures lower { self.new.items.items ≡ take 32 self.old.items.items }

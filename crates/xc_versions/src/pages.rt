@@ -8,13 +8,14 @@ ghost use Rattle.xc_record.specs.Kept.{last_of};
 ghost use Rattle.xc_record.specs.Rows.{rows_after};
 ghost use Rattle.xc_versions.specs.RowsSeen.{Under, ops_to};
 ghost use Rattle.xc_versions.specs.Stored.{InOrder, IsNew, reaches, stored_cmp, with_version};
-ghost use Rattle.xc_arena.specs.Arena.{Lies};
 ghost use Rattle.xc_versions.specs.Slots.{seen};
+ghost use Rattle.xc_versions.specs.Heads.{IsSlot, head_of};
 ghost use Rattle.xc_versions.specs.Around.{Around};
 ghost use Rattle.xc_versions.specs.Pages.{IsEmptyPage, IsPage, IsPaged, items_of, spare_of};
 ghost use Rattle.xc_versions.specs.Pool.{IsStore};
 ghost use Rattle.xc_versions.specs.Dues.{dues_of, Covers, Grew};
 
+use crate::head::Head;
 use crate::least::{grown, lower_at};
 use crate::page::{PAGE, Page, pages_before, pages_reaching, take_empty};
 use crate::queue::insert_at;
@@ -28,7 +29,7 @@ use xc_base::{Key, Value};
 fn add_first(bytes: &[u8], pages: &mut VecDeque<Page>, pool: &mut Vec<VecDeque<Slot>>, slot: Slot)
     requires store { IsStore bytes.now pages.old pool.old }
     requires none { pages.old.items ≡ [] }
-    requires lies { Lies bytes.now slot.at }
+    requires slot { IsSlot bytes.now slot }
     requires room { 1 ≤ spare_of pages.old.items (length pool.old.items) }
     ensures store { IsStore bytes.now pages.new pool.new }
     ensures items { items_of bytes.now pages.new.items
@@ -57,7 +58,7 @@ fn add_at(
     requires fresh { IsNew (seen bytes.now slot) (items_of bytes.now pages.old.items) }
     requires within { i < length pages.old.items }
     requires around { Around bytes.now (λ x. is_gt (stored_cmp (seen bytes.now slot) x)) pages.old.items i }
-    requires lies { Lies bytes.now slot.at }
+    requires slot { IsSlot bytes.now slot }
     requires room { 1 ≤ spare_of pages.old.items (length pool.old.items) }
     ensures store { IsStore bytes.now pages.new pool.new }
     ensures items { items_of bytes.now pages.new.items
@@ -85,7 +86,7 @@ pub(crate) fn add(
 )
     requires store { IsStore bytes.now pages.old pool.old }
     requires fresh { IsNew (seen bytes.now slot) (items_of bytes.now pages.old.items) }
-    requires lies { Lies bytes.now slot.at }
+    requires slot { IsSlot bytes.now slot }
     requires room { 1 ≤ spare_of pages.old.items (length pool.old.items) }
     requires least { Covers (dues_of pages.old.items) least.old.items }
     ensures store { IsStore bytes.now pages.new pool.new }
@@ -107,19 +108,26 @@ pub(crate) fn add(
     }
 }
 
-/// The last version that reaches the key at t.
-pub(crate) fn last_reaching(bytes: &[u8], pages: &VecDeque<Page>, key: &Key, t: u64) -> Option<Slot>
-    requires { IsPaged bytes.now pages.now.items [] }
+/// The last version that reaches the key at t. The head is that of the key.
+pub(crate) fn last_reaching(
+    bytes: &[u8],
+    pages: &VecDeque<Page>,
+    key: &Key,
+    head: &Head,
+    t: u64,
+) -> Option<Slot>
+    requires paged { IsPaged bytes.now pages.now.items [] }
+    requires head { head.now ≡ head_of key.now }
     ensures last { option_to_list (option_map (seen bytes.now) result)
         ≡ last_of (filter (reaches key.now t) (items_of bytes.now pages.now.items)) }
-    ensures lies { IfSome result (λ slot. Lies bytes.now slot.at) }
+    ensures slot { IfSome result (λ slot. IsSlot bytes.now slot) }
 {
-    let begin = pages_reaching(bytes, pages, key, t);
+    let begin = pages_reaching(bytes, pages, key, head, t);
     if begin == 0 {
         return None;
     }
     let page = &pages[begin - 1];
-    let reached = reached(bytes, &page.items, key, t);
+    let reached = reached(bytes, &page.items, key, head, t);
     if reached == 0 {
         return None;
     }

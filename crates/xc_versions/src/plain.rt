@@ -17,8 +17,8 @@ struct Plain {
     value: Option<u64>,
 }
 
-// In byte order.
-static KEYS: [&str; 8] = [
+// In byte order. Of the keys that begin alike some are told apart by fifteen bytes and the length, and others are not.
+static KEYS: [&str; 12] = [
     "a",
     "a\0",
     "aa",
@@ -26,6 +26,10 @@ static KEYS: [&str; 8] = [
     "aaaaaaaab",
     "aaaaaaab",
     "b",
+    "baaaaaaaaaaaaaa",
+    "baaaaaaaaaaaaaa\0",
+    "baaaaaaaaaaaaaaa",
+    "baaaaaaaaaaaaaaaa",
     "baaaaaaaaaaaaaaaaaaaaaaaaaaaaaaa",
 ];
 
@@ -136,7 +140,7 @@ fn add(
     requires earlier { AllByRecursion (λ x. x.place < place) versions.old.items }
     ensures { OnOk result (AllByRecursion (λ x. x.place < place + 1) versions.new.items) }
 {
-    let i = next(state, 8) as usize;
+    let i = next(state, 12) as usize;
     let commit = next(state, commits);
     let number = next(state, 3);
     let txn = number as u32;
@@ -204,7 +208,7 @@ fn run(alloc: Global, seed: u64, calls: u64, commits: u64, rare: u64) -> Result<
             place,
         )?;
         add(&mut versions, &mut items, &mut state, commits, place)?;
-        let i = next(&mut state, 8) as usize;
+        let i = next(&mut state, 12) as usize;
         let t = next(&mut state, commits);
         let key = Key::any(KEYS[i].as_bytes())?;
         if !same_value(versions.at(&key, t).as_ref(), value_at(&items, i, t)) {

@@ -4,8 +4,8 @@ ghost use Rattle.std.specs.VecDeque.{deque_capacity};
 ghost use Rattle.std.specs.Option.{option_to_list};
 ghost use Rattle.xc_versions.specs.Stored.{next_commit, pruned_before};
 ghost use Rattle.std.specs.List.{AllByRecursion};
-ghost use Rattle.xc_arena.specs.Arena.{Lies};
 ghost use Rattle.xc_versions.specs.Slots.{seen};
+ghost use Rattle.xc_versions.specs.Heads.{IsSlot};
 ghost use Rattle.xc_versions.specs.Pages.{held, IdleNext};
 ghost use Rattle.xc_versions.specs.declared.stored.StoredVersion.{StoredVersion};
 
@@ -36,12 +36,12 @@ impl Page {
     /// Removes what its next version replaces at the cutoff, and notes when more is due. Behind the page stands `next`,
     /// or nothing. It gives the number of bytes that no slot of the page names any more.
     pub(crate) fn prune(&mut self, bytes: &[u8], next: Option<Slot>, cutoff: u64) -> usize
-        requires { AllByRecursion (λ s. Lies bytes.now s.at) self.old.items.items }
+        requires { AllByRecursion (IsSlot bytes.now) self.old.items.items }
         ensures items { (rest : List StoredVersion) → slice_get rest 0 ≡ option_map (seen bytes.now) next
             → held bytes.now self.new ++ rest ≡ pruned_before cutoff (held bytes.now self.old) rest }
         ensures idle { (u : ℕ) (rest : List StoredVersion) → slice_get rest 0 ≡ option_map (seen bytes.now) next
             → u < self.new.due → IdleNext u (held bytes.now self.new) rest }
-        ensures lie { AllByRecursion (λ s. Lies bytes.now s.at) self.new.items.items }
+        ensures slots { AllByRecursion (IsSlot bytes.now) self.new.items.items }
         ensures len { length self.new.items.items ≤ length self.old.items.items }
         ensures capacity { deque_capacity self.new.items ≡ deque_capacity self.old.items }
     {

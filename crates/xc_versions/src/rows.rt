@@ -6,6 +6,7 @@ ghost use Rattle.xc_record.specs.Rows.{put_row, rows_after};
 ghost use Rattle.xc_versions.specs.Stored.{InOrder};
 ghost use Rattle.xc_arena.specs.Arena.{key_at, value_at, Lies};
 ghost use Rattle.xc_versions.specs.Slots.{seen};
+ghost use Rattle.xc_versions.specs.Heads.{IsSlot};
 ghost use Rattle.xc_versions.specs.RowsSeen.{row_of, is_row_of, Below, Under, ops_to};
 
 use crate::stored::Slot;
@@ -110,7 +111,7 @@ pub(crate) fn put_versions(
 ) -> Result<(), AllocError>
     requires under { AllByRecursion (λ x. Under rows.old.items x.key) (map (seen bytes.now) slots.now.items) }
     requires ordered { InOrder (map (seen bytes.now) slots.now.items) }
-    requires lie { AllByRecursion (λ s. Lies bytes.now s.at) slots.now.items }
+    requires slots { AllByRecursion (IsSlot bytes.now) slots.now.items }
     ensures { OnOk result (rows.new.items
         ≡ rows_after (ops_to t (map (seen bytes.now) slots.now.items)) rows.old.items) }
 {

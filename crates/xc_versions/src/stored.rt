@@ -1,11 +1,16 @@
 // A version as it is kept, and the search among versions in order.
 ghost use Rattle.std.specs.Prelude.{◌≡◌, length, map, filter, nat_le, true};
 ghost use Rattle.std.specs.VecDeque.{deque_capacity};
-ghost use Rattle.std.specs.Ordering.{is_gt};
+ghost use Rattle.std.specs.Ordering.{is_gt, nat_cmp};
+ghost use Rattle.std.specs.Cmp.Lexicographic.{slice_cmp};
+ghost use Rattle.std.specs.List.{AllByRecursion};
 ghost use Rattle.xc_versions.specs.Stored.{stored_cmp, InOrder, reaches};
+ghost use Rattle.xc_arena.specs.Arena.{key_at};
 ghost use Rattle.xc_versions.specs.Slots.{seen};
+ghost use Rattle.xc_versions.specs.Heads.{IsSlot, head_of};
 ghost use Rattle.xc_versions.specs.Splits.{Splits};
 
+use crate::head::Head;
 use std::cmp::Ordering;
 use std::collections::VecDeque;
 use xc_arena::key_bytes;
@@ -27,9 +32,11 @@ pub struct StoredVersion {
     pub value: Option<Value>,
 }
 
-/// What a page keeps of a version. Its key and its value lie in the arena.
+/// What a page keeps of a version. Its key and its value lie in the arena, which is read only where the head of its key
+/// doesn't tell.
 #[derive(Clone, Copy, Debug)]
 pub(crate) struct Slot {
+    pub(crate) head: Head,
     pub(crate) commit: u64,
     pub(crate) place: u64,
     pub(crate) txn: u32,
@@ -38,12 +45,27 @@ pub(crate) struct Slot {
 }
 
 impl Slot {
+    // By the bytes of the key.
+    #[inline]
+    fn key_order(&self, bytes: &[u8], other: &Slot) -> Ordering
+        requires slot { IsSlot bytes.now self.now }
+        requires other { IsSlot bytes.now other.now }
+        ensures { result ≡ slice_cmp nat_cmp (key_at bytes.now self.now.at) (key_at bytes.now other.now.at) }
+    {
+        match self.head.order(&other.head) {
+            Some(order) => order,
+            None => key_bytes(bytes, self.at).cmp(&key_bytes(bytes, other.at)),
+        }
+    }
+
     // By the bytes of the key, then by commit, number and place.
     #[inline]
     fn order(&self, bytes: &[u8], other: &Slot) -> Ordering
+        requires slot { IsSlot bytes.now self.now }
+        requires other { IsSlot bytes.now other.now }
         ensures { result ≡ stored_cmp (seen bytes.now self.now) (seen bytes.now other.now) }
     {
-        match key_bytes(bytes, self.at).cmp(&key_bytes(bytes, other.at)) {
+        match self.key_order(bytes, other) {
             Ordering::Equal => match self.commit.cmp(&other.commit) {
                 Ordering::Equal => match self.txn.cmp(&other.txn) {
                     Ordering::Equal => self.place.cmp(&other.place),
@@ -58,17 +80,35 @@ impl Slot {
     /// Whether its version stands behind the other's.
     #[inline]
     pub(crate) fn is_after(&self, bytes: &[u8], other: &Slot) -> bool
+        requires slot { IsSlot bytes.now self.now }
+        requires other { IsSlot bytes.now other.now }
         ensures { result ≡ is_gt (stored_cmp (seen bytes.now self.now) (seen bytes.now other.now)) }
     {
         self.order(bytes, other) == Ordering::Greater
     }
 
-    /// Whether its version is of a lesser key, or of this key with commit at most t.
+    // How its key compares with the key, whose head this is.
     #[inline]
-    pub(crate) fn reaches(&self, bytes: &[u8], key: &Key, t: u64) -> bool
+    fn order_to(&self, bytes: &[u8], key: &Key, head: &Head) -> Ordering
+        requires slot { IsSlot bytes.now self.now }
+        requires head { head.now ≡ head_of key.now }
+        ensures { result ≡ slice_cmp nat_cmp (key_at bytes.now self.now.at) key.now }
+    {
+        let key = key.bytes();
+        match self.head.order(head) {
+            Some(order) => order,
+            None => key_bytes(bytes, self.at).cmp(&key),
+        }
+    }
+
+    /// Whether its version is of a lesser key, or of this key with commit at most t. The head is that of the key.
+    #[inline]
+    pub(crate) fn reaches(&self, bytes: &[u8], key: &Key, head: &Head, t: u64) -> bool
+        requires slot { IsSlot bytes.now self.now }
+        requires head { head.now ≡ head_of key.now }
         ensures { result ≡ reaches key.now t (seen bytes.now self.now) }
     {
-        match key_bytes(bytes, self.at).cmp(&key.bytes()) {
+        match self.order_to(bytes, key, head) {
             Ordering::Less => true,
             Ordering::Equal => self.commit <= t,
             Ordering::Greater => false,
@@ -79,7 +119,9 @@ impl Slot {
 // Whether all of the versions stand before this one: the last does.
 #[inline]
 fn is_behind_all(bytes: &[u8], items: &VecDeque<Slot>, slot: &Slot) -> bool
-    requires { InOrder (map (seen bytes.now) items.now.items) }
+    requires ordered { InOrder (map (seen bytes.now) items.now.items) }
+    requires slots { AllByRecursion (IsSlot bytes.now) items.now.items }
+    requires slot { IsSlot bytes.now slot.now }
     ensures { result ≡ true → Splits (λ x. is_gt (stored_cmp (seen bytes.now slot.now) (seen bytes.now x)))
         (length items.now.items) items.now.items }
 {
@@ -89,7 +131,9 @@ fn is_behind_all(bytes: &[u8], items: &VecDeque<Slot>, slot: &Slot) -> bool
 
 /// How many of the versions stand before this one. It is often the last of all.
 pub(crate) fn place_of(bytes: &[u8], items: &VecDeque<Slot>, slot: &Slot) -> usize
-    requires { InOrder (map (seen bytes.now) items.now.items) }
+    requires ordered { InOrder (map (seen bytes.now) items.now.items) }
+    requires slots { AllByRecursion (IsSlot bytes.now) items.now.items }
+    requires slot { IsSlot bytes.now slot.now }
     ensures { Splits (λ x. is_gt (stored_cmp (seen bytes.now slot.now) (seen bytes.now x))) result items.now.items }
 {
     if is_behind_all(bytes, items, slot) {
@@ -108,16 +152,18 @@ pub(crate) fn place_of(bytes: &[u8], items: &VecDeque<Slot>, slot: &Slot) -> usi
     low
 }
 
-/// How many of the versions are of lesser keys, or of this key with commit at most t.
-pub(crate) fn reached(bytes: &[u8], items: &VecDeque<Slot>, key: &Key, t: u64) -> usize
-    requires { InOrder (map (seen bytes.now) items.now.items) }
+/// How many of the versions are of lesser keys, or of this key with commit at most t. The head is that of the key.
+pub(crate) fn reached(bytes: &[u8], items: &VecDeque<Slot>, key: &Key, head: &Head, t: u64) -> usize
+    requires ordered { InOrder (map (seen bytes.now) items.now.items) }
+    requires slots { AllByRecursion (IsSlot bytes.now) items.now.items }
+    requires head { head.now ≡ head_of key.now }
     ensures { Splits (λ x. reaches key.now t (seen bytes.now x)) result items.now.items }
 {
     let mut low = 0;
     let mut high = items.len();
     while low < high {
         let middle = low + (high - low) / 2;
-        if items[middle].reaches(bytes, key, t) {
+        if items[middle].reaches(bytes, key, head, t) {
             low = middle + 1;
         } else {
             high = middle;

@@ -3,6 +3,7 @@ ghost use Rattle.xc_record.specs.Kept.{shown, rows_at};
 ghost use Rattle.xc_versions.specs.Stored.{InOrder, IsNew, stored, stored_at, key_versions, with_version, kept, up_to};
 
 use crate::compact::{live_bytes, move_pages};
+use crate::head::Head;
 use crate::page::Page;
 use crate::pages::{add, grow, last_reaching, put_pages};
 use crate::rows::Rows;
@@ -110,6 +111,7 @@ impl Versions {
         ensures ordered { InOrder self.new.items }
     {
         let slot = Slot {
+            head: Head::of(key.bytes()),
             commit,
             place,
             txn,
@@ -131,7 +133,8 @@ impl Versions {
         ensures value { result ≡ shown t (stored_at key.now self.now.items) }
         ensures ordered { InOrder self.now.items }
     {
-        match last_reaching(&self.arena, &self.pages, key, t) {
+        let head = Head::of(key.bytes());
+        match last_reaching(&self.arena, &self.pages, key, &head, t) {
             Some(slot) => {
                 if key.bytes() == key_bytes(&self.arena, slot.at) {
                     value_of(&self.arena, slot.at)

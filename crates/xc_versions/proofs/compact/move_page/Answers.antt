@@ -61,7 +61,7 @@ loop-i-preserved c =
     let grew = c.move_op-at.ensures.capacity in
     record {
       moving = subst (λ (w : List ℕ). Moving b first old w (set items i slot) (i + 1)) (sym c.move_op-at.ensures.items)
-          (moving-more b first old to items i x slot c.requires.lie m within c.index.ensures is);
+          (moving-more b first old to items i x slot c.requires.slots m within c.index.ensures is);
       to_capacity = omega arith;
       capacity = c.loop-i.invariant.capacity;
     }

@@ -24,13 +24,13 @@ next b old to pages i p g m h e =
     let within = live-within b old i p h is_old in
     record { good = page-at b old i p g h is_old; fits = omega arith }
 
-pub move_page-requires-clause-lie : goal.move_page-requires-clause-lie
-move_page-requires-clause-lie c =
+pub move_page-requires-clause-slots : goal.move_page-requires-clause-slots
+move_page-requires-clause-slots c =
     let count = deque-long c.args.pages.now in
     let end = c.len-i-end.ensures in
     let below = c.loop-i-test.true in
     (next c.args.bytes.now c.args.pages.now.items c.loop-i.to.items c.loop-i.pages.items c.loop-i.i c.index_mut-page.result.now
-    c.requires.store.paged.pages c.loop-i.invariant.moving (omega arith) c.index_mut-page.ensures.value).good.lies
+    c.requires.store.paged.pages c.loop-i.invariant.moving (omega arith) c.index_mut-page.ensures.value).good.slots
 
 pub move_page-requires-clause-room : goal.move_page-requires-clause-room
 move_page-requires-clause-room c =
@@ -69,7 +69,7 @@ loop-i-preserved c =
     let one : MovesPage b p c.move_page.new.to.items q = record {
       alike = c.move_page.ensures.held;
       due = refl;
-      good = record { some = omega arith; few = omega arith; room = omega arith; lies = c.move_page.ensures.lie };
+      good = record { some = omega arith; few = omega arith; room = omega arith; slots = c.move_page.ensures.slots };
     } in
     let had = c.loop-i.invariant.to_capacity in
     let grew = c.move_page.ensures.to_capacity in

@@ -4,7 +4,7 @@ use Rattle.xc_versions.specs.Stored.{stored_cmp}
 use Rattle.xc_versions.specs.declared.page.Page.{Page}
 use Rattle.xc_versions.specs.Slots.{seen}
 use Rattle.xc_versions.specs.Pages.{held, is_first_passed}
-use Rattle.xc_versions.proofs.SplitLaws.{narrows-front, narrows-back, above-falls}
+use Rattle.xc_versions.proofs.SplitLaws.{narrows-front, narrows-back, narrows-done, above-falls}
 use Rattle.xc_versions.proofs.PageLaws.{pages-fall}
 use Rattle.xc_versions.proofs.page.pages_before.Goals as goal
 
@@ -25,3 +25,6 @@ loop-low-preserved c =
     let found = c.if-begins_before.ensures in
     narrows-back _ _ _ _ c.loop-low.invariant falls _ c.index-page.result.now (omega arith) (omega arith)
     (sym (found ∙ ap (λ (p : Page). is_first_passed (λ x. is_gt (stored_cmp v x)) (held b p)) c.index-page.ensures))
+
+pub returns : goal.returns
+returns c = narrows-done _ _ _ _ c.loop-low.invariant (omega arith)

@@ -2,7 +2,7 @@ use Rattle.std.proofs.Common.{ap, sym, ◌∙◌, arith}
 use Rattle.xc_versions.specs.Stored.{reaches}
 use Rattle.xc_versions.specs.declared.page.Page.{Page}
 use Rattle.xc_versions.specs.Pages.{held, is_first_passed}
-use Rattle.xc_versions.proofs.SplitLaws.{narrows-front, narrows-back}
+use Rattle.xc_versions.proofs.SplitLaws.{narrows-front, narrows-back, narrows-done}
 use Rattle.xc_versions.proofs.ShownLaws.{reaches-falls}
 use Rattle.xc_versions.proofs.PageLaws.{pages-fall}
 use Rattle.xc_versions.proofs.page.pages_reaching.Goals as goal
@@ -24,3 +24,6 @@ loop-low-preserved c =
     let found = c.if-begins_reaching.ensures in
     narrows-back _ _ _ _ c.loop-low.invariant falls _ c.index-page.result.now (omega arith) (omega arith)
     (sym (found ∙ ap (λ (p : Page). is_first_passed (reaches k c.args.t) (held b p)) c.index-page.ensures))
+
+pub returns : goal.returns
+returns c = narrows-done _ _ _ _ c.loop-low.invariant (omega arith)

@@ -2,8 +2,8 @@ use Rattle.std.proofs.Common.{◌≡◌, ℕ, ◌<◌, ◌-◌, List, length, ge
 use Rattle.xc_record.proofs.ListLaws.{Each}
 use Rattle.xc_versions.specs.declared.stored.Slot.{Slot}
 use Rattle.xc_versions.specs.declared.page.Page.{Page}
-use Rattle.xc_arena.specs.Arena.{Lies}
 use Rattle.xc_versions.specs.Slots.{seen}
+use Rattle.xc_versions.specs.Heads.{IsSlot}
 use Rattle.xc_versions.proofs.SlotLaws.{splits-map, read-map}
 use Rattle.xc_versions.proofs.SplitLaws.{each-at}
 use Rattle.xc_versions.proofs.AddLaws.{page-at}
@@ -20,15 +20,15 @@ returns-then-begin-eq0-clause-last c =
     let k = c.args.key.now in
     let ps = c.args.pages.now.items in
     sym (ap last_of
-    (heads-none b (reaches k c.args.t) ps c.pages_reaching-begin.result c.requires.pages
-    (reaches-falls k c.args.t (items_of b ps) c.requires.ordered) c.pages_reaching-begin.ensures c.if-begin-eq0.true))
+    (heads-none b (reaches k c.args.t) ps c.pages_reaching-begin.result c.requires.paged.pages
+    (reaches-falls k c.args.t (items_of b ps) c.requires.paged.ordered) c.pages_reaching-begin.ensures c.if-begin-eq0.true))
 
-pub reached-reached-requires : goal.reached-reached-requires
-reached-reached-requires c =
+pub reached-reached-requires-clause-ordered : goal.reached-reached-requires-clause-ordered
+reached-reached-requires-clause-ordered c =
     let b = c.args.bytes.now in
     let w = c.pages_reaching-begin.ensures.within in
     (page-ordered b c.args.pages.now.items (c.pages_reaching-begin.result - 1) c.index-page.result.now (omega arith) c.index-page.ensures
-    c.requires.ordered)
+    c.requires.paged.ordered)
 
 pub returns-then-reached-eq0-clause-last : goal.returns-then-reached-eq0-clause-last
 returns-then-reached-eq0-clause-last c =
@@ -41,9 +41,9 @@ returns-then-reached-eq0-clause-last c =
     absurd (none-passed p (held b c.index-page.result.now) c.reached-reached.result split c.if-reached-eq0.true first)
 
 last-slot : (b : List ℕ) (ps : List Page) (i m : ℕ) (q : Page) (x : Slot) → Each (IsPage b) ps → i < length ps → q ≡ get_or ps i q
-    → m < length q.items.items → x ≡ get_or q.items.items m x → Lies b x.at
+    → m < length q.items.items → x ≡ get_or q.items.items m x → IsSlot b x
 last-slot b ps i m q x g h e l f =
-    subst (λ (s : Slot). Lies b s.at) (sym f) (each-at (λ (s : Slot). Lies b s.at) q.items.items m x (page-at b ps i q g h e).lies l)
+    subst (IsSlot b) (sym f) (each-at (IsSlot b) q.items.items m x (page-at b ps i q g h e).slots l)
 
 pub returns-clause-last : goal.returns-clause-last
 returns-clause-last c =
@@ -58,16 +58,16 @@ returns-clause-last c =
     let few = c.reached-reached.ensures.within in
     let split = splits-map (seen b) p m slots c.reached-reached.ensures in
     let within : i < length ps = omega arith in
-    let a = around-some b p ps c.pages_reaching-begin.result i c.requires.pages
-    (reaches-falls k c.args.t (items_of b ps) c.requires.ordered)
+    let a = around-some b p ps c.pages_reaching-begin.result i c.requires.paged.pages
+    (reaches-falls k c.args.t (items_of b ps) c.requires.paged.ordered)
     c.pages_reaching-begin.ensures refl within in
     sym (last-passing b p ps i c.index-page.result.now m (seen b c.index.result.now) within c.index-page.ensures a split (omega arith)
     (read-map (seen b) slots (m - 1) c.index.result.now (omega arith) c.index.ensures))
 
-pub returns-clause-lies : goal.returns-clause-lies
-returns-clause-lies c =
+pub returns-clause-slot : goal.returns-clause-slot
+returns-clause-slot c =
     let ps = c.args.pages.now.items in
     let w = c.pages_reaching-begin.ensures.within in
     let few = c.reached-reached.ensures.within in
     last-slot c.args.bytes.now ps (c.pages_reaching-begin.result - 1) (c.reached-reached.result - 1) c.index-page.result.now
-    c.index.result.now c.requires.pages (omega arith) c.index-page.ensures (omega arith) c.index.ensures
+    c.index.result.now c.requires.paged.pages (omega arith) c.index-page.ensures (omega arith) c.index.ensures

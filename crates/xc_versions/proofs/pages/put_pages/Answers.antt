@@ -49,10 +49,10 @@ loop-i-preserved c =
     in
     rw put (left-more t c.args.rows.now.items c.loop-i.rows.items (items_of b c.args.pages.now.items) (held b q) rest before)
 
-pub put_versions-requires-clause-lie : goal.put_versions-requires-clause-lie
-put_versions-requires-clause-lie c =
+pub put_versions-requires-clause-slots : goal.put_versions-requires-clause-slots
+put_versions-requires-clause-slots c =
     let long = deque-long c.args.pages.now in
     let below = c.loop-i-test.true in
     let end = c.len-i-end.ensures in
     (page-at c.args.bytes.now c.args.pages.now.items c.loop-i.i c.index-page.result.now c.requires.pages (omega arith)
-    c.index-page.ensures).lies
+    c.index-page.ensures).slots

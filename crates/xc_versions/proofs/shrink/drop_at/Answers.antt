@@ -8,8 +8,8 @@ use Rattle.xc_versions.specs.declared.page.Page.{Page}
 use Rattle.xc_versions.specs.Stored.{up_to}
 use Rattle.xc_record.proofs.ListLaws.{Each}
 use Rattle.xc_versions.specs.declared.stored.Slot.{Slot}
-use Rattle.xc_arena.specs.Arena.{Lies}
 use Rattle.xc_versions.specs.Slots.{seen}
+use Rattle.xc_versions.specs.Heads.{IsSlot}
 use Rattle.xc_versions.proofs.SlotLaws.{map-filter, each-filtered}
 use Rattle.xc_versions.specs.Pages.{held, items_of, IsPage, IsPaged, Idle, spare_of}
 use Rattle.xc_versions.proofs.AddLaws.{set-cut, page-at}
@@ -101,9 +101,9 @@ returns-else-is_empty-clause-store c =
     rw c.drop_later.ensures.items (length-kept (λ (x : Slot). nat_le x.commit c.args.t) q.items.items) in
     let room : 65 ≤ deque_capacity r.items =
     let cap : deque_capacity r.items ≡ deque_capacity q.items = c.drop_later.ensures.capacity in let was = page.room in omega arith in
-    let lie = subst (λ (xs : List Slot). Each (λ s. Lies b s.at) xs) (sym c.drop_later.ensures.items)
-    (each-filtered (λ (s : Slot). Lies b s.at) (λ x. nat_le x.commit c.args.t) q.items.items page.lies) in
-    let is_page : IsPage b r = record { some = some; few = omega arith; room = room; lies = lie } in
+    let slots = subst (λ (xs : List Slot). Each (IsSlot b) xs) (sym c.drop_later.ensures.items)
+    (each-filtered (IsSlot b) (λ x. nat_le x.commit c.args.t) q.items.items page.slots) in
+    let is_page : IsPage b r = record { some = some; few = omega arith; room = room; slots = slots } in
     let paged : IsPaged b (take i old ++ ((r ∷ []) ++ drop (i + 1) old)) [] =
     shrunk-at b old i q (r ∷ []) c.requires.store.paged c.requires.within c.index_mut-page.ensures.value sub (is_page, tt)
     (λ o. dues-one b r rest

@@ -6,8 +6,8 @@ use Rattle.xc_record.proofs.ListLaws.{Each}
 use Rattle.xc_versions.specs.declared.stored.StoredVersion.{StoredVersion}
 use Rattle.xc_versions.specs.declared.stored.Slot.{Slot}
 use Rattle.xc_versions.specs.Stored.{is_due}
-use Rattle.xc_arena.specs.Arena.{Lies}
 use Rattle.xc_versions.specs.Slots.{seen}
+use Rattle.xc_versions.specs.Heads.{IsSlot}
 use Rattle.xc_versions.proofs.SplitLaws.{each-at}
 use Rattle.xc_versions.proofs.SlotLaws.{read-map, map-remove, each-removed}
 use Rattle.xc_versions.proofs.PruneLaws.{Going, going-kept, going-removed}
@@ -32,8 +32,8 @@ loop-i-preserved-then-commit-cutoff c =
           (sym (ap (map (seen b)) c.remove_at.ensures.items ∙ map-remove (seen b) slots i))
           (going-removed u next old items behind c.loop-i.due i (seen b x) before (read-map (seen b) slots i x within c.index.ensures)
           (ap (is_due u) (sym c.in-Some.ensures) ∙ le-leb c.in-Some.commit u c.if-commit-cutoff.true));
-      lie = subst (λ (zs : List Slot). Each (λ s. Lies b s.at) zs) (sym c.remove_at.ensures.items)
-          (each-removed (λ (s : Slot). Lies b s.at) slots i c.loop-i.invariant.lie);
+      slots = subst (λ (zs : List Slot). Each (IsSlot b) zs) (sym c.remove_at.ensures.items)
+          (each-removed (IsSlot b) slots i c.loop-i.invariant.slots);
       capacity = c.remove_at.ensures.capacity ∙ c.loop-i.invariant.capacity;
     }
 
@@ -59,7 +59,7 @@ loop-i-preserved-in-Some-2 c =
           (read-map (seen b) slots i x within c.index.ensures)
           (ap (is_due u) (sym c.in-Some.ensures) ∙ lt-leb commit u (omega arith))
           (λ w l. (omega arith, ap (is_due w) (sym c.in-Some.ensures) ∙ lt-leb commit w (omega arith)));
-      lie = c.loop-i.invariant.lie;
+      slots = c.loop-i.invariant.slots;
       capacity = c.loop-i.invariant.capacity;
     }
 
@@ -81,7 +81,7 @@ loop-i-preserved c =
       going = going-kept u next old items behind c.loop-i.due c.loop-i.due i (seen b x) before
           (read-map (seen b) slots i x within c.index.ensures)
           (ap (is_due u) (sym c.in-None.ensures)) (λ w l. (l, ap (is_due w) (sym c.in-None.ensures)));
-      lie = c.loop-i.invariant.lie;
+      slots = c.loop-i.invariant.slots;
       capacity = c.loop-i.invariant.capacity;
     }
 
@@ -92,5 +92,4 @@ op_bytes-requires c =
     let i = c.loop-i.i - 1 in
     let short = c.loop-i.invariant.going.short in
     let long = length-map slots (seen b) in
-    subst (λ (s : Slot). Lies b s.at) (sym c.index.ensures)
-    (each-at (λ (s : Slot). Lies b s.at) slots i c.index.result.now c.loop-i.invariant.lie (omega arith))
+    (subst (IsSlot b) (sym c.index.ensures) (each-at (IsSlot b) slots i c.index.result.now c.loop-i.invariant.slots (omega arith))).lies

@@ -1,8 +1,8 @@
 use Rattle.std.proofs.Common.{◌≡◌, deque_capacity}
 use Rattle.std.specs.Prelude.{option_map}
 use Rattle.std.specs.List.{AllByRecursion}
-use Rattle.xc_arena.specs.Arena.{Lies}
 use Rattle.xc_versions.specs.Slots.{seen}
+use Rattle.xc_versions.specs.Heads.{IsSlot}
 use Rattle.xc_versions.specs.Pages.{held}
 use Rattle.xc_versions.proofs.PruneLaws.{Going}
 use Rattle.xc_versions.proofs.page.Page.prune.Given as goal
@@ -11,7 +11,7 @@ abbrev pub invariant-loop-i : goal.invariant-loop-i
 invariant-loop-i l = record {
   going : Going l.cutoff (option_map (seen l.bytes) l.fn.next) (held l.bytes l.initial.self) (held l.bytes l.self)
       (option_map (seen l.bytes) l.behind) l.due l.i;
-  lie : AllByRecursion (λ s. Lies l.bytes s.at) l.self.items.items;
+  slots : AllByRecursion (IsSlot l.bytes) l.self.items.items;
   capacity : deque_capacity l.self.items ≡ deque_capacity l.initial.self.items;
 }
 

@@ -1,7 +1,7 @@
 use Rattle.std.proofs.Common.{◌∙◌, subst, sym, ap, List}
 use Rattle.xc_versions.specs.declared.stored.Slot.{Slot}
-use Rattle.xc_arena.specs.Arena.{Lies}
 use Rattle.xc_versions.specs.Slots.{seen}
+use Rattle.xc_versions.specs.Heads.{IsSlot}
 use Rattle.std.specs.Ordering.{is_gt}
 use Rattle.xc_versions.specs.Stored.{stored_cmp}
 use Rattle.xc_record.proofs.ListLaws.{Each}
@@ -19,9 +19,9 @@ returns-clause-items c =
     ap (map (seen b)) c.insert_at.ensures.items ∙ map-insert (seen b) xs n c.args.slot
     ∙ insert-with v n (map (seen b) xs) (splits-map (seen b) (λ x. is_gt (stored_cmp v x)) n xs c.place_of-at.ensures)
 
-pub returns-clause-lie : goal.returns-clause-lie
-returns-clause-lie c =
+pub returns-clause-slots : goal.returns-clause-slots
+returns-clause-slots c =
     let b = c.args.bytes.now in
-    subst (λ (xs : List Slot). Each (λ s. Lies b s.at) xs) (sym {A = List Slot} c.insert_at.ensures.items)
-    (each-inserted (λ (s : Slot). Lies b s.at) c.args.self.now.items.items c.place_of-at.result c.args.slot c.requires.all_lie
-    c.requires.lies)
+    subst (λ (xs : List Slot). Each (IsSlot b) xs) (sym {A = List Slot} c.insert_at.ensures.items)
+    (each-inserted (IsSlot b) c.args.self.now.items.items c.place_of-at.result c.args.slot c.requires.slots
+    c.requires.slot)

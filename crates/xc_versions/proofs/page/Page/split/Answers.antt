@@ -3,7 +3,7 @@ use Rattle.std.proofs.lemmas.List.{length-take-le, length-drop}
 use Rattle.std.proofs.Common.{List, sym, subst}
 use Rattle.xc_record.proofs.ListLaws.{Each}
 use Rattle.xc_versions.specs.declared.stored.Slot.{Slot}
-use Rattle.xc_arena.specs.Arena.{Lies}
+use Rattle.xc_versions.specs.Heads.{IsSlot}
 use Rattle.xc_versions.proofs.SlotLaws.{each-taken}
 use Rattle.xc_versions.proofs.page.Page.split.Goals as goal
 
@@ -15,12 +15,12 @@ returns-clause-lower_page c =
     let room = c.requires.room in
     let same = c.move_behind.ensures.lower_capacity in
     let b = c.args.bytes.now in
-    let lie = each-taken (λ (s : Slot). Lies b s.at) 32 c.args.self.now.items.items c.requires.lie in
+    let slots = each-taken (IsSlot b) 32 c.args.self.now.items.items c.requires.slots in
     record {
       some = omega arith;
       few = omega arith;
       room = omega arith;
-      lies = subst (λ (xs : List Slot). Each (λ s. Lies b s.at) xs) (sym c.move_behind.ensures.lower) lie.0;
+      slots = subst (λ (xs : List Slot). Each (IsSlot b) xs) (sym c.move_behind.ensures.lower) slots.0;
     }
 
 pub returns-clause-upper_page : goal.returns-clause-upper_page
@@ -31,10 +31,10 @@ returns-clause-upper_page c =
     let room = c.requires.empty.room in
     let same = c.move_behind.ensures.upper_capacity in
     let b = c.args.bytes.now in
-    let lie = each-taken (λ (s : Slot). Lies b s.at) 32 c.args.self.now.items.items c.requires.lie in
+    let slots = each-taken (IsSlot b) 32 c.args.self.now.items.items c.requires.slots in
     record {
       some = omega arith;
       few = omega arith;
       room = omega arith;
-      lies = subst (λ (xs : List Slot). Each (λ s. Lies b s.at) xs) (sym c.move_behind.ensures.upper) lie.1;
+      slots = subst (λ (xs : List Slot). Each (IsSlot b) xs) (sym c.move_behind.ensures.upper) slots.1;
     }

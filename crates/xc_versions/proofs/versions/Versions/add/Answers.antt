@@ -4,13 +4,12 @@ use Rattle.xc_record.specs.Packed.{encode_op}
 use Rattle.xc_versions.specs.declared.stored.StoredVersion.{StoredVersion}
 use Rattle.xc_versions.specs.declared.stored.Slot.{Slot}
 use Rattle.xc_versions.specs.Stored.{IsNew, stored, with_version}
-use Rattle.xc_arena.specs.Arena.{Lies}
 use Rattle.xc_versions.specs.Slots.{seen}
+use Rattle.xc_versions.specs.Heads.{head_of, IsSlot}
 use Rattle.xc_versions.specs.Pages.{items_of}
 use Rattle.xc_versions.specs.Pool.{IsStore}
 use Rattle.xc_versions.proofs.AddLaws.{vec-long}
-use Rattle.xc_arena.proofs.ArenaLaws.{lies-last}
-use Rattle.xc_versions.proofs.MoveLaws.{items-more, store-more, seen-last}
+use Rattle.xc_versions.proofs.MoveLaws.{items-more, store-more, seen-last, slot-last}
 use Rattle.xc_versions.proofs.versions.Versions.add.Goals as goal
 
 pub add-requires-clause-store : goal.add-requires-clause-store
@@ -24,7 +23,7 @@ add-requires-clause-fresh c =
     let b = c.self.inside.arena.items in
     let ps = c.self.inside.pages.items in
     let op : Op = record { key = c.args.key; value = c.args.value } in
-    let slot : Slot = record { commit = c.args.commit; place = c.args.place; txn = c.args.txn; at = c.len.result } in
+    let slot : Slot = record { head = c.of.result; commit = c.args.commit; place = c.args.place; txn = c.args.txn; at = c.len.result } in
     let v = stored c.args.key c.args.commit c.args.txn c.args.place c.args.value in
     let is : c.deref.result.now ≡ b ++ encode_op op = c.deref.ensures.value ∙ c.put_op.ensures.items in
     let here : seen (b ++ encode_op op) slot ≡ v =
@@ -35,20 +34,22 @@ add-requires-clause-fresh c =
     (subst (λ (x : StoredVersion). IsNew x (items_of (b ++ encode_op op) ps)) (sym here)
     (subst (λ (xs : List StoredVersion). IsNew v xs) (sym same) c.requires.fresh))
 
-pub add-requires-clause-lies : goal.add-requires-clause-lies
-add-requires-clause-lies c =
+pub add-requires-clause-slot : goal.add-requires-clause-slot
+add-requires-clause-slot c =
     let b = c.self.inside.arena.items in
     let op : Op = record { key = c.args.key; value = c.args.value } in
-    subst (λ (w : List ℕ). Lies w c.len.result) (sym (c.deref.ensures.value ∙ c.put_op.ensures.items))
-    (subst (λ (n : ℕ). Lies (b ++ encode_op op) n) (sym (c.len.ensures ∙ vec-long c.self.inside.arena))
-    (lies-last b op c.put_op.ensures.well))
+    let slot : Slot =
+    record { head = c.of.result; commit = c.args.commit; place = c.args.place; txn = c.args.txn; at = c.len.result } in
+    subst (λ (w : List ℕ). IsSlot w slot) (sym (c.deref.ensures.value ∙ c.put_op.ensures.items))
+    (slot-last b slot op c.put_op.ensures.well (c.len.ensures ∙ vec-long c.self.inside.arena)
+    (c.of.ensures ∙ ap head_of c.bytes.ensures.bytes))
 
 pub returns-clause-items : goal.returns-clause-items
 returns-clause-items c =
     let b = c.self.inside.arena.items in
     let ps = c.self.inside.pages.items in
     let op : Op = record { key = c.args.key; value = c.args.value } in
-    let slot : Slot = record { commit = c.args.commit; place = c.args.place; txn = c.args.txn; at = c.len.result } in
+    let slot : Slot = record { head = c.of.result; commit = c.args.commit; place = c.args.place; txn = c.args.txn; at = c.len.result } in
     let v = stored c.args.key c.args.commit c.args.txn c.args.place c.args.value in
     let is : c.deref.result.now ≡ b ++ encode_op op = c.deref.ensures.value ∙ c.put_op.ensures.items in
     let here : seen (b ++ encode_op op) slot ≡ v =

@@ -1,4 +1,5 @@
--- What a finish does to the parts of a source: it logs all first, and takes what was applied last, so that it can go back until then.
+-- What a finish does to the parts of a source. These are the words of private functions, which log all first and take what was
+-- applied last, so that they can go back until then; what the call `finish` promises is in Calls alone.
 --     are_committed txns ps      the transactions of these pairs are committed
 --     applies_in txns ps j      an apply of the transaction on the tablet for each of the pairs in turn
 --     safes_in ids j      a safe record at its own time on each of the tablets in turn

@@ -7,15 +7,16 @@ use Rattle.std.proofs.lemmas.List.{length-map, get_or-map, get_or_at, set_at, dr
 use Rattle.std.proofs.lemmas.List.{map-append}
 use Rattle.std.proofs.lemmas.List.Elements.{All-filter, All-from_get_or, filter_passes}
 use Rattle.std.specs.List.{All}
-use Rattle.xc_record.specs.Hash.{hash_of}
+use Rattle.xc_record.specs.Packed.{encode_op}
+use Rattle.xc_arena.specs.Arena.{op_at}
 use Rattle.xc_intents.specs.declared.slots.Slot.{Slot}
 use Rattle.xc_intents.specs.declared.slots.Chain.{Chain}
 use Rattle.xc_intents.specs.Slots.{at, chain_at, no_chain, blank, bare, is_live, is_used, cut, slot_op, held_in, mine, NextTo, ChainFits}
-use Rattle.xc_intents.specs.Slots.{HasChain, Distinct, twig, loose, IsTree, Linked, IsChained}
+use Rattle.xc_intents.specs.Slots.{HasChain, Distinct, twig, loose, IsTree, Linked, Keeps, Holds, IsChained, size_of}
 use Rattle.xc_intents.proofs.Trees.{tree-same}
 use Rattle.xc_intents.proofs.Links.{Linked-tree}
 use Rattle.xc_intents.proofs.Chains.{Fewer-set, Linked-fewer, at-set_other, length-bare}
-use Rattle.xc_intents.proofs.Walks.{Hashed, held-same, hashed-same, at-bare}
+use Rattle.xc_intents.proofs.Walks.{held-same, holds-same, at-bare}
 
 -- ---- chains are cut
 
@@ -81,11 +82,11 @@ filter-twice (x ∷ xs) = go x.live refl (filter-twice xs)
         ∙ ap (λ ys. x ∷ ys) rest
     go false e rest = rest
 
-pub held-filter : (xs : List Slot) → held_in (filter is_live xs) ≡ held_in xs
-held-filter xs = ap (map slot_op) (filter-twice xs)
+pub held-filter : (b : List ℕ) (xs : List Slot) → held_in b (filter is_live xs) ≡ held_in b xs
+held-filter b xs = ap (map (slot_op b)) (filter-twice xs)
 
-pub length-held_filter : (xs : List Slot) → length (held_in (filter is_live xs)) ≡ length (filter is_live xs)
-length-held_filter xs = length-map (filter is_live (filter is_live xs)) slot_op ∙ ap length (filter-twice xs)
+pub length-held_filter : (b : List ℕ) (xs : List Slot) → length (held_in b (filter is_live xs)) ≡ length (filter is_live xs)
+length-held_filter b xs = length-map (filter is_live (filter is_live xs)) (slot_op b) ∙ ap length (filter-twice xs)
 
 pub live-filter : (xs : List Slot) (k : ℕ) → k < length (filter is_live xs) → (at (filter is_live xs) k).live ≡ true
 live-filter xs k h = filter_passes is_live xs k blank h
@@ -95,8 +96,13 @@ slots-filter : (P : Slot → Type 0) (xs : List Slot) → ((k : ℕ) → k < len
     → P (at (filter is_live xs) k)
 slots-filter P xs h k low = All-filter is_live P xs (All-from_get_or P xs blank h) k blank low
 
-pub hashed-filter : (xs : List Slot) → Hashed xs → Hashed (filter is_live xs)
-hashed-filter xs h = slots-filter (λ s. s.hash ≡ hash_of s.op.key) xs h
+pub holds-filter : (b : List ℕ) (xs : List Slot) → Holds b xs → Holds b (filter is_live xs)
+holds-filter b xs h = slots-filter (Keeps b) xs h
+
+-- the bytes of slots but for their links
+size-bare : (b : List ℕ) (xs : List Slot) → size_of b (map bare xs) ≡ size_of b xs
+size-bare b [] = refl
+size-bare b (x ∷ xs) = ap (λ n. length (encode_op (op_at b x.at)) + n) (size-bare b xs)
 
 pub has-filter : (xs : List Slot) (cs : List Chain) → Linked xs cs (length xs) → (k : ℕ) → k < length (filter is_live xs)
     → HasChain cs (at (filter is_live xs) k).txn
@@ -159,7 +165,7 @@ Linked-used xs cs ds n live l same tree =
     used i a c t (Some j) next = refl
 
 -- slots that are live, and linked anew
-module _ (xs ys : List Slot) (cs ds : List Chain) (chained : IsChained xs cs) (same : map bare ys ≡ map bare (filter is_live xs))
+module _ (xs ys : List Slot) (ds : List Chain) (small : length xs ≤ 2 ^ 32) (same : map bare ys ≡ map bare (filter is_live xs))
     (l : Linked ys ds (length ys)) where
   anew-long : length ys ≡ length (filter is_live xs)
   anew-long = length-bare (filter is_live xs) ys same
@@ -170,17 +176,20 @@ module _ (xs ys : List Slot) (cs ds : List Chain) (chained : IsChained xs cs) (s
       let low : k < length (filter is_live xs) = omega arith in
       ap (λ (s : Slot). s.live) (at-bare (filter is_live xs) ys k same low) ∙ live-filter xs k low
 
-  pub anew-held : held_in ys ≡ held_in xs
-  anew-held = held-same (filter is_live xs) ys same ∙ held-filter xs
+  pub anew-held : (b : List ℕ) → held_in b ys ≡ held_in b xs
+  anew-held b = held-same b (filter is_live xs) ys same ∙ held-filter b xs
 
-  pub anew-all : length (held_in ys) ≡ length ys
-  anew-all = ap length (held-same (filter is_live xs) ys same) ∙ length-held_filter xs ∙ sym anew-long
+  pub anew-all : (b : List ℕ) → length (held_in b ys) ≡ length ys
+  anew-all b = ap length (held-same b (filter is_live xs) ys same) ∙ length-held_filter b xs ∙ sym anew-long
 
-  pub anew-chained : (es : List Chain) → length (filter is_live xs) ≤ length xs → map loose es ≡ map loose (filter is_used ds)
-      → IsTree es (length es) → length es ≤ 2 ^ 32 → IsChained ys es
-  anew-chained es short kept tree few = record {
+  pub anew-size : (b : List ℕ) → size_of b ys ≡ size_of b (filter is_live xs)
+  anew-size b = sym (size-bare b ys) ∙ ap (size_of b) same ∙ size-bare b (filter is_live xs)
+
+  pub anew-chained : (b : List ℕ) → Holds b xs → (es : List Chain) → length (filter is_live xs) ≤ length xs
+      → map loose es ≡ map loose (filter is_used ds) → IsTree es (length es) → length es ≤ 2 ^ 32 → IsChained b ys es
+  anew-chained b holds es short kept tree few = record {
     linked = Linked-used ys ds es (length ys) anew-live l kept tree;
-    hashed = hashed-same (filter is_live xs) ys same (hashed-filter xs chained.hashed);
-    small = omega (arith, anew-long, chained.small);
+    holds = holds-same b (filter is_live xs) ys same (holds-filter b xs holds);
+    small = omega (arith, anew-long, small);
     few = few;
   }

@@ -5,3 +5,4 @@ pub mod Chains
 pub mod Links
 pub mod Walks
 pub mod Gathers
+pub mod Carries

@@ -14,36 +14,37 @@ use Rattle.xc_intents.specs.HeldOps.{Sought, in_range, is_part, is_sought, witho
 use Rattle.xc_intents.specs.declared.slots.Slot.{Slot}
 use Rattle.xc_intents.specs.declared.slots.Chain.{Chain}
 use Rattle.xc_intents.specs.Slots.{at, chain_at, blank, bare, is_live, slot_op, held_in, mine, in_walk, PassedTo, ChainFits, HasChain}
+use Rattle.xc_intents.specs.Slots.{Keeps, Holds}
+use Rattle.xc_arena.specs.Arena.{key_at}
 use Rattle.xc_intents.specs.Slots.{NoChain, Linked, SameWalk, begun, walk_of, IsFirst, IsFound, IsChained, dead, no_chain, sought_by}
-use Rattle.xc_intents.proofs.Chains.{Linked-fewer, Linked-chain, length-bare, false-and, Linked-dies, at-field}
+use Rattle.xc_intents.proofs.Chains.{Linked-fewer, Linked-chain, length-bare, false-and, Linked-dies, at-set_same, at-set_other}
 use Rattle.xc_intents.proofs.Links.{not-mine}
 use Rattle.std.proofs.lemmas.Bool.Decides.{nat_tests}
 
 -- ---- slots but for their links
 
-held-bare : (xs : List Slot) → held_in (map bare xs) ≡ held_in xs
-held-bare [] = refl
-held-bare (x ∷ xs) = elim x.live as
-    (λ b. map slot_op (cond b (bare x ∷ filter is_live (map bare xs)) (filter is_live (map bare xs))) ≡ map slot_op
-    (cond b (x ∷ filter is_live xs) (filter is_live xs)))
-    [ true ↦ ap (λ ys. slot_op x ∷ ys) (held-bare xs) | false ↦ held-bare xs ]
+held-bare : (b : List ℕ) (xs : List Slot) → held_in b (map bare xs) ≡ held_in b xs
+held-bare b [] = refl
+held-bare b (x ∷ xs) = elim x.live as
+    (λ l. map (slot_op b) (cond l (bare x ∷ filter is_live (map bare xs)) (filter is_live (map bare xs))) ≡ map (slot_op b)
+    (cond l (x ∷ filter is_live xs) (filter is_live xs)))
+    [ true ↦ ap (λ ys. slot_op b x ∷ ys) (held-bare b xs) | false ↦ held-bare b xs ]
 
-pub held-same : (xs ys : List Slot) → map bare ys ≡ map bare xs → held_in ys ≡ held_in xs
-held-same xs ys e = sym (held-bare ys) ∙ ap held_in e ∙ held-bare xs
+pub held-same : (b : List ℕ) (xs ys : List Slot) → map bare ys ≡ map bare xs → held_in b ys ≡ held_in b xs
+held-same b xs ys e = sym (held-bare b ys) ∙ ap (held_in b) e ∙ held-bare b xs
 
 pub at-bare : (xs ys : List Slot) (k : ℕ) → map bare ys ≡ map bare xs → k < length xs → bare (at ys k) ≡ bare (at xs k)
 at-bare xs ys k e h =
     let long = length-bare xs ys e in
     sym (get_or-map bare ys k blank blank (omega arith)) ∙ ap (λ zs. at zs k) e ∙ get_or-map bare xs k blank blank h
 
-abbrev pub Hashed : List Slot → Type 0
-Hashed xs = (i : ℕ) → i < length xs → (at xs i).hash ≡ hash_of (at xs i).op.key
-
-pub hashed-same : (xs ys : List Slot) → map bare ys ≡ map bare xs → Hashed xs → Hashed ys
-hashed-same xs ys e h = λ i b.
+pub holds-same : (b : List ℕ) (xs ys : List Slot) → map bare ys ≡ map bare xs → Holds b xs → Holds b ys
+holds-same b xs ys e h = λ i low.
     let long = length-bare xs ys e in
-    let same = at-bare xs ys i e (omega arith) in
-    ap (λ (z : Slot). z.hash) same ∙ h i (omega arith) ∙ ap (λ (z : Slot). hash_of z.op.key) (sym same)
+    let was = h i (omega arith) in
+    let old : Keeps b (bare (at xs i)) = record { lies = was.lies; hashed = was.hashed } in
+    let new = subst (Keeps b) (sym (at-bare xs ys i e (omega arith))) old in
+    record { lies = new.lies; hashed = new.hashed }
 
 -- ---- one more slot
 
@@ -53,16 +54,16 @@ at-push xs s = get_or_at xs s [] blank (length xs) refl
 pub at-before : (xs : List Slot) (s : Slot) (k : ℕ) → k < length xs → at (xs ++ s ∷ []) k ≡ at xs k
 at-before xs s k h = get_or_append_left xs (s ∷ []) blank k h
 
-pub held-push : (xs : List Slot) (s : Slot) → s.live ≡ true → held_in (xs ++ s ∷ []) ≡ held_in xs ++ slot_op s ∷ []
-held-push xs s e = ap (map slot_op) (filter-append is_live xs (s ∷ []) ∙ rw e refl) ∙ map-append slot_op (filter is_live xs) (s ∷ [])
+pub held-push : (b : List ℕ) (xs : List Slot) (s : Slot) → s.live ≡ true → held_in b (xs ++ s ∷ []) ≡ held_in b xs ++ slot_op b s ∷ []
+held-push b xs s e = ap (map (slot_op b)) (filter-append is_live xs (s ∷ []) ∙ rw e refl)
+    ∙ map-append (slot_op b) (filter is_live xs) (s ∷ [])
 
-pub hashed-push : (xs : List Slot) (s : Slot) → s.hash ≡ hash_of s.op.key → Hashed xs → Hashed (xs ++ s ∷ [])
-hashed-push xs s e h = λ i b.
+pub holds-push : (b : List ℕ) (xs : List Slot) (s : Slot) → Keeps b s → Holds b xs → Holds b (xs ++ s ∷ [])
+holds-push b xs s keeps h = λ i low.
     let long = length_push xs s in
     ⊎_elim
-    (λ (here : i ≡ length xs). subst (λ k. (at (xs ++ s ∷ []) k).hash ≡ hash_of (at (xs ++ s ∷ []) k).op.key) (sym here)
-    (subst (λ (z : Slot). z.hash ≡ hash_of z.op.key) (sym (at-push xs s)) e))
-    (λ (other : i ≢ length xs). subst (λ (z : Slot). z.hash ≡ hash_of z.op.key) (sym (at-before xs s i (omega arith))) (h i (omega arith)))
+    (λ (here : i ≡ length xs). subst (λ k. Keeps b (at (xs ++ s ∷ []) k)) (sym here) (subst (Keeps b) (sym (at-push xs s)) keeps))
+    (λ (other : i ≢ length xs). subst (Keeps b) (sym (at-before xs s i (omega arith))) (h i (omega arith)))
     (cases_eq i (length xs))
 
 pub Linked-push : (xs : List Slot) (cs : List Chain) (s : Slot) → Linked xs cs (length xs) → Linked (xs ++ s ∷ []) cs (length xs)
@@ -145,19 +146,20 @@ found-as xs c d (Some i) w f = record {
 
 -- ---- what is held
 
-held-cons : (x : Slot) (xs : List Slot) → held_in (x ∷ xs) ≡ cond x.live (slot_op x ∷ held_in xs) (held_in xs)
-held-cons x xs = elim x.live as
-    (λ b. map slot_op (cond b (x ∷ filter is_live xs) (filter is_live xs)) ≡ cond b (slot_op x ∷ held_in xs)
-    (held_in xs)) [ true ↦ refl | false ↦ refl ]
+pub held-cons : (b : List ℕ) (x : Slot) (xs : List Slot)
+    → held_in b (x ∷ xs) ≡ cond x.live (slot_op b x ∷ held_in b xs) (held_in b xs)
+held-cons b x xs = elim x.live as
+    (λ l. map (slot_op b) (cond l (x ∷ filter is_live xs) (filter is_live xs)) ≡ cond l (slot_op b x ∷ held_in b xs)
+    (held_in b xs)) [ true ↦ refl | false ↦ refl ]
 
-held-live : (x : Slot) (xs : List Slot) → x.live ≡ true → held_in (x ∷ xs) ≡ slot_op x ∷ held_in xs
-held-live x xs e = held-cons x xs ∙ rw e refl
+held-live : (b : List ℕ) (x : Slot) (xs : List Slot) → x.live ≡ true → held_in b (x ∷ xs) ≡ slot_op b x ∷ held_in b xs
+held-live b x xs e = held-cons b x xs ∙ rw e refl
 
-held-dead : (x : Slot) (xs : List Slot) → x.live ≡ false → held_in (x ∷ xs) ≡ held_in xs
-held-dead x xs e = held-cons x xs ∙ rw e refl
+held-dead : (b : List ℕ) (x : Slot) (xs : List Slot) → x.live ≡ false → held_in b (x ∷ xs) ≡ held_in b xs
+held-dead b x xs e = held-cons b x xs ∙ rw e refl
 
 -- the first slot that is live and passes gives the first operation that passes
-module _ (p : KeyWaiting → Bool) where
+module _ (b : List ℕ) (p : KeyWaiting → Bool) where
   find-yes : (w : KeyWaiting) (ws : List KeyWaiting) → p w ≡ true → find p (w ∷ ws) ≡ Some w
   find-yes w ws e = rw e refl
 
@@ -171,87 +173,100 @@ module _ (p : KeyWaiting → Bool) where
   without-no w ws e = rw e refl
 
   abbrev pub lives : Slot → Bool
-  lives s = s.live && p (slot_op s)
+  lives s = s.live && p (slot_op b s)
 
   abbrev pub FirstHeld : List Slot → ℕ → Type 0
-  FirstHeld xs i = (find p (held_in xs) ≡ Some (slot_op (at xs i))) × (held_in (set xs i (dead (at xs i))) ≡ without_first p (held_in xs))
+  FirstHeld xs i = (find p (held_in b xs) ≡ Some (slot_op b (at xs i))) × (held_in b (set xs i (dead (at xs i))) ≡ without_first p (held_in b xs))
 
-  first-step : (x : Slot) (xs : List Slot) (i : ℕ) (b : Bool) → x.live ≡ b → (b && p (slot_op x)) ≡ false → FirstHeld xs i
+  first-step : (x : Slot) (xs : List Slot) (i : ℕ) (l : Bool) → x.live ≡ l → (l && p (slot_op b x)) ≡ false → FirstHeld xs i
       → FirstHeld (x ∷ xs) (suc i)
   first-step x xs i false e f r = (
-    ap (find p) (held-dead x xs e) ∙ r.0,
-    held-dead x (set xs i (dead (at xs i))) e ∙ r.1 ∙ ap (without_first p) (sym (held-dead x xs e)),
+    ap (find p) (held-dead b x xs e) ∙ r.0,
+    held-dead b x (set xs i (dead (at xs i))) e ∙ r.1 ∙ ap (without_first p) (sym (held-dead b x xs e)),
   )
   first-step x xs i true e f r = (
-    ap (find p) (held-live x xs e) ∙ find-no (slot_op x) (held_in xs) f ∙ r.0,
-    held-live x (set xs i (dead (at xs i))) e ∙ ap (λ ys. slot_op x ∷ ys) r.1
-        ∙ sym (ap (without_first p) (held-live x xs e) ∙ without-no (slot_op x) (held_in xs) f),
+    ap (find p) (held-live b x xs e) ∙ find-no (slot_op b x) (held_in b xs) f ∙ r.0,
+    held-live b x (set xs i (dead (at xs i))) e ∙ ap (λ ys. slot_op b x ∷ ys) r.1
+        ∙ sym (ap (without_first p) (held-live b x xs e) ∙ without-no (slot_op b x) (held_in b xs) f),
   )
 
   pub first-held : (xs : List Slot) (i : ℕ) → i < length xs → lives (at xs i) ≡ true → ((k : ℕ) → k < i → lives (at xs k) ≡ false)
       → FirstHeld xs i
   first-held [] i h e n = absurd (omega arith)
   first-held (x ∷ xs) zero h e n =
-      let parts = and_parts x.live (p (slot_op x)) e in (
-        ap (find p) (held-live x xs parts.0) ∙ find-yes (slot_op x) (held_in xs) parts.1,
-        held-dead (dead x) xs refl ∙ sym (ap (without_first p) (held-live x xs parts.0) ∙ without-yes (slot_op x) (held_in xs) parts.1),
+      let parts = and_parts x.live (p (slot_op b x)) e in (
+        ap (find p) (held-live b x xs parts.0) ∙ find-yes (slot_op b x) (held_in b xs) parts.1,
+        held-dead b (dead x) xs refl ∙ sym (ap (without_first p) (held-live b x xs parts.0) ∙ without-yes (slot_op b x) (held_in b xs) parts.1),
       )
   first-held (x ∷ xs) (suc i) h e n =
-      first-step x xs i x.live refl (n 0 (omega arith)) (first-held xs i (omega arith) e (λ k b. n (suc k) (omega arith)))
+      first-step x xs i x.live refl (n 0 (omega arith)) (first-held xs i (omega arith) e (λ k low. n (suc k) (omega arith)))
 
-  none-step : (x : Slot) (xs : List Slot) (b : Bool) → x.live ≡ b → (b && p (slot_op x)) ≡ false → find p (held_in xs) ≡ None
-      → find p (held_in (x ∷ xs)) ≡ None
-  none-step x xs false e f r = ap (find p) (held-dead x xs e) ∙ r
-  none-step x xs true e f r = ap (find p) (held-live x xs e) ∙ find-no (slot_op x) (held_in xs) f ∙ r
+  none-step : (x : Slot) (xs : List Slot) (l : Bool) → x.live ≡ l → (l && p (slot_op b x)) ≡ false → find p (held_in b xs) ≡ None
+      → find p (held_in b (x ∷ xs)) ≡ None
+  none-step x xs false e f r = ap (find p) (held-dead b x xs e) ∙ r
+  none-step x xs true e f r = ap (find p) (held-live b x xs e) ∙ find-no (slot_op b x) (held_in b xs) f ∙ r
 
-  pub none-held : (xs : List Slot) → ((k : ℕ) → k < length xs → lives (at xs k) ≡ false) → find p (held_in xs) ≡ None
+  pub none-held : (xs : List Slot) → ((k : ℕ) → k < length xs → lives (at xs k) ≡ false) → find p (held_in b xs) ≡ None
   none-held [] n = refl
-  none-held (x ∷ xs) n = none-step x xs x.live refl (n 0 (omega arith)) (none-held xs (λ k b. n (suc k) (omega arith)))
+  none-held (x ∷ xs) n = none-step x xs x.live refl (n 0 (omega arith)) (none-held xs (λ k low. n (suc k) (omega arith)))
 
 and-assoc : (a b c : Bool) → ((a && b) && c) ≡ (a && (b && c))
 and-assoc true b c = refl
 and-assoc false b c = refl
 
 -- what a walk looks for is a live slot of a part
-pub sought : (t lo hi : ℕ) (s : Slot) → s.hash ≡ hash_of s.op.key → in_walk (walk_of t lo hi) s ≡ lives (is_part t lo hi) s
-sought t lo hi s e = and-assoc s.live (t == s.txn) (in_range lo hi s.hash) ∙ ap (λ h. s.live && (t == s.txn && in_range lo hi h)) e
+pub sought : (b : List ℕ) (t lo hi : ℕ) (s : Slot) → s.hash ≡ hash_of (key_at b s.at)
+    → in_walk (walk_of t lo hi) s ≡ lives b (is_part t lo hi) s
+sought b t lo hi s e = and-assoc s.live (t == s.txn) (in_range lo hi s.hash)
+    ∙ ap (λ h. s.live && (t == s.txn && in_range lo hi h)) e
 
 -- ---- what is found is taken out
 
-module _ (xs ys : List Slot) (t lo hi : ℕ) (same : map bare ys ≡ map bare xs) (hashed : Hashed xs) where
+module _ (b : List ℕ) (xs ys : List Slot) (t lo hi : ℕ) (same : map bare ys ≡ map bare xs) (holds : Holds b xs) where
   -- what the walk passes over
-  fails : (k : ℕ) → k < length ys → in_walk (walk_of t lo hi) (at ys k) ≡ false → lives (is_part t lo hi) (at ys k) ≡ false
-  fails k b e = sym (sought t lo hi (at ys k) (hashed-same xs ys same hashed k b)) ∙ e
+  fails : (k : ℕ) → k < length ys → in_walk (walk_of t lo hi) (at ys k) ≡ false → lives b (is_part t lo hi) (at ys k) ≡ false
+  fails k low e = sym (sought b t lo hi (at ys k) (holds-same b xs ys same holds k low).hashed) ∙ e
 
-  pub none-found : IsFound ys (walk_of t lo hi) None → find (is_part t lo hi) (held_in xs) ≡ None
-  none-found found = ap (find (is_part t lo hi)) (sym (held-same xs ys same))
-      ∙ none-held (is_part t lo hi) ys (λ k b. fails k b (found k b))
+  pub none-found : IsFound ys (walk_of t lo hi) None → find (is_part t lo hi) (held_in b xs) ≡ None
+  none-found found = ap (find (is_part t lo hi)) (sym (held-same b xs ys same))
+      ∙ none-held b (is_part t lo hi) ys (λ k low. fails k low (found k low))
 
-  first-found : (i : ℕ) → IsFirst ys (walk_of t lo hi) i → FirstHeld (is_part t lo hi) ys i
+  first-found : (i : ℕ) → IsFirst ys (walk_of t lo hi) i → FirstHeld b (is_part t lo hi) ys i
   first-found i found =
       let low : i < length ys = found.below in
-      first-held (is_part t lo hi) ys i low (sym (sought t lo hi (at ys i) (hashed-same xs ys same hashed i low)) ∙ found.found)
-      (λ k b. fails k (omega arith) (found.none k b))
+      first-held b (is_part t lo hi) ys i low
+      (sym (sought b t lo hi (at ys i) (holds-same b xs ys same holds i low).hashed) ∙ found.found)
+      (λ k l. fails k (omega arith) (found.none k l))
 
-  pub found-op : (i : ℕ) → IsFirst ys (walk_of t lo hi) i → find (is_part t lo hi) (held_in xs) ≡ Some (slot_op (at ys i))
-  found-op i found = ap (find (is_part t lo hi)) (sym (held-same xs ys same)) ∙ (first-found i found).0
+  pub found-op : (i : ℕ) → IsFirst ys (walk_of t lo hi) i → find (is_part t lo hi) (held_in b xs) ≡ Some (slot_op b (at ys i))
+  found-op i found = ap (find (is_part t lo hi)) (sym (held-same b xs ys same)) ∙ (first-found i found).0
 
   pub found-left : (i : ℕ) → IsFirst ys (walk_of t lo hi) i
-      → held_in (set ys i (dead (at ys i))) ≡ without_first (is_part t lo hi) (held_in xs)
-  found-left i found = (first-found i found).1 ∙ ap (without_first (is_part t lo hi)) (held-same xs ys same)
+      → held_in b (set ys i (dead (at ys i))) ≡ without_first (is_part t lo hi) (held_in b xs)
+  found-left i found = (first-found i found).1 ∙ ap (without_first (is_part t lo hi)) (held-same b xs ys same)
 
-  pub chained-same : (cs : List Chain) → Linked ys cs (length ys) → length xs ≤ 2 ^ 32 → length cs ≤ 2 ^ 32 → IsChained ys cs
+  pub chained-same : (cs : List Chain) → Linked ys cs (length ys) → length xs ≤ 2 ^ 32 → length cs ≤ 2 ^ 32 → IsChained b ys cs
   chained-same cs l small few =
-      record { linked = l; hashed = hashed-same xs ys same hashed; small = omega (arith, length-bare xs ys same); few = few }
+      record { linked = l; holds = holds-same b xs ys same holds; small = omega (arith, length-bare xs ys same); few = few }
 
-pub chained-dies : (ys : List Slot) (cs : List Chain) (i : ℕ) → i < length ys → IsChained ys cs → IsChained (set ys i (dead (at ys i))) cs
-chained-dies ys cs i b c =
+holds-dies : (b : List ℕ) (ys : List Slot) (i : ℕ) → i < length ys → Holds b ys → Holds b (set ys i (dead (at ys i)))
+holds-dies b ys i h holds = λ k low.
+    let long = length-set ys i (dead (at ys i)) in
+    let was = holds i h in
+    let died : Keeps b (dead (at ys i)) = record { lies = was.lies; hashed = was.hashed } in
+    ⊎_elim
+    (λ (here : k ≡ i). subst (λ m. Keeps b (at (set ys i (dead (at ys i))) m)) (sym here)
+    (subst (Keeps b) (sym (at-set_same ys i (dead (at ys i)) h)) died))
+    (λ (other : k ≢ i). subst (Keeps b) (sym (at-set_other ys i k (dead (at ys i)) other)) (holds k (omega arith)))
+    (cases_eq k i)
+
+pub chained-dies : (b : List ℕ) (ys : List Slot) (cs : List Chain) (i : ℕ) → i < length ys → IsChained b ys cs
+    → IsChained b (set ys i (dead (at ys i))) cs
+chained-dies b ys cs i h c =
     let long = length-set ys i (dead (at ys i)) in
     record {
-      linked = subst (Linked (set ys i (dead (at ys i))) cs) (sym long) (Linked-dies (length ys) ys cs i (dead (at ys i)) b refl c.linked);
-      hashed = λ k low.
-          at-field (λ (z : Slot). z.hash) ys i k (dead (at ys i)) b refl ∙ c.hashed k (omega arith)
-          ∙ sym (at-field (λ (z : Slot). hash_of z.op.key) ys i k (dead (at ys i)) b refl);
+      linked = subst (Linked (set ys i (dead (at ys i))) cs) (sym long) (Linked-dies (length ys) ys cs i (dead (at ys i)) h refl c.linked);
+      holds = holds-dies b ys i h c.holds;
       small = omega (arith, c.small);
       few = c.few;
     }

@@ -1,5 +1,6 @@
--- How the operations lie in slots, and how the slots of a transaction are chained.
---     held_in xs      the operations of the slots that are live, in their order
+-- How the operations lie in slots and in an arena b, and how the slots of a transaction are chained.
+--     held_in b xs      the operations of the slots that are live, in their order
+--     size_of b xs      how many bytes the operations of the slots have
 --     NextTo t xs from n o      o is the first slot of t from `from` on, up to n; dead slots of t may stand before it
 --     next_of xs c      where the walk of the chain c goes on; WalkTo xs n c o      what is known there
 --     ChainFits xs n c      the chain's ends, and what its last walk passed, are right for the first n slots
@@ -7,14 +8,18 @@
 --     IsTree cs n      the first n chains are in the tree, each where its transaction leads
 --     Linked xs cs n      so are all links and chains, and each of these slots has a chain
 --     sought_by c      what the walk of the chain c looks for
---     IsChained xs cs      all slots are linked, and know their keys' hashes
+--     Holds b xs      for each slot an operation lies in the arena, whose key's hash the slot knows
+--     IsChained b xs cs      so they do, and all are linked
+--     Carried b xs d ys      ys are the slots xs, whose operations were moved to the arena d
 use Rattle.std.specs.Prelude.{◌≡◌, ◌≢◌, ℕ, zero, suc, ◌+◌, ◌-◌, ◌≤◌, ◌<◌, ◌^◌, ◌*◌, ◌%◌, min, Bool, true, false, ◌&&◌, ◌==◌, List, []}
+use Rattle.std.specs.Prelude.{◌∷◌}
 use Rattle.std.specs.Prelude.{Option, Some, None}
 use Rattle.std.specs.Prelude.{length, map, filter, slice_index_or, slice_set, nat_le, is_some, if◌then◌else◌}
 use Rattle.std.specs.Option.{option_map_or}
 use Rattle.xc_record.specs.Hash.{hash_of}
 use Rattle.xc_record.specs.Kept.{KeyWaiting}
-use Rattle.xc_record.specs.declared.record.Op.{Op}
+use Rattle.xc_record.specs.Packed.{encode_op}
+use Rattle.xc_arena.specs.Arena.{key_at, op_at, Lies}
 use Rattle.xc_intents.specs.HeldOps.{Sought, held_op, in_range}
 use Rattle.xc_intents.specs.declared.slots.Slot.{Slot}
 use Rattle.xc_intents.specs.declared.slots.Chain.{Chain}
@@ -24,18 +29,22 @@ use Rattle.xc_intents.specs.declared.slots.Chain.{Chain}
 abbrev pub is_live : Slot → Bool
 is_live s = s.live
 
-abbrev pub slot_op : Slot → KeyWaiting
-slot_op s = held_op s.txn s.sub s.op
+abbrev pub slot_op : List ℕ → Slot → KeyWaiting
+slot_op b s = held_op s.txn s.sub (op_at b s.at)
 
-abbrev pub held_in : List Slot → List KeyWaiting
-held_in xs = map slot_op (filter is_live xs)
+abbrev pub held_in : List ℕ → List Slot → List KeyWaiting
+held_in b xs = map (slot_op b) (filter is_live xs)
 
--- for how many more operations there is room, by the capacities and the lengths
+abbrev pub size_of : List ℕ → List Slot → ℕ
+size_of b [] = 0
+size_of b (s ∷ ss) = length (encode_op (op_at b s.at)) + size_of b ss
+
+-- for how many more operations there are slots and chains, by the capacities and the lengths
 abbrev pub room_in : ℕ → ℕ → ℕ → ℕ → ℕ
 room_in slot_cap slot_len chain_cap chain_len = min (min slot_cap (2 ^ 32) - slot_len) (min chain_cap (2 ^ 32) - chain_len)
 
 abbrev pub blank : Slot
-blank = record { next = None; txn = 0; hash = 0; sub = 0; live = false; op = record { key = []; value = None } }
+blank = record { next = None; txn = 0; hash = 0; sub = 0; live = false; at = 0 }
 
 abbrev pub at : List Slot → ℕ → Slot
 at xs i = slice_index_or xs i blank
@@ -46,9 +55,9 @@ no_chain t = record { txn = t; first = None; last = None; lo = 0; hi = 0; passed
 abbrev pub chain_at : List Chain → ℕ → Chain
 chain_at cs e = slice_index_or cs e (no_chain 0)
 
--- the slot of an operation that is in no chain yet
-abbrev pub fresh : ℕ → ℕ → Op → Slot
-fresh t sub op = record { next = None; txn = t; hash = hash_of op.key; sub = sub; live = true; op = op }
+-- the slot of an operation with this key that is in no chain yet, and begins at n
+abbrev pub fresh : ℕ → ℕ → List ℕ → ℕ → Slot
+fresh t sub key n = record { next = None; txn = t; hash = hash_of key; sub = sub; live = true; at = n }
 
 -- ---- links
 
@@ -197,16 +206,37 @@ pub record Linked (xs : List Slot) (cs : List Chain) (n : ℕ) : Type 0 where
   pub has : (i : ℕ) → i < n → HasChain cs (at xs i).txn
   pub tree : IsTree cs (length cs)
 
-pub record IsChained (xs : List Slot) (cs : List Chain) : Type 0 where
+pub record Keeps (b : List ℕ) (s : Slot) : Type 0 where
+  pub lies : Lies b s.at
+  pub hashed : s.hash ≡ hash_of (key_at b s.at)
+
+abbrev pub Holds : List ℕ → List Slot → Type 0
+Holds b xs = (i : ℕ) → i < length xs → Keeps b (at xs i)
+
+pub record IsChained (b : List ℕ) (xs : List Slot) (cs : List Chain) : Type 0 where
   pub linked : Linked xs cs (length xs)
-  pub hashed : (i : ℕ) → i < length xs → (at xs i).hash ≡ hash_of (at xs i).op.key
+  pub holds : Holds b xs
   pub small : length xs ≤ 2 ^ 32
   pub few : length cs ≤ 2 ^ 32
 
 -- and so many of them are dead
-pub record AreSlots (xs : List Slot) (cs : List Chain) (dead : ℕ) : Type 0 where
-  pub chained : IsChained xs cs
-  pub count : length (held_in xs) + dead ≡ length xs
+pub record AreSlots (b : List ℕ) (xs : List Slot) (cs : List Chain) (dead : ℕ) : Type 0 where
+  pub chained : IsChained b xs cs
+  pub count : length (held_in b xs) + dead ≡ length xs
+
+-- a slot but for the place of its operation
+abbrev pub unplaced : Slot → Slot
+unplaced s = record s { at = 0 }
+
+-- slot k was moved
+pub record IsCarried (b : List ℕ) (xs : List Slot) (d : List ℕ) (ys : List Slot) (k : ℕ) : Type 0 where
+  pub op : op_at d (at ys k).at ≡ op_at b (at xs k).at
+  pub lies : Lies d (at ys k).at
+
+pub record Carried (b : List ℕ) (xs : List Slot) (d : List ℕ) (ys : List Slot) : Type 0 where
+  pub long : length ys ≡ length xs
+  pub same : (k : ℕ) → k < length xs → unplaced (at ys k) ≡ unplaced (at xs k)
+  pub moved : (k : ℕ) → k < length xs → IsCarried b xs d ys k
 
 -- links and chains were changed, and the operations are where they were
 pub record Moves (xs : List Slot) (cs : List Chain) (ys : List Slot) (ds : List Chain) (e : ℕ) : Type 0 where

@@ -1,5 +1,6 @@
-// Operations that wait for their transactions. Memory is taken by `reserve` alone: slots that were gone through stay
-// until a quarter of them is dead, and are gathered then where there is no room.
+// Operations that wait for their transactions. Memory is taken by `reserve` alone: slots that were gone through, and
+// their operations, stay until a quarter of the slots is dead, and are gathered then where there is no room. Where none
+// is live, all begins anew.
 ghost use Rattle.std.specs.Prelude.{◌≡◌, ◌≤◌, ◌+◌, ◌++◌, ◌∷◌, [], length, filter, OnOk, None, Some, true, false};
 ghost use Rattle.std.specs.List.{find};
 ghost use Rattle.std.specs.Option.{option_map};
@@ -7,9 +8,10 @@ ghost use Rattle.xc_intents.specs.HeldOps.{held_op, is_part, is_rest, is_sought,
 ghost use Rattle.xc_intents.specs.Gifts.{WalksGiveAll};
 
 use crate::held::Held;
-use crate::slots::{Chain, Slot, append, gather, take_next, walk};
+use crate::slots::{Chain, Slot, append, gather, live_bytes, take_next, walk};
 use std::alloc::{AllocError, Global};
 use std::marker::Model;
+use xc_arena::{ARENA_BYTES, OP_BYTES, reserve_ops};
 use xc_record::Op;
 
 // Slots and chains are numbered in 32 bits.
@@ -19,12 +21,15 @@ const MOST_SLOTS: usize = 1 << 32;
 /// more there is room, and what a walk looks for.
 #[derive(Drop, Debug)]
 pub struct Intents {
+    // the operations one behind another, in the order held, with some that were taken out among them
+    arena: Vec<u8>,
     slots: Vec<Slot>,
     chains: Vec<Chain>,
     // how many slots are dead
     dead: usize,
     // the chain that was asked for last, which is tried first, and whose walk `take_next` goes on
     recent: usize,
+    alloc: Global,
 }
 
 impl Model for Intents {
@@ -33,17 +38,19 @@ impl Model for Intents {
     ghost Value = { HeldOps };
 
     ghost use Rattle.std.specs.Vec.{vec_len, vec_capacity};
-    ghost use Rattle.std.specs.Prelude.{slice_get};
+    ghost use Rattle.std.specs.Prelude.{slice_get, min};
     ghost use Rattle.std.specs.Option.{option_map};
+    ghost use Rattle.xc_arena.specs.Arena.{room_of};
     ghost use Rattle.xc_intents.specs.Slots.{held_in, room_in, sought_by, AreSlots};
 
     ghost view = { λ i. record {
-      held = held_in i.slots.items;
-      spare = room_in (vec_capacity i.slots) (vec_len i.slots) (vec_capacity i.chains) (vec_len i.chains);
+      held = held_in i.arena.items i.slots.items;
+      spare = min (room_in (vec_capacity i.slots) (vec_len i.slots)
+          (vec_capacity i.chains) (vec_len i.chains)) (room_of i.arena);
       sought = option_map sought_by (slice_get i.chains.items i.recent);
     } };
 
-    ghost invariant = { λ i. AreSlots i.slots.items i.chains.items i.dead };
+    ghost invariant = { λ i. AreSlots i.arena.items i.slots.items i.chains.items i.dead };
 }
 
 impl Intents {
@@ -52,33 +59,63 @@ impl Intents {
         ensures { result.held ≡ [] }
     {
         Intents {
+            arena: Vec::new(alloc),
             slots: Vec::new(alloc),
             chains: Vec::new(alloc),
             dead: 0,
             recent: 0,
+            alloc,
         }
     }
 
-    /// Makes room for `n` more operations. After an error, which comes where memory is out, what is held is as before.
+    /// Makes room for `n` more operations. After an error, which comes where memory is out, and where the operations,
+    /// with `n` of the most bytes, could have 2^32 bytes or more, what is held is as before.
     pub fn reserve(&mut self, n: usize) -> Result<(), AllocError>
         ensures room { OnOk result (n ≤ self.new.spare) }
         ensures same { self.new.held ≡ self.old.held }
         ensures kept { self.old.spare ≤ self.new.spare }
     {
+        self.start_over();
         self.gather_for(n);
         self.grow(n)
     }
 
-    // Gathers the slots where there is no room for so many more, and a quarter of those that are there is dead.
+    // Empties slots, chains and arena where no operation is held.
+    fn start_over(&mut self)
+        ensures same { self.new.held ≡ self.old.held }
+        ensures kept { self.old.spare ≤ self.new.spare }
+    {
+        if self.dead == self.slots.len() {
+            self.clear();
+        }
+    }
+
+    // Gathers slots and operations where there is no room for so many more, and a quarter of the slots is dead. Where
+    // memory for what is held is refused, all stays where it is.
     fn gather_for(&mut self, n: usize)
         ensures same { self.new.held ≡ self.old.held }
         ensures kept { self.old.spare ≤ self.new.spare }
     {
-        let short = self.slots.capacity() - self.slots.len() < n;
-        if short && self.dead > self.slots.len() / 4 {
-            gather(&mut self.slots, &mut self.chains);
-            self.dead = 0;
+        let spare = self.arena.capacity() - self.arena.len();
+        let short = self.slots.capacity() - self.slots.len() < n || spare / OP_BYTES < n;
+        if !short || self.dead <= self.slots.len() / 4 {
+            return;
         }
+        let Some(live) = live_bytes(&self.arena, &self.slots) else {
+            return;
+        };
+        if live > self.arena.len() || live > ARENA_BYTES {
+            return;
+        }
+        let Some(wanted) = live.checked_add(spare) else {
+            return;
+        };
+        let Ok(mut arena) = Vec::with_capacity(self.alloc, wanted) else {
+            return;
+        };
+        gather(&self.arena, &mut arena, &mut self.slots, &mut self.chains);
+        self.arena = arena;
+        self.dead = 0;
     }
 
     // Takes memory for so many more.
@@ -88,6 +125,9 @@ impl Intents {
         ensures kept { self.old.spare ≤ self.new.spare }
     {
         if n > MOST_SLOTS - self.slots.len() || n > MOST_SLOTS - self.chains.len() {
+            return Err(AllocError);
+        }
+        if reserve_ops(&mut self.arena, n).is_err() {
             return Err(AllocError);
         }
         self.slots.reserve(n)?;
@@ -100,7 +140,9 @@ impl Intents {
         ensures held { self.new.held ≡ self.old.held ++ held_op txn sub op ∷ [] }
         ensures room { self.old.spare ≤ self.new.spare + 1 }
     {
+        self.start_over();
         append(
+            &mut self.arena,
             &mut self.slots,
             &mut self.chains,
             &mut self.recent,
@@ -141,7 +183,7 @@ impl Intents {
         if self.recent >= self.chains.len() {
             return None;
         }
-        match take_next(&mut self.slots, &mut self.chains, self.recent) {
+        match take_next(&self.arena, &mut self.slots, &mut self.chains, self.recent) {
             None => None,
             Some(held) => {
                 self.dead += 1;
@@ -180,6 +222,7 @@ impl Intents {
         ensures left { self.new.held ≡ [] }
         ensures room { self.old.spare ≤ self.new.spare }
     {
+        self.arena.clear();
         self.slots.clear();
         self.chains.clear();
         self.dead = 0;

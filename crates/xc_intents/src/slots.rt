@@ -2,7 +2,7 @@
 // operation was taken out is dead, and stays in its place until the slots are gathered.
 ghost use Rattle.std.specs.Prelude.{◌≡◌, ◌<◌, ◌≤◌, ◌+◌, ◌-◌, ◌^◌, ◌++◌, ◌∷◌, ◌&&◌, ◌==◌, ℕ, List, nat_lt, [], true};
 ghost use Rattle.std.specs.Prelude.{false, length, map, filter, slice_set, slice_index_or, ⊤, None, Some};
-ghost use Rattle.std.specs.Prelude.{MatchOption, if◌then◌else◌, OnOk};
+ghost use Rattle.std.specs.Prelude.{MatchOption, if◌then◌else◌, OnOk, IfSome, min};
 ghost use Rattle.std.specs.Vec.{vec_len, vec_capacity};
 ghost use Rattle.xc_intents.specs.declared.slots.Slot.{Slot};
 ghost use Rattle.xc_record.specs.Hash.{hash_of};
@@ -12,13 +12,17 @@ ghost use Rattle.xc_intents.specs.HeldOps.{in_range, is_part, without_first, giv
 ghost use Rattle.xc_intents.specs.Slots.{Linked, IsTree, HasChain, NoChain, SameWalk, chain_at, at, in_walk, mine};
 ghost use Rattle.xc_intents.specs.Slots.{held_in, next_of, chain_to, slots_to, begun, Moves, IsFound, bare};
 ghost use Rattle.xc_intents.specs.Slots.{chain_and, slots_and, walk_of, IsChained, fresh, dead, slot_op, is_live, cut};
+ghost use Rattle.xc_intents.specs.Slots.{Keeps, Holds, Carried, size_of};
+ghost use Rattle.xc_arena.specs.Arena.{room_of};
+ghost use Rattle.xc_arena.specs.declared.limits.TheConstants.{ARENA_BYTES};
 
 use crate::held::Held;
 use crate::tree::{drop_unused, find, open};
+use xc_arena::{key, move_op, op_bytes, put_op, value_of};
 use xc_base::{Key, Value};
 use xc_record::{Op, hash};
 
-/// An operation, the slot after it in its transaction's chain, and whether it is still held.
+/// Where an operation begins in the arena, the slot after it in its transaction's chain, and whether it is still held.
 #[derive(Drop, Debug, Clone, Copy)]
 pub(crate) struct Slot {
     pub(crate) next: Option<u32>,
@@ -26,7 +30,7 @@ pub(crate) struct Slot {
     pub(crate) hash: u16,
     pub(crate) sub: u8,
     pub(crate) live: bool,
-    pub(crate) op: Op,
+    pub(crate) at: u32,
 }
 
 /// The chain of a transaction: its ends, and how far its last walk came, which looked for hashes from `lo` to `hi`.
@@ -163,25 +167,26 @@ fn link(slots: &mut [Slot], chains: &mut [Chain], e: usize, i: u32)
     put_behind(slots, &mut chains[e], i);
 }
 
-// Puts an operation into a slot behind all others, which is in no chain yet.
-fn put_last(slots: &mut Vec<Slot>, txn: u32, sub: u8, key: Key, value: Option<Value>)
+// Puts behind all others a slot of the operation that begins at the place, which is in no chain yet.
+fn put_last(slots: &mut Vec<Slot>, txn: u32, sub: u8, key: &Key, at: u32)
     requires { vec_len slots.old < vec_capacity slots.old }
-    ensures slots { slots.new.items ≡ slots.old.items ++ fresh txn sub (record { key = key; value = value }) ∷ [] }
+    ensures slots { slots.new.items ≡ slots.old.items ++ fresh txn sub key.now at ∷ [] }
     ensures len { vec_len slots.new ≡ vec_len slots.old + 1 }
     ensures capacity { vec_capacity slots.new ≡ vec_capacity slots.old }
 {
     slots.push_reserved(Slot {
         next: None,
         txn,
-        hash: hash(&key),
+        hash: hash(key),
         sub,
         live: true,
-        op: Op { key, value },
+        at,
     });
 }
 
-// Holds an operation in a slot behind all others.
+// Holds an operation in a slot behind all others, and behind all others in the arena.
 pub(crate) fn append(
+    arena: &mut Vec<u8>,
     slots: &mut Vec<Slot>,
     chains: &mut Vec<Chain>,
     recent: &mut usize,
@@ -190,21 +195,25 @@ pub(crate) fn append(
     key: Key,
     value: Option<Value>,
 )
-    requires chained { IsChained slots.old.items chains.old.items }
+    requires chained { IsChained arena.old.items slots.old.items chains.old.items }
+    requires op { 1 ≤ room_of arena.old }
     requires slot { vec_len slots.old < vec_capacity slots.old }
     requires small { vec_len slots.old < 2 ^ 32 }
     requires chain { vec_len chains.old < vec_capacity chains.old }
     requires few { vec_len chains.old < 2 ^ 32 }
-    ensures chained { IsChained slots.new.items chains.new.items }
-    ensures held { held_in slots.new.items ≡ held_in slots.old.items
+    ensures chained { IsChained arena.new.items slots.new.items chains.new.items }
+    ensures held { held_in arena.new.items slots.new.items ≡ held_in arena.old.items slots.old.items
         ++ record { key = key; txn = txn; sub = sub; value = value } ∷ [] }
+    ensures arena { room_of arena.old ≤ room_of arena.new + 1 }
     ensures slots { vec_len slots.new ≡ vec_len slots.old + 1 }
     ensures chains { vec_len chains.new ≤ vec_len chains.old + 1 }
     ensures slots_capacity { vec_capacity slots.new ≡ vec_capacity slots.old }
     ensures chains_capacity { vec_capacity chains.new ≡ vec_capacity chains.old }
 {
+    let at = arena.len() as u32;
+    put_op(arena, &key, &value);
     let i = slots.len();
-    put_last(slots, txn, sub, key, value);
+    put_last(slots, txn, sub, &key, at);
     let e = open(chains, *recent, txn);
     *recent = e;
     link(slots, chains, e, i as u32);
@@ -228,37 +237,43 @@ pub(crate) fn walk(chains: &mut [Chain], recent: usize, txn: u32, lo: u16, hi: u
 }
 
 // Takes out the operation of the slot, which dies.
-fn take_out(slots: &mut [Slot], i: usize) -> Held
-    requires { i < length slots.old }
+fn take_out(bytes: &[u8], slots: &mut [Slot], i: usize) -> Held
+    requires within { i < length slots.old }
+    requires keeps { Keeps bytes.now (at slots.old i) }
     ensures slots { slots.new ≡ slice_set slots.old i (dead (at slots.old i)) }
-    ensures held { result ≡ given (slot_op (at slots.old i)) }
+    ensures held { result ≡ given (slot_op bytes.now (at slots.old i)) }
 {
     let slot = &mut slots[i];
     slot.live = false;
     Held {
         sub: slot.sub,
-        op: slot.op,
+        op: Op {
+            key: key(bytes, slot.at),
+            value: value_of(bytes, slot.at),
+        },
     }
 }
 
 /// Takes out the next operation that the walk of the chain looks for: its slot dies.
-pub(crate) fn take_next(slots: &mut [Slot], chains: &mut [Chain], e: usize) -> Option<Held>
-    requires chained { IsChained slots.old chains.old }
+pub(crate) fn take_next(
+    bytes: &[u8],
+    slots: &mut [Slot],
+    chains: &mut [Chain],
+    e: usize,
+) -> Option<Held>
+    requires chained { IsChained bytes.now slots.old chains.old }
     requires chain { e < length chains.old }
-    ensures chained { IsChained slots.new chains.new }
+    ensures chained { IsChained bytes.now slots.new chains.new }
     ensures chains { length chains.new ≡ length chains.old }
     ensures walk { SameWalk (chain_at chains.old e) (chain_at chains.new e) }
     ensures taken { let c = chain_at chains.old e in
-        result ≡ option_map given (find (is_part c.txn c.lo c.hi) (held_in slots.old)) }
+        result ≡ option_map given (find (is_part c.txn c.lo c.hi) (held_in bytes.now slots.old)) }
     ensures left { let c = chain_at chains.old e in
-        held_in slots.new ≡ without_first (is_part c.txn c.lo c.hi) (held_in slots.old) }
+        held_in bytes.now slots.new ≡ without_first (is_part c.txn c.lo c.hi) (held_in bytes.now slots.old) }
 {
     match seek(slots, chains, e) {
         None => None,
-        Some(i) => {
-            let _value: Option<Value> = slots[i].op.value;
-            Some(take_out(slots, i))
-        }
+        Some(i) => Some(take_out(bytes, slots, i)),
     }
 }
 
@@ -318,11 +333,14 @@ fn link_again(slots: &mut [Slot], chains: &mut [Chain], i: usize)
 }
 
 // Moves the live slots together, and drops the dead ones and the chains without slots.
-pub(crate) fn gather(slots: &mut Vec<Slot>, chains: &mut Vec<Chain>)
-    requires { IsChained slots.old.items chains.old.items }
-    ensures chained { IsChained slots.new.items chains.new.items }
-    ensures held { held_in slots.new.items ≡ held_in slots.old.items }
-    ensures all { length (held_in slots.new.items) ≡ length slots.new.items }
+fn gather_slots(slots: &mut Vec<Slot>, chains: &mut Vec<Chain>)
+    requires linked { Linked slots.old.items chains.old.items (length slots.old.items) }
+    requires small { length slots.old.items ≤ 2 ^ 32 }
+    requires few { length chains.old.items ≤ 2 ^ 32 }
+    ensures chained { (b : List ℕ) → Holds b slots.old.items → IsChained b slots.new.items chains.new.items }
+    ensures held { (b : List ℕ) → held_in b slots.new.items ≡ held_in b slots.old.items }
+    ensures all { (b : List ℕ) → length (held_in b slots.new.items) ≡ length slots.new.items }
+    ensures size { (b : List ℕ) → size_of b slots.new.items ≡ size_of b (filter is_live slots.old.items) }
     ensures slots { vec_len slots.new ≤ vec_len slots.old }
     ensures chains { vec_len chains.new ≤ vec_len chains.old }
     ensures slots_capacity { vec_capacity slots.new ≡ vec_capacity slots.old }
@@ -331,6 +349,56 @@ pub(crate) fn gather(slots: &mut Vec<Slot>, chains: &mut Vec<Chain>)
     drop_dead(slots);
     chain_anew(slots, chains);
     drop_unused(chains);
+}
+
+/// How many bytes the operations of the live slots have. None comes only where a usize doesn't hold the number.
+pub(crate) fn live_bytes(bytes: &[u8], slots: &[Slot]) -> Option<usize>
+    requires { Holds bytes.now slots.now }
+    ensures { IfSome result (λ n. n ≡ size_of bytes.now (filter is_live slots.now)) }
+{
+    let mut live: usize = 0;
+    for i in 0..slots.len() {
+        let slot = slots[i];
+        if slot.live {
+            live = live.checked_add(op_bytes(bytes, slot.at).len())?;
+        }
+    }
+    Some(live)
+}
+
+// Moves the operations of the slots behind those of another arena, which has room for them.
+fn carry(bytes: &[u8], to: &mut Vec<u8>, slots: &mut [Slot])
+    requires holds { Holds bytes.now slots.old }
+    requires room { vec_len to.old + size_of bytes.now slots.old ≤ min (vec_capacity to.old) ARENA_BYTES }
+    ensures carried { Carried bytes.now slots.old to.new.items slots.new }
+    ensures len { vec_len to.new ≡ vec_len to.old + size_of bytes.now slots.old }
+    ensures capacity { vec_capacity to.old ≤ vec_capacity to.new }
+{
+    for i in 0..slots.len() {
+        let at = move_op(bytes, slots[i].at, to);
+        let slot = &mut slots[i];
+        slot.at = at;
+    }
+}
+
+/// Moves what is live together, slots and chains in their places, and operations to another arena, which is empty and
+/// has room for them.
+pub(crate) fn gather(bytes: &[u8], to: &mut Vec<u8>, slots: &mut Vec<Slot>, chains: &mut Vec<Chain>)
+    requires chained { IsChained bytes.now slots.old.items chains.old.items }
+    requires none { vec_len to.old ≡ 0 }
+    requires room { size_of bytes.now (filter is_live slots.old.items) ≤ min (vec_capacity to.old) ARENA_BYTES }
+    ensures chained { IsChained to.new.items slots.new.items chains.new.items }
+    ensures held { held_in to.new.items slots.new.items ≡ held_in bytes.now slots.old.items }
+    ensures all { length (held_in to.new.items slots.new.items) ≡ length slots.new.items }
+    ensures to { vec_len to.new ≡ size_of bytes.now (filter is_live slots.old.items) }
+    ensures to_capacity { vec_capacity to.old ≤ vec_capacity to.new }
+    ensures slots { vec_len slots.new ≤ vec_len slots.old }
+    ensures chains { vec_len chains.new ≤ vec_len chains.old }
+    ensures slots_capacity { vec_capacity slots.new ≡ vec_capacity slots.old }
+    ensures chains_capacity { vec_capacity chains.new ≡ vec_capacity chains.old }
+{
+    gather_slots(slots, chains);
+    carry(bytes, to, slots);
 }
 
 // Links all slots anew, into chains that are cut first.

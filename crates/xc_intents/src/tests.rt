@@ -139,7 +139,12 @@ fn hold_both(intents: &mut Intents, plain: &mut Vec<Plain>, state: &mut u64) -> 
     let sub = random(state, 65) as u8;
     let name = random(state, 200) as u8;
     let key = Key::new(&[97 + name % 20, 97 + name / 20]).ok()?;
-    let op = Op { key, value: None };
+    let value = if name % 3 == 0 {
+        None
+    } else {
+        Value::new(key.bytes()).ok()
+    };
+    let op = Op { key, value };
     intents.reserve(1).ok()?;
     intents.hold(txn, sub, op);
     let hash = hash(&key);
@@ -160,6 +165,7 @@ fn same_taken(got: &Option<Held>, want: &Option<Plain>) -> bool {
         (Some(held), Some(item)) => {
             held.sub == item.sub
                 && held.op.key.bytes() == [97 + item.name % 20, 97 + item.name / 20].as_slice()
+                && held.op.value.is_none() == (item.name % 3 == 0)
         }
         _ => false,
     }

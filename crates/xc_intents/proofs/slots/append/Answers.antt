@@ -2,9 +2,14 @@ use Rattle.std.proofs.Common.{◌≡◌, ◌+◌, List, [], ◌∷◌, ◌++◌,
 use Rattle.std.specs.Vec.{with_items}
 use Rattle.std.proofs.lemmas.List.{with_items_is, length_push}
 use Rattle.xc_intents.specs.declared.slots.Slot.{Slot}
-use Rattle.xc_intents.specs.Slots.{Linked, IsChained, bare, held_in, fresh}
+use Rattle.xc_record.specs.Hash.{hash_of}
+use Rattle.xc_record.specs.declared.record.Op.{Op}
+use Rattle.xc_arena.specs.Arena.{op_at, Lies}
+use Rattle.xc_intents.specs.HeldOps.{held_op}
+use Rattle.xc_intents.specs.Slots.{Linked, IsChained, Keeps, Holds, bare, slot_op, held_in, fresh}
 use Rattle.xc_intents.proofs.Chains.{length-bare}
-use Rattle.xc_intents.proofs.Walks.{Linked-push, held-push, hashed-push, hashed-same, held-same}
+use Rattle.xc_intents.proofs.Walks.{Linked-push, held-push, holds-push, holds-same, held-same}
+use Rattle.xc_intents.proofs.Carries.{holds-more, held-more}
 use Rattle.xc_intents.proofs.slots.append.Goals as goal
 use Rattle.xc_intents.proofs.slots.append.Goals.{After-link}
 
@@ -12,10 +17,10 @@ pub link-requires-clause-linked : goal.link-requires-clause-linked
 link-requires-clause-linked c =
     let xs = c.args.slots.now.items in
     let n : c.len-i.result ≡ length xs = omega (arith, c.args.slots.now.ok.0) in
-    let ys : List Slot = xs ++ fresh c.args.txn c.args.sub (record { key = c.args.key; value = c.args.value }) ∷ [] in
+    let ys : List Slot = xs ++ fresh c.args.txn c.args.sub c.args.key c.len-at.result ∷ [] in
     let pushed = subst (Linked ys c.args.chains.now.items) (sym n)
     (Linked-push xs c.args.chains.now.items
-    (fresh c.args.txn c.args.sub (record { key = c.args.key; value = c.args.value })) c.requires.chained.linked) in
+    (fresh c.args.txn c.args.sub c.args.key c.len-at.result) c.requires.chained.linked) in
     let slots : c.deref_mut.result.now ≡ ys = c.deref_mut.ensures.value ∙ c.put_last.ensures.slots in
     subst (λ z. Linked z c.deref_mut-2.result.now c.len-i.result) (sym slots)
     (subst (λ z. Linked ys z c.len-i.result) (sym c.deref_mut-2.ensures.value) (c.open-e.ensures.linked ys c.len-i.result pushed))
@@ -23,7 +28,7 @@ link-requires-clause-linked c =
 -- the slots, but for their links, are those before and one more
 pushed : (c : After-link)
     → map bare c.link.new.slots ≡ map bare
-    (c.args.slots.now.items ++ fresh c.args.txn c.args.sub (record { key = c.args.key; value = c.args.value }) ∷ [])
+    (c.args.slots.now.items ++ fresh c.args.txn c.args.sub c.args.key c.len-at.result ∷ [])
 pushed c = c.link.ensures.same ∙ ap (map bare) (c.deref_mut.ensures.value ∙ c.put_last.ensures.slots)
 
 slots_are : (c : After-link) → (with_items c.put_last.new.slots c.link.new.slots).items ≡ c.link.new.slots
@@ -34,25 +39,47 @@ slots_are c =
 chains_are : (c : After-link) → (with_items c.open-e.new.chains c.link.new.chains).items ≡ c.link.new.chains
 chains_are c = with_items_is c.open-e.new.chains c.link.new.chains (omega (arith, c.link.ensures.chains, c.deref_mut-2.ensures.len))
 
+-- the operation lies where the arena ended
+place : (c : After-link) → c.len-at.result ≡ length c.args.arena.now.items
+place c = omega (arith, c.args.arena.now.ok.0)
+
+abbrev slot : After-link → Slot
+slot c = fresh c.args.txn c.args.sub c.args.key c.len-at.result
+
+op : (c : After-link) → op_at c.put_op.new.bytes.items c.len-at.result ≡ record { key = c.args.key; value = c.args.value }
+op c = ap (op_at c.put_op.new.bytes.items) (place c) ∙ c.put_op.ensures.op
+
+keeps : (c : After-link) → Keeps c.put_op.new.bytes.items (slot c)
+keeps c = record {
+  lies = subst (Lies c.put_op.new.bytes.items) (sym (place c)) c.put_op.ensures.lies;
+  hashed = ap (λ (o : Op). hash_of o.key) (sym (op c));
+}
+
 pub returns-clause-chained : goal.returns-clause-chained
 returns-clause-chained c =
     let xs = c.args.slots.now.items in
-    let long = length-bare _ c.link.new.slots (pushed (goal.at.returns-clause-chained c).After-link) in
-    let one = length_push xs (fresh c.args.txn c.args.sub (record { key = c.args.key; value = c.args.value })) in
+    let b = c.args.arena.now.items in
+    let d = c.put_op.new.bytes.items in
+    let a = (goal.at.returns-clause-chained c).After-link in
+    let long = length-bare _ c.link.new.slots (pushed a) in
+    let one = length_push xs (slot a) in
     let n : c.len-i.result + 1 ≡ length c.link.new.slots = omega (arith, c.args.slots.now.ok.0) in
-    let chained : IsChained c.link.new.slots c.link.new.chains = record {
+    let old : Holds d xs = subst (λ w. Holds w xs) (sym c.put_op.ensures.items) (holds-more b _ xs c.requires.chained.holds) in
+    let chained : IsChained d c.link.new.slots c.link.new.chains = record {
       linked = subst (Linked c.link.new.slots c.link.new.chains) n c.link.ensures.linked;
-      hashed = hashed-same _ c.link.new.slots (pushed (goal.at.returns-clause-chained c).After-link)
-          (hashed-push xs (fresh c.args.txn c.args.sub
-          (record { key = c.args.key; value = c.args.value })) refl c.requires.chained.hashed);
+      holds = holds-same d _ c.link.new.slots (pushed a) (holds-push d xs (slot a) (keeps a) old);
       small = omega (arith, c.args.slots.now.ok.0);
       few = omega (arith, c.link.ensures.chains, c.deref_mut-2.ensures.len, c.open-e.ensures.len, c.requires.few);
     } in
-    subst (λ z. IsChained z (with_items c.open-e.new.chains c.link.new.chains).items)
-    (sym (slots_are (goal.at.returns-clause-chained c).After-link))
-    (subst (λ z. IsChained c.link.new.slots z) (sym (chains_are (goal.at.returns-clause-chained c).After-link)) chained)
+    subst (λ z. IsChained d z (with_items c.open-e.new.chains c.link.new.chains).items) (sym (slots_are a))
+    (subst (λ z. IsChained d c.link.new.slots z) (sym (chains_are a)) chained)
 
 pub returns-clause-held : goal.returns-clause-held
-returns-clause-held c = ap held_in (slots_are (goal.at.returns-clause-held c).After-link)
-    ∙ held-same _ c.link.new.slots (pushed (goal.at.returns-clause-held c).After-link)
-    ∙ held-push c.args.slots.now.items (fresh c.args.txn c.args.sub (record { key = c.args.key; value = c.args.value })) refl
+returns-clause-held c =
+    let xs = c.args.slots.now.items in
+    let b = c.args.arena.now.items in
+    let d = c.put_op.new.bytes.items in
+    let a = (goal.at.returns-clause-held c).After-link in
+    ap (held_in d) (slots_are a) ∙ held-same d _ c.link.new.slots (pushed a) ∙ held-push d xs (slot a) refl
+    ∙ ap (λ ws. ws ++ slot_op d (slot a) ∷ []) (ap (λ w. held_in w xs) c.put_op.ensures.items ∙ held-more b _ xs c.requires.chained.holds)
+    ∙ ap (λ o. held_in b xs ++ held_op c.args.txn c.args.sub o ∷ []) (op a)

@@ -1,55 +1,40 @@
-use Rattle.std.proofs.Common.{◌≡◌, ℕ, ◌<◌, ◌≤◌, List, length, map, filter, sym, subst, ap, ◌∙◌, arith}
+use Rattle.std.proofs.Common.{◌≡◌, List, length, sym, subst, ap, ◌∙◌, arith}
 use Rattle.std.specs.Vec.{with_items}
 use Rattle.std.proofs.lemmas.List.{with_items_is}
 use Rattle.xc_intents.specs.declared.slots.Slot.{Slot}
-use Rattle.xc_intents.specs.declared.slots.Chain.{Chain}
-use Rattle.xc_intents.specs.Slots.{HasChain, at, bare, is_live, is_used, loose, held_in, IsChained}
-use Rattle.xc_intents.proofs.Chains.{length-bare}
-use Rattle.xc_intents.proofs.Gathers.{has-filter, anew-held, anew-all, anew-chained}
+use Rattle.xc_intents.specs.Slots.{held_in, IsChained, Carried}
+use Rattle.xc_intents.proofs.Carries.{carried-held, carried-chained}
 use Rattle.xc_intents.proofs.slots.gather.Goals as goal
-use Rattle.xc_intents.proofs.slots.gather.Goals.{After-drop_unused}
+use Rattle.xc_intents.proofs.slots.gather.Goals.{After-carry}
 
-pub chain_anew-requires-clause-has : goal.chain_anew-requires-clause-has
-chain_anew-requires-clause-has c =
-    let xs = c.args.slots.now.items in
-    let slots : c.deref_mut.result.now ≡ filter is_live xs = c.deref_mut.ensures.value ∙ c.drop_dead.ensures.slots in
-    subst (λ (ys : List Slot). (k : ℕ) → k < length ys → HasChain c.deref_mut-2.result.now (at ys k).txn) (sym slots)
-    (subst (λ (cs : List Chain). (k : ℕ) → k < length (filter is_live xs) → HasChain cs (at (filter is_live xs) k).txn)
-    (sym c.deref_mut-2.ensures.value)
-    (has-filter xs c.args.chains.now.items c.requires.linked))
+carried : (c : After-carry) → Carried c.args.bytes.now c.gather_slots.new.slots.items c.carry.new.to.items c.carry.new.slots
+carried c = subst (λ (xs : List Slot). Carried c.args.bytes.now xs c.carry.new.to.items c.carry.new.slots) c.deref_mut.ensures.value
+    c.carry.ensures.carried
 
-same : (c : After-drop_unused) → map bare c.chain_anew.new.slots ≡ map bare (filter is_live c.args.slots.now.items)
-same c = c.chain_anew.ensures.same ∙ ap (map bare) (c.deref_mut.ensures.value ∙ c.drop_dead.ensures.slots)
+slots_are : (c : After-carry) → (with_items c.gather_slots.new.slots c.carry.new.slots).items ≡ c.carry.new.slots
+slots_are c =
+    let long = c.carry.ensures.carried.long in
+    with_items_is c.gather_slots.new.slots c.carry.new.slots (omega (arith, c.deref_mut.ensures.len))
 
-slots_are : (c : After-drop_unused) → (with_items c.drop_dead.new.slots c.chain_anew.new.slots).items ≡ c.chain_anew.new.slots
-slots_are c = with_items_is c.drop_dead.new.slots c.chain_anew.new.slots
-    (omega (arith, length-bare _ c.chain_anew.new.slots c.chain_anew.ensures.same, c.deref_mut.ensures.len))
-
-chains_are : (c : After-drop_unused) → (with_items c.args.chains.now c.chain_anew.new.chains).items ≡ c.chain_anew.new.chains
-chains_are c = with_items_is c.args.chains.now c.chain_anew.new.chains
-    (omega (arith, c.chain_anew.ensures.chains, c.deref_mut-2.ensures.len))
+held : (c : After-carry) → held_in c.carry.new.to.items c.carry.new.slots ≡ held_in c.args.bytes.now c.gather_slots.new.slots.items
+held c = carried-held c.args.bytes.now c.gather_slots.new.slots.items c.carry.new.to.items c.carry.new.slots (carried c)
 
 pub returns-clause-chained : goal.returns-clause-chained
 returns-clause-chained c =
-    let xs = c.args.slots.now.items in
-    let ys = c.chain_anew.new.slots in
-    let short : length (filter is_live xs) ≤ length xs = omega
-    (arith, ap length c.drop_dead.ensures.slots, c.drop_dead.ensures.len, c.args.slots.now.ok.0, c.drop_dead.new.slots.ok.0) in
-    let chained = anew-chained xs ys c.args.chains.now.items c.chain_anew.new.chains c.requires
-    (same c) c.chain_anew.ensures.linked c.drop_unused.new.chains.items short
-    (c.drop_unused.ensures.chains ∙ ap (λ zs. map loose (filter is_used zs)) (chains_are c)) c.drop_unused.ensures.tree
-    (omega (arith, c.drop_unused.ensures.len, c.chain_anew.ensures.chains, c.requires.few, c.args.chains.now.ok.0)) in
-    subst (λ z. IsChained z c.drop_unused.new.chains.items) (sym (slots_are c)) chained
+    let a = (goal.at.returns-clause-chained c).After-carry in
+    let d = c.carry.new.to.items in
+    let cs = c.gather_slots.new.chains.items in
+    subst (λ z. IsChained d z cs) (sym (slots_are a))
+    (carried-chained c.args.bytes.now c.gather_slots.new.slots.items d c.carry.new.slots cs (carried a)
+    (c.gather_slots.ensures.chained c.args.bytes.now c.requires.chained.holds))
 
 pub returns-clause-held : goal.returns-clause-held
 returns-clause-held c =
-    ap held_in (slots_are c)
-    ∙ anew-held c.args.slots.now.items c.chain_anew.new.slots c.args.chains.now.items c.chain_anew.new.chains c.requires
-    (same c) c.chain_anew.ensures.linked
+    let a = (goal.at.returns-clause-held c).After-carry in
+    ap (held_in c.carry.new.to.items) (slots_are a) ∙ held a ∙ c.gather_slots.ensures.held c.args.bytes.now
 
 pub returns-clause-all : goal.returns-clause-all
 returns-clause-all c =
-    ap (λ zs. length (held_in zs)) (slots_are c)
-    ∙ anew-all c.args.slots.now.items c.chain_anew.new.slots c.args.chains.now.items c.chain_anew.new.chains c.requires
-    (same c) c.chain_anew.ensures.linked
-    ∙ ap length (sym (slots_are c))
+    let a = (goal.at.returns-clause-all c).After-carry in
+    ap (λ zs. length (held_in c.carry.new.to.items zs)) (slots_are a) ∙ ap length (held a)
+    ∙ c.gather_slots.ensures.all c.args.bytes.now ∙ sym (carried a).long ∙ ap length (sym (slots_are a))

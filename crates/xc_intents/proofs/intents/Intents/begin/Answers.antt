@@ -13,15 +13,15 @@ use Rattle.xc_intents.proofs.intents.Intents.begin.Goals.{After-walk}
 chains_are : (c : After-walk) → (with_items c.self.inside.chains c.walk.new.chains).items ≡ c.walk.new.chains
 chains_are c = with_items_is c.self.inside.chains c.walk.new.chains (omega (arith, c.walk.auto.chains, c.deref_mut.ensures.len))
 
-kept : (c : After-walk) → AreSlots c.self.inside.slots.items (with_items c.self.inside.chains c.walk.new.chains).items c.self.inside.dead
+kept : (c : After-walk) → AreSlots c.self.inside.arena.items c.self.inside.slots.items (with_items c.self.inside.chains c.walk.new.chains).items c.self.inside.dead
 kept c =
     let xs = c.self.inside.slots.items in
     let is = c.self.invariant.chained in
     record {
-      chained = subst (IsChained xs) (sym (chains_are c)) (record {
+      chained = subst (IsChained c.self.inside.arena.items xs) (sym (chains_are c)) (record {
         linked = c.walk.ensures.linked xs (length xs)
             (subst (λ (cs : List Chain). Linked xs cs (length xs)) (sym c.deref_mut.ensures.value) is.linked);
-        hashed = is.hashed;
+        holds = is.holds;
         small = is.small;
         few = omega (arith, c.walk.ensures.chains, ap length c.deref_mut.ensures.value, is.few);
       });
@@ -40,7 +40,7 @@ returns-in-None-clause-none c = λ _.
     let cs = c.deref_mut.result.now in
     let linked = subst (λ (zs : List Chain). Linked xs zs (length xs)) (sym c.deref_mut.ensures.value) c.self.invariant.chained.linked in
     ap (λ (h : HeldOps). find (is_part c.args.txn c.args.lo c.args.hi) h.held) (sym c.self.view_is)
-    ∙ none-found xs xs c.args.txn c.args.lo c.args.hi refl c.self.invariant.chained.hashed
+    ∙ none-found c.self.inside.arena.items xs xs c.args.txn c.args.lo c.args.hi refl c.self.invariant.chained.holds
     (found-none xs cs c.args.txn c.args.lo c.args.hi linked c.in-None.ensures.found)
 
 pub returns-in-Some-clause-sought : goal.returns-in-Some-clause-sought

@@ -49,9 +49,10 @@ walks c =
     ∙ sought-at c.deref_mut-2.result.now c.self.inside.recent (omega arith)
 
 as-sought : {X : Type 0} (c : After-take_next) (f : (KeyWaiting → Bool) → List KeyWaiting → X)
-    → f (part c) (held_in c.deref_mut.result.now) ≡ f (is_sought c.args.self.now.sought) c.args.self.now.held
+    → f (part c) (held_in c.deref.result.now c.deref_mut.result.now) ≡ f (is_sought c.args.self.now.sought) c.args.self.now.held
 as-sought c f =
-    ap (λ xs. f (part c) (held_in xs)) c.deref_mut.ensures.value ∙ ap (λ (h : HeldOps). f (part c) h.held) c.self.view_is
+    ap (λ b. f (part c) (held_in b c.deref_mut.result.now)) c.deref.ensures.value
+    ∙ ap (λ xs. f (part c) (held_in c.self.inside.arena.items xs)) c.deref_mut.ensures.value ∙ ap (λ (h : HeldOps). f (part c) h.held) c.self.view_is
     ∙ ap (λ s. f (is_sought s) c.args.self.now.held) (sym (walks c))
 
 sought-kept : (c : After-take_next) → SameWalk (chain c) (chain_at c.take_next.new.chains c.self.inside.recent)
@@ -64,40 +65,42 @@ sought-kept c same long =
     ∙ ap (λ s. Some s) (sought-same (chain c) (chain_at c.take_next.new.chains c.self.inside.recent) same) ∙ sym (walks c)
 
 -- the invariant, where so many operations are left and so many slots are dead
-kept : (c : After-take_next) → IsChained c.take_next.new.slots c.take_next.new.chains → (dead : ℕ)
-    → length (held_in c.take_next.new.slots) + dead ≡ length c.self.inside.slots.items
-    → AreSlots (with_items c.self.inside.slots c.take_next.new.slots).items
+kept : (c : After-take_next) → IsChained c.deref.result.now c.take_next.new.slots c.take_next.new.chains → (dead : ℕ)
+    → length (held_in c.deref.result.now c.take_next.new.slots) + dead ≡ length c.self.inside.slots.items
+    → AreSlots c.self.inside.arena.items (with_items c.self.inside.slots c.take_next.new.slots).items
     (with_items c.self.inside.chains c.take_next.new.chains).items dead
-kept c chained dead count = record {
-  chained = subst (λ z. IsChained z (with_items c.self.inside.chains c.take_next.new.chains).items) (sym (slots_are c))
-      (subst (λ z. IsChained c.take_next.new.slots z) (sym (chains_are c)) chained);
-  count = ap (λ zs. length (held_in zs) + dead) (slots_are c) ∙ count
-      ∙ sym (ap length (slots_are c) ∙ c.take_next.auto.slots ∙ ap length c.deref_mut.ensures.value);
-}
+kept c chained dead count =
+    let b = c.self.inside.arena.items in
+    record {
+      chained = subst (λ z. IsChained b z (with_items c.self.inside.chains c.take_next.new.chains).items) (sym (slots_are c))
+          (subst (λ z. IsChained b c.take_next.new.slots z) (sym (chains_are c))
+          (subst (λ w. IsChained w c.take_next.new.slots c.take_next.new.chains) c.deref.ensures.value chained));
+      count = ap (λ zs. length (held_in b zs) + dead) (slots_are c)
+          ∙ ap (λ w. length (held_in w c.take_next.new.slots) + dead) (sym c.deref.ensures.value) ∙ count
+          ∙ sym (ap length (slots_are c) ∙ c.take_next.auto.slots ∙ ap length c.deref_mut.ensures.value);
+    }
+
+-- what was held, in the bytes that were read
+held-read : (c : After-take_next) → held_in c.deref.result.now c.deref_mut.result.now ≡ held_in c.self.inside.arena.items c.self.inside.slots.items
+held-read c = ap (λ w. held_in w c.deref_mut.result.now) c.deref.ensures.value
+    ∙ ap (held_in c.self.inside.arena.items) c.deref_mut.ensures.value
 
 pub invariant_of-self : goal.invariant_of-self
 invariant_of-self c =
-    let held = held_in c.deref_mut.result.now in
-    let p = part (goal.at.invariant_of-self c).After-take_next in
-    let none = find-by_none p given None held c.in-None.ensures.taken refl in
-    let left = c.in-None.ensures.left ∙ without_first-none p held none ∙ ap held_in c.deref_mut.ensures.value in
-    kept (goal.at.invariant_of-self c).After-take_next c.in-None.ensures.chained c.self.inside.dead
-    (omega (arith, ap length left, c.self.invariant.count))
+    let a = (goal.at.invariant_of-self c).After-take_next in
+    let held = held_in c.deref.result.now c.deref_mut.result.now in
+    let none = find-by_none (part a) given None held c.in-None.ensures.taken refl in
+    let left = c.in-None.ensures.left ∙ without_first-none (part a) held none ∙ held-read a in
+    kept a c.in-None.ensures.chained c.self.inside.dead (omega (arith, ap length left, c.self.invariant.count))
 
 pub invariant_of-self-in-Some : goal.invariant_of-self-in-Some
 invariant_of-self-in-Some c =
-    let held = held_in c.deref_mut.result.now in
-    let p = part (goal.at.invariant_of-self-in-Some c).After-take_next in
-    let some = find-by_some p given (Some c.in-Some.held) held c.in-Some.ensures.taken refl in
-    let fewer = length-without_first p held some.0 some.1 in
-    kept (goal.at.invariant_of-self-in-Some c).After-take_next c.in-Some.ensures.chained (c.self.inside.dead + 1)
-    (omega (
-      arith,
-      fewer,
-      ap length c.in-Some.ensures.left,
-      ap (λ zs. length (held_in zs)) c.deref_mut.ensures.value,
-      c.self.invariant.count,
-    ))
+    let a = (goal.at.invariant_of-self-in-Some c).After-take_next in
+    let held = held_in c.deref.result.now c.deref_mut.result.now in
+    let some = find-by_some (part a) given (Some c.in-Some.held) held c.in-Some.ensures.taken refl in
+    let fewer = length-without_first (part a) held some.0 some.1 in
+    kept a c.in-Some.ensures.chained (c.self.inside.dead + 1)
+    (omega (arith, fewer, ap length c.in-Some.ensures.left, ap length (held-read a), c.self.invariant.count))
 
 pub returns-in-None-clause-taken : goal.returns-in-None-clause-taken
 returns-in-None-clause-taken c =
@@ -105,7 +108,8 @@ returns-in-None-clause-taken c =
 
 pub returns-in-None-clause-left : goal.returns-in-None-clause-left
 returns-in-None-clause-left c =
-    ap held_in (slots_are (goal.at.returns-in-None-clause-left c).After-take_next) ∙ c.in-None.ensures.left
+    ap (held_in c.self.inside.arena.items) (slots_are (goal.at.returns-in-None-clause-left c).After-take_next)
+    ∙ ap (λ w. held_in w c.take_next.new.slots) (sym c.deref.ensures.value) ∙ c.in-None.ensures.left
     ∙ as-sought (goal.at.returns-in-None-clause-left c).After-take_next without_first
 
 pub returns-in-None-clause-sought : goal.returns-in-None-clause-sought
@@ -118,7 +122,8 @@ returns-in-Some-clause-taken c =
 
 pub returns-in-Some-clause-left : goal.returns-in-Some-clause-left
 returns-in-Some-clause-left c =
-    ap held_in (slots_are (goal.at.returns-in-Some-clause-left c).After-take_next) ∙ c.in-Some.ensures.left
+    ap (held_in c.self.inside.arena.items) (slots_are (goal.at.returns-in-Some-clause-left c).After-take_next)
+    ∙ ap (λ w. held_in w c.take_next.new.slots) (sym c.deref.ensures.value) ∙ c.in-Some.ensures.left
     ∙ as-sought (goal.at.returns-in-Some-clause-left c).After-take_next without_first
 
 pub returns-in-Some-clause-sought : goal.returns-in-Some-clause-sought

@@ -73,7 +73,7 @@ all-more b more [] h = tt
 all-more b more (x ∷ xs) h = (slot-more b more x h.0, all-more b more xs h.1)
 
 pub page-more : (b more : List ℕ) (p : Page) → IsPage b p → IsPage (b ++ more) p
-page-more b more p g = record { some = g.some; few = g.few; room = g.room; slots = all-more b more p.items.items g.slots }
+page-more b more p g = record { some = g.some; few = g.few; room = g.room; slots = all-more b more p.items.items g.slots; first = g.first }
 
 alike-more : (b more : List ℕ) (ps : List Page) → Each (IsPage b) ps → Alike b ps (b ++ more) ps
 alike-more b more [] h = refl

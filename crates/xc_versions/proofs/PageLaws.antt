@@ -1,9 +1,9 @@
 -- Laws of pages: the search by their first versions, a page that gets one more version, and what is due.
 use Rattle.std.proofs.Common.{◌≡◌, ℕ, zero, suc, ◌+◌, ◌-◌, ◌<◌, Bool, true, false, cond, List, [], ◌∷◌, ◌++◌, length, get_or, take, drop}
-use Rattle.std.proofs.Common.{refl, ap, sym, ◌∙◌, subst, arith, append_assoc, append-nil, inl, inr, ⊎_elim, take-append-drop}
+use Rattle.std.proofs.Common.{◌≤◌, map, refl, ap, sym, ◌∙◌, subst, arith, append_assoc, append-nil, inl, inr, ⊎_elim, take-append-drop}
 use Rattle.std.proofs.lemmas.List.{drop_more, length-take-le, get_or-take, get_or_default, length-map}
 use Rattle.std.proofs.lemmas.List.Concat.{flat_map-append}
-use Rattle.std.specs.Prelude.{filter, ◌||◌, ◌&&◌, bytes_eq, nat_le}
+use Rattle.std.specs.Prelude.{insert, filter, ◌||◌, ◌&&◌, bytes_eq, nat_le}
 use Rattle.std.specs.Ordering.{is_gt}
 use Rattle.std.proofs.lemmas.Bool.{cases_Bool, both_ways, or_parts, or_from, and_parts, and_from, and_right, false_from_ne_true, leb-true}
 use Rattle.std.proofs.lemmas.Bool.{le-leb, lt-leb}
@@ -19,7 +19,9 @@ use Rattle.xc_versions.specs.declared.stored.StoredVersion.{StoredVersion}
 use Rattle.xc_versions.specs.declared.page.Page.{Page}
 use Rattle.xc_versions.specs.Splits.{Splits, Falls}
 use Rattle.xc_versions.specs.Stored.{stored_cmp, IsBefore, InOrder, with_version, is_replaced}
+use Rattle.xc_versions.specs.declared.stored.Slot.{Slot}
 use Rattle.xc_versions.specs.Slots.{seen}
+use Rattle.xc_versions.specs.Heads.{IsSlot}
 use Rattle.xc_versions.specs.Around.{Around}
 use Rattle.xc_versions.specs.Pages.{held, items_of, IsPage, is_first_passed, Idle, Dues}
 
@@ -74,6 +76,28 @@ pages-fall b p (q ∷ qs) h f = (behind (held b q) (held-some b q h.0) f, pages-
         → Each (λ q. is_first_passed p (held b q) ≡ false) qs
     behind [] l f e = absurd (omega arith)
     behind (x ∷ xs) l f e = all-fail b p qs (each-right (λ x. p x ≡ false) xs (items_of b qs) (f.0 e))
+
+-- what a page has of its first version beside its slots
+pub first-held : (b : List ℕ) (test : StoredVersion → Bool) (q : Page) → IsPage b q
+    → test (seen b q.first) ≡ is_first_passed test (held b q)
+first-held b test q g = by q.items.items g.some g.first
+  where
+    by : (xs : List Slot) → 0 < length xs → q.first ≡ get_or xs 0 q.first → test (seen b q.first) ≡ is_first_passed test (map (seen b) xs)
+    by [] l e = absurd (omega arith)
+    by (x ∷ xs) l e = ap (λ s. test (seen b s)) e
+
+pub first-slot : (b : List ℕ) (q : Page) → IsPage b q → IsSlot b q.first
+first-slot b q g = by q.items.items g.some g.first g.slots
+  where
+    by : (xs : List Slot) → 0 < length xs → q.first ≡ get_or xs 0 q.first → Each (IsSlot b) xs → IsSlot b q.first
+    by [] l e h = absurd (omega arith)
+    by (x ∷ xs) l e h = subst (IsSlot b) (sym e) h.0
+
+pub first-inserted : (xs : List Slot) (n : ℕ) (first x found : Slot) → n ≤ length xs → first ≡ get_or xs 0 first → (n ≡ 0 → found ≡ x)
+    → (0 < n → found ≡ first) → found ≡ get_or (insert xs n x) 0 found
+first-inserted xs zero first x found h e f g = f refl
+first-inserted [] (suc n) first x found h e f g = absurd (omega arith)
+first-inserted (y ∷ ys) (suc n) first x found h e f g = g (omega arith) ∙ e
 
 -- ---- the pages before and behind the one of a search
 

@@ -1,14 +1,14 @@
 -- Pages of versions, whose keys and values lie in the bytes b.
 --     held b p, items_of b ps      the versions of a page, and of pages, one page after another
 --     live_of b ps      the bytes of their operations
---     IsPage b p, IsEmptyPage v      1 to 64 versions, and room for one more; no version, and room for 65
+--     IsPage b p, IsEmptyPage v      1 to 64 versions, the first once more, and room for one more; no version, and room for 65
 --     is_first_passed test p      the page's first version passes the test
 --     Idle u xs rest      no version of xs is replaced at u by a later one of xs or of rest
 --     IdleNext u xs rest      no version of xs is replaced at u by the next one
 --     Dues b ps rest      a cutoff below a page's `due` takes nothing from the page, where rest stands behind the pages
 --     load ps      how many versions the pages have above 32 each; 32 of no page
 --     spare_of ps n      how many versions can be added for certain where there are n empty pages
-use Rattle.std.specs.Prelude.{◌≡◌, ℕ, ◌+◌, ◌-◌, ◌*◌, ◌<◌, ◌≤◌, max, Bool, false, List, [], ◌∷◌, ◌++◌, length, map, flat_map}
+use Rattle.std.specs.Prelude.{◌≡◌, ℕ, ◌+◌, ◌-◌, ◌*◌, ◌<◌, ◌≤◌, max, Bool, false, List, [], ◌∷◌, ◌++◌, length, map, flat_map, slice_index_or}
 use Rattle.std.specs.VecDeque.{deque_capacity}
 use Rattle.std.specs.declared.collections.VecDeque.{VecDeque}
 use Rattle.std.specs.List.{AllByRecursion}
@@ -34,6 +34,7 @@ pub record IsPage (b : List ℕ) (p : Page) : Type 0 where
   pub few : length p.items.items ≤ 64
   pub room : 65 ≤ deque_capacity p.items
   pub slots : AllByRecursion (IsSlot b) p.items.items
+  pub first : p.first ≡ slice_index_or p.items.items 0 p.first
 
 pub record IsEmptyPage (v : VecDeque Slot Global) : Type 0 where
   pub none : v.items ≡ []

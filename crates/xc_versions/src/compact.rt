@@ -9,7 +9,7 @@ ghost use Rattle.xc_versions.specs.Pages.{items_of, live_of, spare_of, IsPage};
 ghost use Rattle.xc_versions.specs.Pool.{IsStore};
 ghost use Rattle.xc_versions.specs.Dues.{dues_of};
 
-use crate::page::Page;
+use crate::page::{Page, first_or};
 use crate::stored::Slot;
 use std::collections::VecDeque;
 use xc_arena::{move_op, op_bytes};
@@ -78,5 +78,6 @@ pub(crate) fn move_pages(
     for i in 0..pages.len() {
         let page = &mut pages[i];
         move_page(bytes, to, &mut page.items);
+        page.first = first_or(&page.items, page.first);
     }
 }

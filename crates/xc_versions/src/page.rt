@@ -1,5 +1,6 @@
 // A page of versions, and the search among pages.
-ghost use Rattle.std.specs.Prelude.{◌≡◌, ◌<◌, ◌≤◌, ◌+◌, min, length, map, take, drop, nat_lt, vec_capacity, true};
+ghost use Rattle.std.specs.Prelude.{◌≡◌, ◌<◌, ◌≤◌, ◌+◌, min, length, take, drop, nat_lt, vec_capacity, true};
+ghost use Rattle.std.specs.Prelude.{slice_index_or};
 ghost use Rattle.std.specs.VecDeque.{deque_capacity};
 ghost use Rattle.std.specs.Ordering.{is_gt};
 ghost use Rattle.std.specs.List.{AllByRecursion};
@@ -24,6 +25,8 @@ pub(crate) struct Page {
     pub(crate) items: VecDeque<Slot>,
     /// A cutoff below this takes nothing from the page.
     pub(crate) due: u64,
+    /// The slot of its first version once more, so that a search among pages reads nothing else of them.
+    pub(crate) first: Slot,
 }
 
 // Whether all pages begin before the version: the last does.
@@ -41,7 +44,7 @@ fn all_begin_before(bytes: &[u8], pages: &VecDeque<Page>, slot: &Slot) -> bool
         return false;
     }
     let page = &pages[count - 1];
-    begins_before(bytes, &page.items, slot)
+    begins_before(bytes, page, slot)
 }
 
 /// How many pages begin before the version. Often all do.
@@ -60,7 +63,7 @@ pub(crate) fn pages_before(bytes: &[u8], pages: &VecDeque<Page>, slot: &Slot) ->
     while low < high {
         let middle = low + (high - low) / 2;
         let page = &pages[middle];
-        if begins_before(bytes, &page.items, slot) {
+        if begins_before(bytes, page, slot) {
             low = middle + 1;
         } else {
             high = middle;
@@ -70,16 +73,13 @@ pub(crate) fn pages_before(bytes: &[u8], pages: &VecDeque<Page>, slot: &Slot) ->
 }
 
 #[inline]
-fn begins_before(bytes: &[u8], items: &VecDeque<Slot>, slot: &Slot) -> bool
-    requires slots { AllByRecursion (IsSlot bytes.now) items.now.items }
+fn begins_before(bytes: &[u8], page: &Page, slot: &Slot) -> bool
+    requires page { IsPage bytes.now page.now }
     requires slot { IsSlot bytes.now slot.now }
     ensures { result ≡ is_first_passed (λ x. is_gt (stored_cmp (seen bytes.now slot.now) x))
-        (map (seen bytes.now) items.now.items) }
+        (held bytes.now page.now) }
 {
-    match items.front() {
-        Some(first) => slot.is_after(bytes, first),
-        None => false,
-    }
+    slot.is_after(bytes, &page.first)
 }
 
 /// How many pages begin with a version that reaches the key at t. The head is that of the key.
@@ -100,7 +100,7 @@ pub(crate) fn pages_reaching(
     while low < high {
         let middle = low + (high - low) / 2;
         let page = &pages[middle];
-        if begins_reaching(bytes, &page.items, key, head, t) {
+        if begins_reaching(bytes, page, key, head, t) {
             low = middle + 1;
         } else {
             high = middle;
@@ -110,15 +110,32 @@ pub(crate) fn pages_reaching(
 }
 
 #[inline]
-fn begins_reaching(bytes: &[u8], items: &VecDeque<Slot>, key: &Key, head: &Head, t: u64) -> bool
-    requires slots { AllByRecursion (IsSlot bytes.now) items.now.items }
+fn begins_reaching(bytes: &[u8], page: &Page, key: &Key, head: &Head, t: u64) -> bool
+    requires page { IsPage bytes.now page.now }
     requires head { head.now ≡ head_of key.now }
-    ensures { result ≡ is_first_passed (reaches key.now t) (map (seen bytes.now) items.now.items) }
+    ensures { result ≡ is_first_passed (reaches key.now t) (held bytes.now page.now) }
+{
+    page.first.reaches(bytes, key, head, t)
+}
+
+/// The first of the slots, or this one where there is none.
+#[inline]
+pub(crate) fn first_or(items: &VecDeque<Slot>, slot: Slot) -> Slot
+    ensures { result ≡ slice_index_or items.now.items 0 result }
 {
     match items.front() {
-        Some(first) => first.reaches(bytes, key, head, t),
-        None => false,
+        Some(first) => *first,
+        None => slot,
     }
+}
+
+// The first of the slots once one more is put at the place.
+#[inline]
+fn first_with(first: Slot, at: usize, slot: Slot) -> Slot
+    ensures front { at ≡ 0 → result ≡ slot }
+    ensures behind { 0 < at → result ≡ first }
+{
+    if at == 0 { slot } else { first }
 }
 
 /// Takes one of the empty pages.
@@ -148,15 +165,18 @@ impl Page {
         requires few { length self.old.items.items ≤ 64 }
         requires room { 65 ≤ deque_capacity self.old.items }
         requires slots { AllByRecursion (IsSlot bytes.now) self.old.items.items }
+        requires first { self.old.first ≡ slice_index_or self.old.items.items 0 self.old.first }
         requires slot { IsSlot bytes.now slot }
         ensures items { held bytes.now self.new ≡ with_version (seen bytes.now slot) (held bytes.now self.old) }
         ensures len { length self.new.items.items ≡ length self.old.items.items + 1 }
         ensures room { 65 ≤ deque_capacity self.new.items }
         ensures slots { AllByRecursion (IsSlot bytes.now) self.new.items.items }
+        ensures first { self.new.first ≡ slice_index_or self.new.items.items 0 self.new.first }
         ensures due { self.new.due ≡ min self.old.due slot.commit }
     {
         let at = place_of(bytes, &self.items, &slot);
         self.due = self.due.min(slot.commit);
+        self.first = first_with(self.first, at, slot);
         insert_at(&mut self.items, at, slot);
     }
 
@@ -164,6 +184,7 @@ impl Page {
     pub(crate) fn split(&mut self, bytes: &[u8], mut upper: VecDeque<Slot>) -> Page
         requires empty { IsEmptyPage upper }
         requires slots { AllByRecursion (IsSlot bytes.now) self.old.items.items }
+        requires first { self.old.first ≡ slice_index_or self.old.items.items 0 self.old.first }
         requires full { length self.old.items.items ≡ 65 }
         requires room { 65 ≤ deque_capacity self.old.items }
         ensures lower { self.new.items.items ≡ take 32 self.old.items.items }
@@ -174,9 +195,11 @@ impl Page {
         ensures upper_page { IsPage bytes.now result }
     {
         move_behind(&mut self.items, 32, &mut upper);
+        let first = first_or(&upper, self.first);
         Page {
             items: upper,
             due: self.due,
+            first,
         }
     }
 }

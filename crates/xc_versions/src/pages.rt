@@ -41,6 +41,7 @@ fn add_first(bytes: &[u8], pages: &mut VecDeque<Page>, pool: &mut Vec<VecDeque<S
     let mut page = Page {
         items: take_empty(pool),
         due: slot.commit,
+        first: slot,
     };
     page.put(bytes, slot);
     pages.push_back_reserved(page);

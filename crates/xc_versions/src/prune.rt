@@ -1,5 +1,5 @@
 // What a prune takes from a page, from its last version to its first.
-ghost use Rattle.std.specs.Prelude.{◌≡◌, ℕ, List, ◌++◌, ◌<◌, ◌≤◌, length, slice_get, option_map};
+ghost use Rattle.std.specs.Prelude.{◌≡◌, ℕ, List, ◌++◌, ◌<◌, ◌≤◌, length, slice_get, slice_index_or, option_map};
 ghost use Rattle.std.specs.VecDeque.{deque_capacity};
 ghost use Rattle.std.specs.Option.{option_to_list};
 ghost use Rattle.xc_versions.specs.Stored.{next_commit, pruned_before};
@@ -9,7 +9,7 @@ ghost use Rattle.xc_versions.specs.Heads.{IsSlot};
 ghost use Rattle.xc_versions.specs.Pages.{held, IdleNext};
 ghost use Rattle.xc_versions.specs.declared.stored.StoredVersion.{StoredVersion};
 
-use crate::page::Page;
+use crate::page::{Page, first_or};
 use crate::queue::remove_at;
 use crate::stored::Slot;
 use xc_arena::{key_bytes, op_bytes};
@@ -42,6 +42,7 @@ impl Page {
         ensures idle { (u : ℕ) (rest : List StoredVersion) → slice_get rest 0 ≡ option_map (seen bytes.now) next
             → u < self.new.due → IdleNext u (held bytes.now self.new) rest }
         ensures slots { AllByRecursion (IsSlot bytes.now) self.new.items.items }
+        ensures first { self.new.first ≡ slice_index_or self.new.items.items 0 self.new.first }
         ensures len { length self.new.items.items ≤ length self.old.items.items }
         ensures capacity { deque_capacity self.new.items ≡ deque_capacity self.old.items }
     {
@@ -65,6 +66,7 @@ impl Page {
             }
         }
         self.due = due;
+        self.first = first_or(&self.items, self.first);
         dead
     }
 }

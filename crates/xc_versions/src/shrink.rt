@@ -11,7 +11,7 @@ ghost use Rattle.xc_versions.specs.Pool.{IsStore};
 ghost use Rattle.xc_versions.specs.Dues.{dues_of, Covers, Shrunk};
 
 use crate::least::{GROUP, fill, least_of, raise_at, settle};
-use crate::page::Page;
+use crate::page::{Page, first_or};
 use crate::stored::{Slot, drop_later};
 use std::collections::VecDeque;
 
@@ -40,7 +40,7 @@ fn free(pages: &mut VecDeque<Page>, pool: &mut Vec<VecDeque<Slot>>, i: usize)
     ensures pages_capacity { deque_capacity pages.new ≡ deque_capacity pages.old }
     ensures pool_capacity { vec_capacity pool.new ≡ vec_capacity pool.old }
 {
-    if let Some(Page { items, due: _ }) = pages.remove(i) {
+    if let Some(Page { items, .. }) = pages.remove(i) {
         pool.push_reserved(items);
     }
 }
@@ -170,6 +170,7 @@ fn drop_at(
 {
     let page = &mut pages[i];
     drop_later(&mut page.items, t);
+    page.first = first_or(&page.items, page.first);
     if page.items.is_empty() {
         free(pages, pool, i);
     }

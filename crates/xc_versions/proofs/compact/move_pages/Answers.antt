@@ -51,7 +51,7 @@ loop-i-preserved c =
     let pages = c.loop-i.pages.items in
     let i = c.loop-i.i in
     let p = c.index_mut-page.result.now in
-    let q : Page = record { items = c.move_page.new.items; due = p.due } in
+    let q : Page = record { items = c.move_page.new.items; due = p.due; first = c.first_or-page.result } in
     let m = c.loop-i.invariant.moving in
     let long = m.long in
     let count = deque-long c.args.pages.now in
@@ -69,7 +69,7 @@ loop-i-preserved c =
     let one : MovesPage b p c.move_page.new.to.items q = record {
       alike = c.move_page.ensures.held;
       due = refl;
-      good = record { some = omega arith; few = omega arith; room = omega arith; slots = c.move_page.ensures.slots };
+      good = record { some = omega arith; few = omega arith; room = omega arith; slots = c.move_page.ensures.slots; first = c.first_or-page.ensures };
     } in
     let had = c.loop-i.invariant.to_capacity in
     let grew = c.move_page.ensures.to_capacity in

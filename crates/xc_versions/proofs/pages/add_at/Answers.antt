@@ -38,7 +38,7 @@ grown-one c =
     let page = page-at b old c.args.i q c.requires.store.paged.pages c.requires.within c.index_mut-page.ensures.value in
     let fits = ltb-false 64 (length r.items.items) (sym c.if-is_over.ensures) in
     let long = c.put.ensures.len in
-    let is_page : IsPage b r = record { some = omega arith; few = fits; room = c.put.ensures.room; slots = c.put.ensures.slots } in
+    let is_page : IsPage b r = record { some = omega arith; few = fits; room = c.put.ensures.room; slots = c.put.ensures.slots; first = c.put.ensures.first } in
     subst (λ (ps : List Page). Grown b (seen b c.args.slot) old ps) (sym (set-cut old c.args.i r c.requires.within))
     (added-at b (seen b c.args.slot) old c.args.i q (r ∷ []) c.requires.store.paged c.requires.fresh c.requires.within c.requires.around
     c.index_mut-page.ensures.value
@@ -149,6 +149,11 @@ pub returns-else-is_over-clause-dues : goal.returns-else-is_over-clause-dues
 returns-else-is_over-clause-dues c =
     grew-one c.args.pages.now.items c.args.i c.args.slot.commit c.index_mut-page.result.now c.put.new.self c.requires.within
     c.index_mut-page.ensures.value c.put.ensures.due
+
+pub put-requires-clause-first : goal.put-requires-clause-first
+put-requires-clause-first c =
+    (page-at c.args.bytes.now c.args.pages.now.items c.args.i c.index_mut-page.result.now c.requires.store.paged.pages c.requires.within
+    c.index_mut-page.ensures.value).first
 
 pub put-requires-clause-slots : goal.put-requires-clause-slots
 put-requires-clause-slots c =

@@ -84,7 +84,7 @@ returns-else-is_empty-clause-store c =
     let old = c.args.pages.now.items in
     let i = c.args.i in
     let q = c.index_mut-page.result.now in
-    let r : Page = record { items = c.drop_later.new.items; due = q.due } in
+    let r : Page = record { items = c.drop_later.new.items; due = q.due; first = c.first_or-page.result } in
     let rest = items_of b (drop (i + 1) old) in
     let left : held b r ≡ up_to c.args.t (held b q) =
     ap (map (seen b)) c.drop_later.ensures.items ∙ map-filter (seen b) (λ x. nat_le x.commit c.args.t) q.items.items in
@@ -103,7 +103,7 @@ returns-else-is_empty-clause-store c =
     let cap : deque_capacity r.items ≡ deque_capacity q.items = c.drop_later.ensures.capacity in let was = page.room in omega arith in
     let slots = subst (λ (xs : List Slot). Each (IsSlot b) xs) (sym c.drop_later.ensures.items)
     (each-filtered (IsSlot b) (λ x. nat_le x.commit c.args.t) q.items.items page.slots) in
-    let is_page : IsPage b r = record { some = some; few = omega arith; room = room; slots = slots } in
+    let is_page : IsPage b r = record { some = some; few = omega arith; room = room; slots = slots; first = c.first_or-page.ensures } in
     let paged : IsPaged b (take i old ++ ((r ∷ []) ++ drop (i + 1) old)) [] =
     shrunk-at b old i q (r ∷ []) c.requires.store.paged c.requires.within c.index_mut-page.ensures.value sub (is_page, tt)
     (λ o. dues-one b r rest
@@ -126,7 +126,7 @@ returns-else-is_empty-clause-spare c =
     let old = c.args.pages.now.items in
     let n = length c.args.pool.now.items in
     let q = c.index_mut-page.result.now in
-    let r : Page = record { items = c.drop_later.new.items; due = q.due } in
+    let r : Page = record { items = c.drop_later.new.items; due = q.due; first = c.first_or-page.result } in
     subst (λ (ps : List Page). spare_of old n ≤ spare_of ps n) (sym (set-cut old c.args.i r c.requires.within))
     (spare-shrunk old c.args.i q r n c.requires.within c.index_mut-page.ensures.value
     (rw c.drop_later.ensures.items (length-kept (λ (x : Slot). nat_le x.commit c.args.t) q.items.items)))
@@ -137,7 +137,7 @@ returns-then-is_empty-clause-dues c =
 
 pub returns-else-is_empty-clause-dues : goal.returns-else-is_empty-clause-dues
 returns-else-is_empty-clause-dues c =
-    let r : Page = record { items = c.drop_later.new.items; due = c.index_mut-page.result.now.due } in
+    let r : Page = record { items = c.drop_later.new.items; due = c.index_mut-page.result.now.due; first = c.first_or-page.result } in
     shrunk-set c.args.pages.now.items c.args.i r c.requires.within
 
 pub returns-else-is_empty-clause-tail : goal.returns-else-is_empty-clause-tail
@@ -147,7 +147,7 @@ returns-else-is_empty-clause-tail c p e =
     let old = c.args.pages.now.items in
     let i = c.args.i in
     let q = c.index_mut-page.result.now in
-    let r : Page = record { items = c.drop_later.new.items; due = q.due } in
+    let r : Page = record { items = c.drop_later.new.items; due = q.due; first = c.first_or-page.result } in
     let rest = items_of b (drop (i + 1) old) in
     let within = c.requires.within in
     let left : held b r ≡ up_to t (held b q) =

@@ -105,7 +105,7 @@ returns-else-is_empty-clause-store c =
     let shorter : length r.items.items ≤ length q.items.items = c.prune-dead.ensures.len in
     let room : 65 ≤ deque_capacity r.items =
     let cap : deque_capacity r.items ≡ deque_capacity q.items = c.prune-dead.ensures.capacity in let was = page.room in omega arith in
-    let is_page : IsPage b r = record { some = some; few = omega arith; room = room; slots = c.prune-dead.ensures.slots } in
+    let is_page : IsPage b r = record { some = some; few = omega arith; room = room; slots = c.prune-dead.ensures.slots; first = c.prune-dead.ensures.first } in
     let paged : IsPaged b (take i old ++ ((r ∷ []) ++ drop (i + 1) old)) [] =
     shrunk-at b old i q (r ∷ []) c.requires.store.paged c.requires.within c.index_mut-page.ensures.value sub (is_page, tt)
     (λ o. dues-one b r rest (λ u l. idle-from-next u (held b r) rest (subst InOrder flat o) (c.prune-dead.ensures.idle u rest head l)))

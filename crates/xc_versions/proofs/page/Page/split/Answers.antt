@@ -1,5 +1,5 @@
-use Rattle.std.proofs.Common.{◌≡◌, length, ap, ◌∙◌, arith}
-use Rattle.std.proofs.lemmas.List.{length-take-le, length-drop}
+use Rattle.std.proofs.Common.{◌≡◌, length, get_or, ap, ◌∙◌, arith}
+use Rattle.std.proofs.lemmas.List.{length-take-le, length-drop, get_or-take}
 use Rattle.std.proofs.Common.{List, sym, subst}
 use Rattle.xc_record.proofs.ListLaws.{Each}
 use Rattle.xc_versions.specs.declared.stored.Slot.{Slot}
@@ -21,6 +21,8 @@ returns-clause-lower_page c =
       few = omega arith;
       room = omega arith;
       slots = subst (λ (xs : List Slot). Each (IsSlot b) xs) (sym c.move_behind.ensures.lower) slots.0;
+      first = c.requires.first ∙ sym (get_or-take 32 c.args.self.now.items.items 0 c.args.self.now.first (omega arith))
+          ∙ ap (λ (xs : List Slot). get_or xs 0 c.args.self.now.first) (sym c.move_behind.ensures.lower);
     }
 
 pub returns-clause-upper_page : goal.returns-clause-upper_page
@@ -37,4 +39,5 @@ returns-clause-upper_page c =
       few = omega arith;
       room = omega arith;
       slots = subst (λ (xs : List Slot). Each (IsSlot b) xs) (sym c.move_behind.ensures.upper) slots.1;
+      first = c.first_or-first.ensures;
     }

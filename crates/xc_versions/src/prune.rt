@@ -1,5 +1,6 @@
 // What a prune takes from a page, from its last version to its first.
 ghost use Rattle.std.specs.Prelude.{◌≡◌, ℕ, List, ◌++◌, ◌<◌, ◌≤◌, length, slice_get, slice_index_or, option_map};
+ghost use Rattle.std.specs.Prelude.{IfSome};
 ghost use Rattle.std.specs.VecDeque.{deque_capacity};
 ghost use Rattle.std.specs.Option.{option_to_list};
 ghost use Rattle.xc_versions.specs.Stored.{next_commit, pruned_before};
@@ -12,17 +13,19 @@ ghost use Rattle.xc_versions.specs.declared.stored.StoredVersion.{StoredVersion}
 use crate::page::{Page, first_or};
 use crate::queue::remove_at;
 use crate::stored::Slot;
-use xc_arena::{key_bytes, op_bytes};
+use xc_arena::op_bytes;
 
 // The commit of the next version, where it is of the same key.
 #[inline]
 fn next_commit(bytes: &[u8], version: &Slot, next: &Option<Slot>) -> Option<u64>
+    requires version { IsSlot bytes.now version.now }
+    requires next { IfSome next.now (λ slot. IsSlot bytes.now slot) }
     ensures { result
         ≡ next_commit (seen bytes.now version.now) (option_to_list (option_map (seen bytes.now) next.now)) }
 {
     match next {
         Some(next) => {
-            if key_bytes(bytes, version.at) == key_bytes(bytes, next.at) {
+            if version.is_of_key(bytes, next) {
                 Some(next.commit)
             } else {
                 None
@@ -36,7 +39,8 @@ impl Page {
     /// Removes what its next version replaces at the cutoff, and notes when more is due. Behind the page stands `next`,
     /// or nothing. It gives the number of bytes that no slot of the page names any more.
     pub(crate) fn prune(&mut self, bytes: &[u8], next: Option<Slot>, cutoff: u64) -> usize
-        requires { AllByRecursion (IsSlot bytes.now) self.old.items.items }
+        requires slots { AllByRecursion (IsSlot bytes.now) self.old.items.items }
+        requires next { IfSome next (λ slot. IsSlot bytes.now slot) }
         ensures items { (rest : List StoredVersion) → slice_get rest 0 ≡ option_map (seen bytes.now) next
             → held bytes.now self.new ++ rest ≡ pruned_before cutoff (held bytes.now self.old) rest }
         ensures idle { (u : ℕ) (rest : List StoredVersion) → slice_get rest 0 ≡ option_map (seen bytes.now) next

@@ -1,10 +1,11 @@
 // Prunes and drops over pages: pages that became empty go to the pool.
 ghost use Rattle.std.specs.Prelude.{◌≡◌, ◌++◌, ◌<◌, ◌≤◌, ◌+◌, nat_lt, remove, take, drop, length, slice_get};
-ghost use Rattle.std.specs.Prelude.{slice_index_or, vec_capacity, option_map};
+ghost use Rattle.std.specs.Prelude.{slice_index_or, vec_capacity, option_map, IfSome};
 ghost use Rattle.std.specs.List.{AllByRecursion};
 ghost use Rattle.std.specs.VecDeque.{deque_capacity};
 ghost use Rattle.xc_versions.specs.Stored.{kept, pruned_before, up_to};
 ghost use Rattle.xc_versions.specs.Slots.{seen};
+ghost use Rattle.xc_versions.specs.Heads.{IsSlot};
 ghost use Rattle.xc_versions.specs.Pages.{held, IsPage, IsEmptyPage, items_of, spare_of};
 ghost use Rattle.xc_versions.specs.declared.page.Page.{Page};
 ghost use Rattle.xc_versions.specs.Pool.{IsStore};
@@ -18,11 +19,13 @@ use std::collections::VecDeque;
 // The first version of the pages from i on.
 fn first_from(bytes: &[u8], pages: &VecDeque<Page>, i: usize) -> Option<Slot>
     requires { AllByRecursion (IsPage bytes.now) pages.now.items }
-    ensures { option_map (seen bytes.now) result ≡ slice_get (items_of bytes.now (drop i pages.now.items)) 0 }
+    ensures version { option_map (seen bytes.now) result
+        ≡ slice_get (items_of bytes.now (drop i pages.now.items)) 0 }
+    ensures slot { IfSome result (λ slot. IsSlot bytes.now slot) }
 {
     if i < pages.len() {
         let page = &pages[i];
-        page.items.front().copied()
+        Some(page.first)
     } else {
         None
     }

@@ -1,5 +1,5 @@
 // A version as it is kept, and the search among versions in order.
-ghost use Rattle.std.specs.Prelude.{◌≡◌, length, map, filter, nat_le, true};
+ghost use Rattle.std.specs.Prelude.{◌≡◌, length, map, filter, nat_le, true, bytes_eq};
 ghost use Rattle.std.specs.VecDeque.{deque_capacity};
 ghost use Rattle.std.specs.Ordering.{is_gt, nat_cmp};
 ghost use Rattle.std.specs.Cmp.Lexicographic.{slice_cmp};
@@ -75,6 +75,16 @@ impl Slot {
             },
             unequal => unequal,
         }
+    }
+
+    /// Whether its version is of the other's key.
+    #[inline]
+    pub(crate) fn is_of_key(&self, bytes: &[u8], other: &Slot) -> bool
+        requires slot { IsSlot bytes.now self.now }
+        requires other { IsSlot bytes.now other.now }
+        ensures { result ≡ bytes_eq (key_at bytes.now self.now.at) (key_at bytes.now other.now.at) }
+    {
+        self.key_order(bytes, other).is_eq()
     }
 
     /// Whether its version stands behind the other's.

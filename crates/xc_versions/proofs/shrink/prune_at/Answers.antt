@@ -42,7 +42,7 @@ returns-then-is_empty-clause-store c =
     let rest = items_of b (drop (i + 1) old) in
     let empty : length r.items.items ≡ 0 = grind (arith, common_steps) in
     let none : held b r ≡ [] = ap (map (seen b)) (nil_from_length r.items.items empty) in
-    let all_left = c.prune-dead.ensures.items rest (sym c.first_from-next.ensures) in
+    let all_left = c.prune-dead.ensures.items rest (sym c.first_from-next.ensures.version) in
     let gone : pruned_before c.args.cutoff (held b q) rest ≡ rest = sym all_left ∙ ap (λ w. w ++ rest) none in
     let sub : Sub rest (held b q ++ rest) =
     subst (λ (w : List StoredVersion). Sub w (held b q ++ rest)) gone (sub-pruned c.args.cutoff (held b q) rest) in
@@ -73,7 +73,7 @@ returns-then-is_empty-clause-tail c p e =
     let empty : length r.items.items ≡ 0 = grind (arith, common_steps) in
     let none : held b r ≡ [] = ap (map (seen b)) (nil_from_length r.items.items empty) in
     let same : p ≡ q = e ∙ get_or_default old i p q c.requires.within ∙ sym c.index_mut-page.ensures.value in
-    let all_left = c.prune-dead.ensures.items rest (sym c.first_from-next.ensures) in
+    let all_left = c.prune-dead.ensures.items rest (sym c.first_from-next.ensures.version) in
     ap (λ ps. items_of b (drop i ps)) (new-pages c) ∙ ap (items_of b) (behind-removed old i c.requires.within)
     ∙ sym (ap (λ w. w ++ rest) none) ∙ all_left ∙ ap (λ (x : Page). pruned_before c.args.cutoff (held b x) rest) (sym same)
 
@@ -93,7 +93,7 @@ returns-else-is_empty-clause-store c =
     let q = c.index_mut-page.result.now in
     let r = c.prune-dead.new.self in
     let rest = items_of b (drop (i + 1) old) in
-    let head = sym c.first_from-next.ensures in
+    let head = sym c.first_from-next.ensures.version in
     let all_left = c.prune-dead.ensures.items rest head in
     let flat : items_of b (r ∷ []) ++ rest ≡ held b r ++ rest = ap (λ w. w ++ rest) (append-nil (held b r)) in
     let sub : Sub (items_of b (r ∷ []) ++ rest) (held b q ++ rest) =
@@ -136,7 +136,7 @@ pub returns-else-is_empty-clause-dues : goal.returns-else-is_empty-clause-dues
 returns-else-is_empty-clause-dues c =
     shrunk-set c.args.pages.now.items c.args.i c.prune-dead.new.self c.requires.within
 
-pub prune-dead-requires : goal.prune-dead-requires
-prune-dead-requires c =
+pub prune-dead-requires-clause-slots : goal.prune-dead-requires-clause-slots
+prune-dead-requires-clause-slots c =
     (page-at c.args.bytes.now c.args.pages.now.items c.args.i c.index_mut-page.result.now c.requires.store.paged.pages c.requires.within
     c.index_mut-page.ensures.value).slots

@@ -1,4 +1,4 @@
-use Rattle.std.proofs.Common.{◌≡◌, ℕ, ◌+◌, ◌-◌, ◌<◌, List, length, map, min, ap, sym, ◌∙◌, subst, arith}
+use Rattle.std.proofs.Common.{◌≡◌, ℕ, ◌+◌, ◌-◌, ◌<◌, List, length, get_or, map, min, ap, sym, ◌∙◌, subst, arith}
 use Rattle.std.specs.Prelude.{option_map}
 use Rattle.std.proofs.lemmas.Bool.{le-leb, lt-leb}
 use Rattle.std.proofs.lemmas.List.{length-map}
@@ -12,6 +12,9 @@ use Rattle.xc_versions.proofs.SplitLaws.{each-at}
 use Rattle.xc_versions.proofs.SlotLaws.{read-map, map-remove, each-removed}
 use Rattle.xc_versions.proofs.PruneLaws.{Going, going-kept, going-removed}
 use Rattle.xc_versions.proofs.page.Page.prune.Goals as goal
+
+slot-read : (b : List ℕ) (slots : List Slot) (i : ℕ) (x : Slot) → i < length slots → x ≡ get_or slots i x → Each (IsSlot b) slots → IsSlot b x
+slot-read b slots i x h e g = subst (IsSlot b) (sym e) (each-at (IsSlot b) slots i x g h)
 
 pub loop-i-preserved-then-commit-cutoff : goal.loop-i-preserved-then-commit-cutoff
 loop-i-preserved-then-commit-cutoff c =
@@ -34,6 +37,7 @@ loop-i-preserved-then-commit-cutoff c =
           (ap (is_due u) (sym c.in-Some.ensures) ∙ le-leb c.in-Some.commit u c.if-commit-cutoff.true));
       slots = subst (λ (zs : List Slot). Each (IsSlot b) zs) (sym c.remove_at.ensures.items)
           (each-removed (IsSlot b) slots i c.loop-i.invariant.slots);
+      behind = c.loop-i.invariant.behind;
       capacity = c.remove_at.ensures.capacity ∙ c.loop-i.invariant.capacity;
     }
 
@@ -60,6 +64,7 @@ loop-i-preserved-in-Some-2 c =
           (ap (is_due u) (sym c.in-Some.ensures) ∙ lt-leb commit u (omega arith))
           (λ w l. (omega arith, ap (is_due w) (sym c.in-Some.ensures) ∙ lt-leb commit w (omega arith)));
       slots = c.loop-i.invariant.slots;
+      behind = slot-read b c.loop-i.self.items.items i x within c.index.ensures c.loop-i.invariant.slots;
       capacity = c.loop-i.invariant.capacity;
     }
 
@@ -82,6 +87,7 @@ loop-i-preserved c =
           (read-map (seen b) slots i x within c.index.ensures)
           (ap (is_due u) (sym c.in-None.ensures)) (λ w l. (l, ap (is_due w) (sym c.in-None.ensures)));
       slots = c.loop-i.invariant.slots;
+      behind = slot-read b c.loop-i.self.items.items i x within c.index.ensures c.loop-i.invariant.slots;
       capacity = c.loop-i.invariant.capacity;
     }
 

@@ -1,5 +1,5 @@
 use Rattle.std.proofs.Common.{◌≡◌, deque_capacity}
-use Rattle.std.specs.Prelude.{option_map}
+use Rattle.std.specs.Prelude.{option_map, IfSome}
 use Rattle.std.specs.List.{AllByRecursion}
 use Rattle.xc_versions.specs.Slots.{seen}
 use Rattle.xc_versions.specs.Heads.{IsSlot}
@@ -12,6 +12,7 @@ invariant-loop-i l = record {
   going : Going l.cutoff (option_map (seen l.bytes) l.fn.next) (held l.bytes l.initial.self) (held l.bytes l.self)
       (option_map (seen l.bytes) l.behind) l.due l.i;
   slots : AllByRecursion (IsSlot l.bytes) l.self.items.items;
+  behind : IfSome l.behind (IsSlot l.bytes);
   capacity : deque_capacity l.self.items ≡ deque_capacity l.initial.self.items;
 }
 

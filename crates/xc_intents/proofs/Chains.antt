@@ -1,8 +1,9 @@
 -- How links and chains stay right: as slots die, as links pass over dead slots, and as one more slot is linked.
 use Rattle.std.proofs.Common.{◌≡◌, ◌≢◌, ℕ, ◌+◌, ◌<◌, ◌≤◌, Bool, true, false, List, length, set, map, Option, Some, None, refl, sym, ◌∙◌, ap}
-use Rattle.std.proofs.Common.{subst, arith, ◌==◌, ◌&&◌, ⊎_elim}
+use Rattle.std.proofs.Common.{get_or, subst, arith, ◌==◌, ◌&&◌, ⊎_elim}
 use Rattle.std.proofs.lemmas.Bool.{cases_eq, cases_lt}
-use Rattle.std.proofs.lemmas.List.{get_or-set_same, get_or-set_other, length-set, map-set, get_or-map, set-get_or, length-map}
+use Rattle.std.proofs.lemmas.List.{get_or_default, get_or-set_same, get_or-set_other, length-set, map-set, get_or-map, set-get_or}
+use Rattle.std.proofs.lemmas.List.{length-map}
 use Rattle.xc_intents.specs.HeldOps.{in_range}
 use Rattle.xc_intents.specs.declared.slots.Slot.{Slot}
 use Rattle.xc_intents.specs.declared.slots.Chain.{Chain}
@@ -192,6 +193,13 @@ module _ (n : ℕ) (xs : List Slot) (cs : List Chain) (p m j : ℕ) (s : Slot) (
 
   pub Linked-over : Linked (set xs p s) cs n
   Linked-over = Linked-rewired n xs (set xs p s) over-fewer cs over-links over-ends l
+
+-- a chain, and a slot, as they are read
+pub chain-read : (cs : List Chain) (e : ℕ) (d : Chain) → e < length cs → get_or cs e d ≡ chain_at cs e
+chain-read cs e d h = get_or_default cs e d (no_chain 0) h
+
+pub slot-read : (xs : List Slot) (i : ℕ) (d : Slot) → i < length xs → get_or xs i d ≡ at xs i
+slot-read xs i d h = get_or_default xs i d blank h
 
 -- ---- a chain that is written
 

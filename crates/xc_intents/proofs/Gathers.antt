@@ -1,5 +1,5 @@
 -- What is left of slots and chains where the dead and the unused are dropped, and what is linked anew.
-use Rattle.std.proofs.Common.{◌≡◌, ◌≢◌, ℕ, zero, suc, ◌+◌, ◌^◌, ◌<◌, ◌≤◌, Bool, true, false, cond, List, [], ◌∷◌, ◌++◌, length, set}
+use Rattle.std.proofs.Common.{◌≡◌, ◌≢◌, ℕ, zero, suc, ◌+◌, ◌<◌, ◌≤◌, Bool, true, false, cond, List, [], ◌∷◌, ◌++◌, length, set}
 use Rattle.std.proofs.Common.{map, filter}
 use Rattle.std.proofs.Common.{take, drop, Option, Some, None, is_some, refl, sym, ◌∙◌, ap, subst, arith, ◌==◌, ◌&&◌}
 use Rattle.std.proofs.lemmas.Bool.{eq-eqb}
@@ -9,6 +9,7 @@ use Rattle.std.proofs.lemmas.List.Elements.{All-filter, All-from_get_or, filter_
 use Rattle.std.specs.List.{All}
 use Rattle.xc_record.specs.Packed.{encode_op}
 use Rattle.xc_arena.specs.Arena.{op_at}
+use Rattle.xc_intents.specs.declared.limits.TheConstants.{MOST_LINKED}
 use Rattle.xc_intents.specs.declared.slots.Slot.{Slot}
 use Rattle.xc_intents.specs.declared.slots.Chain.{Chain}
 use Rattle.xc_intents.specs.Slots.{at, chain_at, no_chain, blank, bare, is_live, is_used, cut, slot_op, held_in, mine, NextTo, ChainFits}
@@ -165,7 +166,7 @@ Linked-used xs cs ds n live l same tree =
     used i a c t (Some j) next = refl
 
 -- slots that are live, and linked anew
-module _ (xs ys : List Slot) (ds : List Chain) (small : length xs ≤ 2 ^ 32) (same : map bare ys ≡ map bare (filter is_live xs))
+module _ (xs ys : List Slot) (ds : List Chain) (small : length xs ≤ MOST_LINKED) (same : map bare ys ≡ map bare (filter is_live xs))
     (l : Linked ys ds (length ys)) where
   anew-long : length ys ≡ length (filter is_live xs)
   anew-long = length-bare (filter is_live xs) ys same
@@ -186,7 +187,7 @@ module _ (xs ys : List Slot) (ds : List Chain) (small : length xs ≤ 2 ^ 32) (s
   anew-size b = sym (size-bare b ys) ∙ ap (size_of b) same ∙ size-bare b (filter is_live xs)
 
   pub anew-chained : (b : List ℕ) → Holds b xs → (es : List Chain) → length (filter is_live xs) ≤ length xs
-      → map loose es ≡ map loose (filter is_used ds) → IsTree es (length es) → length es ≤ 2 ^ 32 → IsChained b ys es
+      → map loose es ≡ map loose (filter is_used ds) → IsTree es (length es) → length es ≤ MOST_LINKED → IsChained b ys es
   anew-chained b holds es short kept tree few = record {
     linked = Linked-used ys ds es (length ys) anew-live l kept tree;
     holds = holds-same b (filter is_live xs) ys same (holds-filter b xs holds);

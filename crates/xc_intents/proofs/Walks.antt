@@ -1,5 +1,5 @@
 -- What a walk finds, and what the slots hold.
-use Rattle.std.proofs.Common.{◌≡◌, ◌≢◌, ℕ, zero, suc, ◌<◌, ◌≤◌, ◌^◌, Bool, true, false, cond, List, [], ◌∷◌, ◌++◌, length, set, map, filter}
+use Rattle.std.proofs.Common.{◌≡◌, ◌≢◌, ℕ, zero, suc, ◌<◌, ◌≤◌, Bool, true, false, cond, List, [], ◌∷◌, ◌++◌, length, set, map, filter}
 use Rattle.std.proofs.Common.{Option, Some, None, refl, sym, ◌∙◌, ap, subst, arith, ◌==◌, ◌&&◌, ⊎_elim}
 use Rattle.std.specs.List.{find, slice_get}
 use Rattle.std.specs.Option.{option_map}
@@ -11,6 +11,7 @@ use Rattle.std.proofs.lemmas.Option.{slice_get-get_or, slice_get_past}
 use Rattle.xc_record.specs.Hash.{hash_of}
 use Rattle.xc_record.specs.Kept.{KeyWaiting}
 use Rattle.xc_intents.specs.HeldOps.{Sought, in_range, is_part, is_sought, without_first}
+use Rattle.xc_intents.specs.declared.limits.TheConstants.{MOST_LINKED}
 use Rattle.xc_intents.specs.declared.slots.Slot.{Slot}
 use Rattle.xc_intents.specs.declared.slots.Chain.{Chain}
 use Rattle.xc_intents.specs.Slots.{at, chain_at, blank, bare, is_live, slot_op, held_in, mine, in_walk, PassedTo, ChainFits, HasChain}
@@ -176,7 +177,8 @@ module _ (b : List ℕ) (p : KeyWaiting → Bool) where
   lives s = s.live && p (slot_op b s)
 
   abbrev pub FirstHeld : List Slot → ℕ → Type 0
-  FirstHeld xs i = (find p (held_in b xs) ≡ Some (slot_op b (at xs i))) × (held_in b (set xs i (dead (at xs i))) ≡ without_first p (held_in b xs))
+  FirstHeld xs i =
+      (find p (held_in b xs) ≡ Some (slot_op b (at xs i))) × (held_in b (set xs i (dead (at xs i))) ≡ without_first p (held_in b xs))
 
   first-step : (x : Slot) (xs : List Slot) (i : ℕ) (l : Bool) → x.live ≡ l → (l && p (slot_op b x)) ≡ false → FirstHeld xs i
       → FirstHeld (x ∷ xs) (suc i)
@@ -196,7 +198,8 @@ module _ (b : List ℕ) (p : KeyWaiting → Bool) where
   first-held (x ∷ xs) zero h e n =
       let parts = and_parts x.live (p (slot_op b x)) e in (
         ap (find p) (held-live b x xs parts.0) ∙ find-yes (slot_op b x) (held_in b xs) parts.1,
-        held-dead b (dead x) xs refl ∙ sym (ap (without_first p) (held-live b x xs parts.0) ∙ without-yes (slot_op b x) (held_in b xs) parts.1),
+        held-dead b (dead x) xs refl
+            ∙ sym (ap (without_first p) (held-live b x xs parts.0) ∙ without-yes (slot_op b x) (held_in b xs) parts.1),
       )
   first-held (x ∷ xs) (suc i) h e n =
       first-step x xs i x.live refl (n 0 (omega arith)) (first-held xs i (omega arith) e (λ k low. n (suc k) (omega arith)))
@@ -245,7 +248,7 @@ module _ (b : List ℕ) (xs ys : List Slot) (t lo hi : ℕ) (same : map bare ys 
       → held_in b (set ys i (dead (at ys i))) ≡ without_first (is_part t lo hi) (held_in b xs)
   found-left i found = (first-found i found).1 ∙ ap (without_first (is_part t lo hi)) (held-same b xs ys same)
 
-  pub chained-same : (cs : List Chain) → Linked ys cs (length ys) → length xs ≤ 2 ^ 32 → length cs ≤ 2 ^ 32 → IsChained b ys cs
+  pub chained-same : (cs : List Chain) → Linked ys cs (length ys) → length xs ≤ MOST_LINKED → length cs ≤ MOST_LINKED → IsChained b ys cs
   chained-same cs l small few =
       record { linked = l; holds = holds-same b xs ys same holds; small = omega (arith, length-bare xs ys same); few = few }
 

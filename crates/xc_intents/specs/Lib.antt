@@ -1,3 +1,4 @@
 pub mod HeldOps
 pub mod Gifts
+pub mod Links
 pub mod Slots

@@ -21,6 +21,7 @@ use Rattle.xc_record.specs.Kept.{KeyWaiting}
 use Rattle.xc_record.specs.Packed.{encode_op}
 use Rattle.xc_arena.specs.Arena.{key_at, op_at, Lies}
 use Rattle.xc_intents.specs.HeldOps.{Sought, held_op, in_range}
+use Rattle.xc_intents.specs.declared.limits.TheConstants.{MOST_LINKED}
 use Rattle.xc_intents.specs.declared.slots.Slot.{Slot}
 use Rattle.xc_intents.specs.declared.slots.Chain.{Chain}
 
@@ -41,7 +42,7 @@ size_of b (s ∷ ss) = length (encode_op (op_at b s.at)) + size_of b ss
 
 -- for how many more operations there are slots and chains, by the capacities and the lengths
 abbrev pub room_in : ℕ → ℕ → ℕ → ℕ → ℕ
-room_in slot_cap slot_len chain_cap chain_len = min (min slot_cap (2 ^ 32) - slot_len) (min chain_cap (2 ^ 32) - chain_len)
+room_in slot_cap slot_len chain_cap chain_len = min (min slot_cap MOST_LINKED - slot_len) (min chain_cap MOST_LINKED - chain_len)
 
 abbrev pub blank : Slot
 blank = record { next = None; txn = 0; hash = 0; sub = 0; live = false; at = 0 }
@@ -216,8 +217,8 @@ Holds b xs = (i : ℕ) → i < length xs → Keeps b (at xs i)
 pub record IsChained (b : List ℕ) (xs : List Slot) (cs : List Chain) : Type 0 where
   pub linked : Linked xs cs (length xs)
   pub holds : Holds b xs
-  pub small : length xs ≤ 2 ^ 32
-  pub few : length cs ≤ 2 ^ 32
+  pub small : length xs ≤ MOST_LINKED
+  pub few : length cs ≤ MOST_LINKED
 
 -- and so many of them are dead
 pub record AreSlots (b : List ℕ) (xs : List Slot) (cs : List Chain) (dead : ℕ) : Type 0 where

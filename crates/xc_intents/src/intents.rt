@@ -8,14 +8,12 @@ ghost use Rattle.xc_intents.specs.HeldOps.{held_op, is_part, is_rest, is_sought,
 ghost use Rattle.xc_intents.specs.Gifts.{WalksGiveAll};
 
 use crate::held::Held;
+use crate::limits::MOST_LINKED;
 use crate::slots::{Chain, Slot, append, gather, live_bytes, take_next, walk};
 use std::alloc::{AllocError, Global};
 use std::marker::Model;
 use xc_arena::{ARENA_BYTES, OP_BYTES, reserve_ops};
 use xc_record::Op;
-
-// Slots and chains are numbered in 32 bits.
-const MOST_SLOTS: usize = 1 << 32;
 
 /// The operations that wait, in the order in which they were held. Contracts see them as that list, beside for how many
 /// more there is room, and what a walk looks for.
@@ -124,7 +122,7 @@ impl Intents {
         ensures same { self.new.held ≡ self.old.held }
         ensures kept { self.old.spare ≤ self.new.spare }
     {
-        if n > MOST_SLOTS - self.slots.len() || n > MOST_SLOTS - self.chains.len() {
+        if n > MOST_LINKED - self.slots.len() || n > MOST_LINKED - self.chains.len() {
             return Err(AllocError);
         }
         if reserve_ops(&mut self.arena, n).is_err() {

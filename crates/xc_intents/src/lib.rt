@@ -3,6 +3,8 @@
 
 mod held;
 mod intents;
+mod limits;
+mod link;
 mod slots;
 mod tree;
 

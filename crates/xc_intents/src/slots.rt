@@ -15,8 +15,10 @@ ghost use Rattle.xc_intents.specs.Slots.{chain_and, slots_and, walk_of, IsChaine
 ghost use Rattle.xc_intents.specs.Slots.{Keeps, Holds, Carried, size_of};
 ghost use Rattle.xc_arena.specs.Arena.{room_of};
 ghost use Rattle.xc_arena.specs.declared.limits.TheConstants.{ARENA_BYTES};
+ghost use Rattle.xc_intents.specs.declared.limits.TheConstants.{MOST_LINKED};
 
 use crate::held::Held;
+use crate::link::Link;
 use crate::tree::{drop_unused, find, open};
 use xc_arena::{key, move_op, op_bytes, put_op, value_of};
 use xc_base::{Key, Value};
@@ -25,7 +27,7 @@ use xc_record::{Op, hash};
 /// Where an operation begins in the arena, the slot after it in its transaction's chain, and whether it is still held.
 #[derive(Drop, Debug, Clone, Copy)]
 pub(crate) struct Slot {
-    pub(crate) next: Option<u32>,
+    pub(crate) next: Link,
     pub(crate) txn: u32,
     pub(crate) hash: u16,
     pub(crate) sub: u8,
@@ -39,11 +41,11 @@ pub(crate) struct Chain {
     pub(crate) txn: u32,
     // the chains below it in the tree in which a chain is found by the bits of its transaction's number: beside that
     // number, since a search reads these three of each chain that it passes
-    pub(crate) left: Option<u32>,
-    pub(crate) right: Option<u32>,
-    pub(crate) first: Option<u32>,
-    pub(crate) last: Option<u32>,
-    pub(crate) passed: Option<u32>,
+    pub(crate) left: Link,
+    pub(crate) right: Link,
+    pub(crate) first: Link,
+    pub(crate) last: Link,
+    pub(crate) passed: Link,
     pub(crate) lo: u16,
     pub(crate) hi: u16,
 }
@@ -61,19 +63,19 @@ fn next_of(slots: &[Slot], chain: &Chain) -> Option<u32>
     requires { (p : ℕ) → chain.now.passed ≡ Some p → p < length slots.now }
     ensures { result ≡ next_of slots.now chain.now }
 {
-    match chain.passed {
-        None => chain.first,
-        Some(p) => slots[p as usize].next,
+    match chain.passed.get() {
+        None => chain.first.get(),
+        Some(p) => slots[p as usize].next.get(),
     }
 }
 
 // Lets the link behind what the walk passed lead to `next`.
-fn relink(slots: &mut [Slot], chain: &mut Chain, next: Option<u32>)
+fn relink(slots: &mut [Slot], chain: &mut Chain, next: Link)
     requires { (p : ℕ) → chain.old.passed ≡ Some p → p < length slots.old }
     ensures chain { chain.new ≡ chain_to chain.old next }
     ensures slots { slots.new ≡ slots_to slots.old chain.old.passed next }
 {
-    match chain.passed {
+    match chain.passed.get() {
         None => chain.first = next,
         Some(p) => slots[p as usize].next = next,
     }
@@ -84,7 +86,7 @@ fn begin(chain: &mut Chain, lo: u16, hi: u16)
     ensures { chain.new ≡ begun lo hi chain.old }
 {
     if !(chain.lo <= lo && hi <= chain.hi) {
-        chain.passed = None;
+        chain.passed = Link::none();
     }
     chain.lo = lo;
     chain.hi = hi;
@@ -96,13 +98,14 @@ fn behind(slots: &[Slot], i: u32) -> Option<u32>
     ensures { MatchOption result ⊤ (λ j. ((at slots.now i).live ≡ false) × ((at slots.now i).next ≡ Some j)) }
 {
     let slot = &slots[i as usize];
-    if slot.live { None } else { slot.next }
+    if slot.live { None } else { slot.next.get() }
 }
 
 // Moves on past the slot at which the walk goes on, which it does not look for: a dead one is left out of the chain,
 // unless it is the last.
 fn pass(slots: &mut [Slot], chains: &mut [Chain], e: usize, i: u32) -> Option<u32>
     requires linked { Linked slots.old chains.old (length slots.old) }
+    requires small { length slots.old ≤ MOST_LINKED }
     requires chain { e < length chains.old }
     requires here { next_of slots.old (chain_at chains.old e) ≡ Some i }
     requires out { in_walk (chain_at chains.old e) (at slots.old i) ≡ false }
@@ -112,12 +115,12 @@ fn pass(slots: &mut [Slot], chains: &mut [Chain], e: usize, i: u32) -> Option<u3
 {
     match behind(slots, i) {
         Some(next) => {
-            relink(slots, &mut chains[e], Some(next));
+            relink(slots, &mut chains[e], Link::to(next));
             Some(next)
         }
         None => {
-            chains[e].passed = Some(i);
-            slots[i as usize].next
+            chains[e].passed = Link::to(i);
+            slots[i as usize].next.get()
         }
     }
 }
@@ -125,6 +128,7 @@ fn pass(slots: &mut [Slot], chains: &mut [Chain], e: usize, i: u32) -> Option<u3
 // The next slot that the walk of the chain looks for, which stays where it is.
 fn seek(slots: &mut [Slot], chains: &mut [Chain], e: usize) -> Option<usize>
     requires linked { Linked slots.old chains.old (length slots.old) }
+    requires small { length slots.old ≤ MOST_LINKED }
     requires chain { e < length chains.old }
     ensures moves { Moves slots.old chains.old slots.new chains.new e }
     ensures found { IsFound slots.new (chain_at chains.new e) result }
@@ -141,20 +145,22 @@ fn seek(slots: &mut [Slot], chains: &mut [Chain], e: usize) -> Option<usize>
 
 // Lets the chain end at the slot.
 fn put_behind(slots: &mut [Slot], chain: &mut Chain, i: u32)
-    requires { (l : ℕ) → chain.old.last ≡ Some l → l < length slots.old }
+    requires last { (l : ℕ) → chain.old.last ≡ Some l → l < length slots.old }
+    requires small { i < MOST_LINKED }
     ensures chain { chain.new ≡ chain_and chain.old i }
     ensures slots { slots.new ≡ slots_and slots.old chain.old.last i }
 {
-    match chain.last {
-        None => chain.first = Some(i),
-        Some(last) => slots[last as usize].next = Some(i),
+    match chain.last.get() {
+        None => chain.first = Link::to(i),
+        Some(last) => slots[last as usize].next = Link::to(i),
     }
-    chain.last = Some(i);
+    chain.last = Link::to(i);
 }
 
 // Links the slot behind the others of its transaction's chain, which is `e`.
 fn link(slots: &mut [Slot], chains: &mut [Chain], e: usize, i: u32)
     requires linked { Linked slots.old chains.old i }
+    requires small { i < MOST_LINKED }
     requires slot { i < length slots.old }
     requires chain { e < length chains.old }
     requires txn { (at slots.old i).txn ≡ (chain_at chains.old e).txn }
@@ -175,7 +181,7 @@ fn put_last(slots: &mut Vec<Slot>, txn: u32, sub: u8, key: &Key, at: u32)
     ensures capacity { vec_capacity slots.new ≡ vec_capacity slots.old }
 {
     slots.push_reserved(Slot {
-        next: None,
+        next: Link::none(),
         txn,
         hash: hash(key),
         sub,
@@ -198,9 +204,9 @@ pub(crate) fn append(
     requires chained { IsChained arena.old.items slots.old.items chains.old.items }
     requires op { 1 ≤ room_of arena.old }
     requires slot { vec_len slots.old < vec_capacity slots.old }
-    requires small { vec_len slots.old < 2 ^ 32 }
+    requires small { vec_len slots.old < MOST_LINKED }
     requires chain { vec_len chains.old < vec_capacity chains.old }
-    requires few { vec_len chains.old < 2 ^ 32 }
+    requires few { vec_len chains.old < MOST_LINKED }
     ensures chained { IsChained arena.new.items slots.new.items chains.new.items }
     ensures held { held_in arena.new.items slots.new.items ≡ held_in arena.old.items slots.old.items
         ++ record { key = key; txn = txn; sub = sub; value = value } ∷ [] }
@@ -290,9 +296,9 @@ fn drop_dead(slots: &mut Vec<Slot>)
 fn cut_one(chain: &mut Chain)
     ensures { chain.new ≡ cut chain.old }
 {
-    chain.first = None;
-    chain.last = None;
-    chain.passed = None;
+    chain.first = Link::none();
+    chain.last = Link::none();
+    chain.passed = Link::none();
 }
 
 // Takes all slots out of the chains.
@@ -311,7 +317,7 @@ fn unlink(slots: &mut [Slot], i: usize) -> u32
     ensures txn { result ≡ (at slots.old i).txn }
 {
     let slot = &mut slots[i];
-    slot.next = None;
+    slot.next = Link::none();
     slot.txn
 }
 
@@ -319,7 +325,7 @@ fn unlink(slots: &mut [Slot], i: usize) -> u32
 fn link_again(slots: &mut [Slot], chains: &mut [Chain], i: usize)
     requires linked { Linked slots.old chains.old i }
     requires slot { i < length slots.old }
-    requires small { i < 2 ^ 32 }
+    requires small { i < MOST_LINKED }
     requires has { HasChain chains.old (at slots.old i).txn }
     ensures linked { Linked slots.new chains.new (i + 1) }
     ensures same { map bare slots.new ≡ map bare slots.old }
@@ -335,8 +341,8 @@ fn link_again(slots: &mut [Slot], chains: &mut [Chain], i: usize)
 // Moves the live slots together, and drops the dead ones and the chains without slots.
 fn gather_slots(slots: &mut Vec<Slot>, chains: &mut Vec<Chain>)
     requires linked { Linked slots.old.items chains.old.items (length slots.old.items) }
-    requires small { length slots.old.items ≤ 2 ^ 32 }
-    requires few { length chains.old.items ≤ 2 ^ 32 }
+    requires small { length slots.old.items ≤ MOST_LINKED }
+    requires few { length chains.old.items ≤ MOST_LINKED }
     ensures chained { (b : List ℕ) → Holds b slots.old.items → IsChained b slots.new.items chains.new.items }
     ensures held { (b : List ℕ) → held_in b slots.new.items ≡ held_in b slots.old.items }
     ensures all { (b : List ℕ) → length (held_in b slots.new.items) ≡ length slots.new.items }
@@ -404,7 +410,7 @@ pub(crate) fn gather(bytes: &[u8], to: &mut Vec<u8>, slots: &mut Vec<Slot>, chai
 // Links all slots anew, into chains that are cut first.
 fn chain_anew(slots: &mut [Slot], chains: &mut [Chain])
     requires tree { IsTree chains.old (length chains.old) }
-    requires small { length slots.old ≤ 2 ^ 32 }
+    requires small { length slots.old ≤ MOST_LINKED }
     requires has { (k : ℕ) → k < length slots.old → HasChain chains.old (at slots.old k).txn }
     ensures linked { Linked slots.new chains.new (length slots.new) }
     ensures same { map bare slots.new ≡ map bare slots.old }
@@ -417,7 +423,7 @@ fn chain_anew(slots: &mut [Slot], chains: &mut [Chain])
 // Links all slots anew.
 fn link_all(slots: &mut [Slot], chains: &mut [Chain])
     requires linked { Linked slots.old chains.old 0 }
-    requires small { length slots.old ≤ 2 ^ 32 }
+    requires small { length slots.old ≤ MOST_LINKED }
     requires has { (k : ℕ) → k < length slots.old → HasChain chains.old (at slots.old k).txn }
     ensures linked { Linked slots.new chains.new (length slots.new) }
     ensures same { map bare slots.new ≡ map bare slots.old }

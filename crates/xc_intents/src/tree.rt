@@ -7,7 +7,9 @@ ghost use Rattle.std.specs.Vec.{vec_len, vec_capacity};
 ghost use Rattle.xc_intents.specs.declared.slots.Slot.{Slot};
 ghost use Rattle.xc_intents.specs.Slots.{Linked, IsTree, Distinct, NoChain, chain_at, no_chain, is_right};
 ghost use Rattle.xc_intents.specs.Slots.{behind_bit, below, hung, loose, is_used};
+ghost use Rattle.xc_intents.specs.declared.limits.TheConstants.{MOST_LINKED};
 
+use crate::link::Link;
 use crate::slots::Chain;
 
 const HIGHEST_BIT: u32 = 1 << 31;
@@ -26,20 +28,21 @@ fn below(chain: &Chain, rest: u32) -> Option<u32>
     ensures { result ≡ below (is_right rest) chain.now }
 {
     if rest >= HIGHEST_BIT {
-        chain.right
+        chain.right.get()
     } else {
-        chain.left
+        chain.left.get()
     }
 }
 
 // Puts the chain `n` there.
 fn hang(chain: &mut Chain, rest: u32, n: u32)
+    requires { n < MOST_LINKED }
     ensures { chain.new ≡ hung (is_right rest) n chain.old }
 {
     if rest >= HIGHEST_BIT {
-        chain.right = Some(n);
+        chain.right = Link::to(n);
     } else {
-        chain.left = Some(n);
+        chain.left = Link::to(n);
     }
 }
 
@@ -99,7 +102,7 @@ pub(crate) fn find(chains: &[Chain], recent: usize, txn: u32) -> Option<usize>
 fn plant(chains: &mut [Chain], n: usize)
     requires tree { IsTree chains.old n }
     requires within { n < length chains.old }
-    requires small { n < 2 ^ 32 }
+    requires small { n < MOST_LINKED }
     requires other { (k : ℕ) → k < n → (chain_at chains.old k).txn ≢ (chain_at chains.old n).txn }
     requires loose { loose (chain_at chains.old n) ≡ chain_at chains.old n }
     ensures tree { IsTree chains.new (n + 1) }
@@ -123,8 +126,8 @@ fn plant(chains: &mut [Chain], n: usize)
 fn uproot_one(chain: &mut Chain)
     ensures { chain.new ≡ loose chain.old }
 {
-    chain.left = None;
-    chain.right = None;
+    chain.left = Link::none();
+    chain.right = Link::none();
 }
 
 // Takes all chains out of the tree.
@@ -139,7 +142,7 @@ fn uproot(chains: &mut [Chain])
 // Puts all chains into the tree.
 fn plant_all(chains: &mut [Chain])
     requires distinct { Distinct chains.old }
-    requires few { length chains.old ≤ 2 ^ 32 }
+    requires few { length chains.old ≤ MOST_LINKED }
     requires loose { map loose chains.old ≡ chains.old }
     ensures tree { IsTree chains.new (length chains.new) }
     ensures same { map loose chains.new ≡ map loose chains.old }
@@ -152,7 +155,7 @@ fn plant_all(chains: &mut [Chain])
 // Makes the tree anew.
 fn replant(chains: &mut [Chain])
     requires distinct { Distinct chains.old }
-    requires few { length chains.old ≤ 2 ^ 32 }
+    requires few { length chains.old ≤ MOST_LINKED }
     ensures tree { IsTree chains.new (length chains.new) }
     ensures same { map loose chains.new ≡ map loose chains.old }
 {
@@ -166,13 +169,13 @@ fn retain_used(chains: &mut Vec<Chain>)
     ensures len { vec_len chains.new ≤ vec_len chains.old }
     ensures capacity { vec_capacity chains.new ≡ vec_capacity chains.old }
 {
-    chains.retain(|chain| chain.first.is_some());
+    chains.retain(|chain| chain.first.get().is_some());
 }
 
 /// Drops the chains without slots.
 pub(crate) fn drop_unused(chains: &mut Vec<Chain>)
     requires tree { IsTree chains.old.items (length chains.old.items) }
-    requires few { length chains.old.items ≤ 2 ^ 32 }
+    requires few { length chains.old.items ≤ MOST_LINKED }
     ensures tree { IsTree chains.new.items (length chains.new.items) }
     ensures chains { map loose chains.new.items ≡ map loose (filter is_used chains.old.items) }
     ensures len { vec_len chains.new ≤ vec_len chains.old }
@@ -191,11 +194,11 @@ fn put_chain(chains: &mut Vec<Chain>, txn: u32)
 {
     chains.push_reserved(Chain {
         txn,
-        left: None,
-        right: None,
-        first: None,
-        last: None,
-        passed: None,
+        left: Link::none(),
+        right: Link::none(),
+        first: Link::none(),
+        last: Link::none(),
+        passed: Link::none(),
         lo: 0,
         hi: 0,
     });
@@ -205,7 +208,7 @@ fn put_chain(chains: &mut Vec<Chain>, txn: u32)
 pub(crate) fn open(chains: &mut Vec<Chain>, recent: usize, txn: u32) -> usize
     requires tree { IsTree chains.old.items (length chains.old.items) }
     requires room { vec_len chains.old < vec_capacity chains.old }
-    requires few { vec_len chains.old < 2 ^ 32 }
+    requires few { vec_len chains.old < MOST_LINKED }
     ensures linked { (xs : List Slot) (n : ℕ) → Linked xs chains.old.items n → Linked xs chains.new.items n }
     ensures chain { result < length chains.new.items }
     ensures txn { (chain_at chains.new.items result).txn ≡ txn }

@@ -13,7 +13,9 @@ use Rattle.xc_intents.proofs.intents.Intents.begin.Goals.{After-walk}
 chains_are : (c : After-walk) → (with_items c.self.inside.chains c.walk.new.chains).items ≡ c.walk.new.chains
 chains_are c = with_items_is c.self.inside.chains c.walk.new.chains (omega (arith, c.walk.auto.chains, c.deref_mut.ensures.len))
 
-kept : (c : After-walk) → AreSlots c.self.inside.arena.items c.self.inside.slots.items (with_items c.self.inside.chains c.walk.new.chains).items c.self.inside.dead
+kept : (c : After-walk)
+    → AreSlots c.self.inside.arena.items c.self.inside.slots.items (with_items c.self.inside.chains c.walk.new.chains).items
+    c.self.inside.dead
 kept c =
     let xs = c.self.inside.slots.items in
     let is = c.self.invariant.chained in

@@ -52,7 +52,8 @@ as-sought : {X : Type 0} (c : After-take_next) (f : (KeyWaiting → Bool) → Li
     → f (part c) (held_in c.deref.result.now c.deref_mut.result.now) ≡ f (is_sought c.args.self.now.sought) c.args.self.now.held
 as-sought c f =
     ap (λ b. f (part c) (held_in b c.deref_mut.result.now)) c.deref.ensures.value
-    ∙ ap (λ xs. f (part c) (held_in c.self.inside.arena.items xs)) c.deref_mut.ensures.value ∙ ap (λ (h : HeldOps). f (part c) h.held) c.self.view_is
+    ∙ ap (λ xs. f (part c) (held_in c.self.inside.arena.items xs)) c.deref_mut.ensures.value
+    ∙ ap (λ (h : HeldOps). f (part c) h.held) c.self.view_is
     ∙ ap (λ s. f (is_sought s) c.args.self.now.held) (sym (walks c))
 
 sought-kept : (c : After-take_next) → SameWalk (chain c) (chain_at c.take_next.new.chains c.self.inside.recent)
@@ -81,7 +82,8 @@ kept c chained dead count =
     }
 
 -- what was held, in the bytes that were read
-held-read : (c : After-take_next) → held_in c.deref.result.now c.deref_mut.result.now ≡ held_in c.self.inside.arena.items c.self.inside.slots.items
+held-read : (c : After-take_next)
+    → held_in c.deref.result.now c.deref_mut.result.now ≡ held_in c.self.inside.arena.items c.self.inside.slots.items
 held-read c = ap (λ w. held_in w c.deref_mut.result.now) c.deref.ensures.value
     ∙ ap (held_in c.self.inside.arena.items) c.deref_mut.ensures.value
 

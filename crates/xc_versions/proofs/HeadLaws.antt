@@ -270,7 +270,8 @@ fronts key count e =
     length-append key (replicate (15 - length key) 0) in
     let zeros : length (replicate {A = ℕ} (15 - length key) 0) ≡ 15 - length key = length-replicate (15 - length key) 0 in
     let same : count ≡ length key = omega arith in
-    ap (λ n. take n key ++ replicate (15 - n) 0) same ∙ ap (λ w. w ++ replicate (15 - length key) 0) (take_all (length key) key (omega arith))
+    ap (λ n. take n key ++ replicate (15 - n) 0) same
+    ∙ ap (λ w. w ++ replicate (15 - length key) 0) (take_all (length key) key (omega arith))
     ∙ sym (take_all 15 (padded 15 key) (omega arith)))
     (λ f. let l = ltb-false (length key) 15 f in
     let none : 15 - length key ≡ 0 = omega arith in

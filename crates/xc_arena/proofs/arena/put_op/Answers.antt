@@ -14,7 +14,8 @@ text t = length t ∷ t
 -- a key and no value behind the bytes b
 none-is : (b k t r new : List ℕ) (v : Written) → t ≡ k → r ≡ b ++ text t → new ≡ r ++ 0 ∷ [] → v ≡ None → new ≡ b ++ encode_op (op-of k v)
 none-is b k t r new v e f g h =
-    g ∙ ap (λ w. w ++ 0 ∷ []) (f ∙ ap (λ t. b ++ text t) e) ∙ append_assoc b (text k) (0 ∷ []) ∙ ap (λ v. b ++ encode_op (op-of k v)) (sym h)
+    g ∙ ap (λ w. w ++ 0 ∷ []) (f ∙ ap (λ t. b ++ text t) e) ∙ append_assoc b (text k) (0 ∷ [])
+    ∙ ap (λ v. b ++ encode_op (op-of k v)) (sym h)
 
 -- a key and a value
 some-is : (b k t r s u new w : List ℕ) (v : Written) → t ≡ k → r ≡ b ++ text t → s ≡ r ++ 1 ∷ [] → u ≡ w → new ≡ s ++ text u

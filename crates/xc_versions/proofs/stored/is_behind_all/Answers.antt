@@ -13,6 +13,7 @@ returns-then-count-gt0 c t =
     let b = c.args.bytes.now in
     let v = seen b c.args.slot.now in
     let xs = c.args.items.now.items in
-    splits-whole (λ x. is_gt (stored_cmp v (seen b x))) xs (c.len-count.result - 1) c.index.result.now (slots-fall b v xs c.requires.ordered)
+    splits-whole (λ x. is_gt (stored_cmp v (seen b x))) xs (c.len-count.result - 1) c.index.result.now
+    (slots-fall b v xs c.requires.ordered)
     (let some = c.if-count-gt0.true in let count = c.len-count.ensures ∙ deque-long c.args.items.now in omega arith)
     (ap (λ (y : Slot). is_gt (stored_cmp v (seen b y))) (sym c.index.ensures) ∙ sym c.is_after.ensures ∙ t)

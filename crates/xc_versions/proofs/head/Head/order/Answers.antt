@@ -17,7 +17,8 @@ is_head h k b e s = record {
 pub returns-then-self-other : goal.returns-then-self-other
 returns-then-self-other c k q e f g h =
     c.cmp.ensures
-    ∙ fronts-tell _ _ _ _ k q (is_head c.args.self.now k e g (omega arith)) (is_head c.args.other.now q f h (omega arith)) c.if-self-other.true
+    ∙ fronts-tell _ _ _ _ k q (is_head c.args.self.now k e g (omega arith)) (is_head c.args.other.now q f h (omega arith))
+    c.if-self-other.true
 
 pub returns-then-back-other_back : goal.returns-then-back-other_back
 returns-then-back-other_back c k q e f g h =

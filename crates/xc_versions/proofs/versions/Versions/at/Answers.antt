@@ -29,8 +29,8 @@ returns-then-eq-clause-value c =
     let k = c.args.key.now in
     let d = c.deref.result.now in
     let at = c.in-Some.slot.at in
-    let same = key-read _ d _ at k _ _ _ c.deref.ensures.value c.deref-in-Some.ensures.value c.bytes-in-Some.ensures.bytes c.key_bytes.ensures
-    c.if-eq.ensures in
+    let same = key-read _ d _ at k _ _ _ c.deref.ensures.value c.deref-in-Some.ensures.value c.bytes-in-Some.ensures.bytes
+    c.key_bytes.ensures c.if-eq.ensures in
     c.value_of.ensures ∙ ap (λ w. value_at w at) (c.deref-then-eq.ensures.value ∙ sym c.deref.ensures.value)
     ∙ ap (λ is. cond is (value_at d at) None) same
     ∙ shown-slot c.self.inside.arena.items d c.self.inside.pages.items k c.args.t c.in-Some.slot c.deref.ensures.value
@@ -42,8 +42,8 @@ returns-else-eq-clause-value c =
     let k = c.args.key.now in
     let d = c.deref.result.now in
     let at = c.in-Some.slot.at in
-    let same = key-read _ d _ at k _ _ _ c.deref.ensures.value c.deref-in-Some.ensures.value c.bytes-in-Some.ensures.bytes c.key_bytes.ensures
-    c.if-eq.ensures in
+    let same = key-read _ d _ at k _ _ _ c.deref.ensures.value c.deref-in-Some.ensures.value c.bytes-in-Some.ensures.bytes
+    c.key_bytes.ensures c.if-eq.ensures in
     ap (λ is. cond is (value_at d at) None) same
     ∙ shown-slot c.self.inside.arena.items d c.self.inside.pages.items k c.args.t c.in-Some.slot c.deref.ensures.value
     c.self.invariant.store.paged.ordered c.in-Some.ensures.last

@@ -20,7 +20,7 @@ use Rattle.xc_versions.specs.Stored.{stored_cmp, IsBefore, InOrder, IsNew, with_
 use Rattle.xc_versions.specs.declared.stored.Slot.{Slot}
 use Rattle.xc_versions.specs.Slots.{seen}
 use Rattle.xc_versions.specs.Around.{Around}
-use Rattle.xc_versions.specs.Pages.{held, items_of, IsPage, IsPaged, is_first_passed, Idle, Dues, over, load, spare_of}
+use Rattle.xc_versions.specs.Pages.{held, items_of, IsPage, IsPaged, is_first_passed, Idle, Dues, over, load, spare_of, slots_of, due_of}
 use Rattle.xc_versions.proofs.StoredOrder.{stored-total, in_order-left, in_order-right}
 use Rattle.xc_versions.proofs.VersionLaws.{with-in_order}
 use Rattle.xc_versions.proofs.PageLaws.{each-left, each-right, at-index, items_of-append, with-between, any-append, any-with, not-by}
@@ -66,7 +66,7 @@ dues-grown b (p ∷ ps) w v ys zs h l d = (
 )
 
 -- pages that share what is idle under one due
-dues-parts : (b : List ℕ) (ms : List Page) (due : ℕ) (zs : List StoredVersion) → Each (λ m. m.due ≡ due) ms
+dues-parts : (b : List ℕ) (ms : List Page) (due : ℕ) (zs : List StoredVersion) → Each (λ m. due_of m ≡ due) ms
     → ((u : ℕ) → u < due → Idle u (items_of b ms) zs) → Dues b ms zs
 dues-parts b [] due zs e i = tt
 dues-parts b (m ∷ ms) due zs e i = (
@@ -83,7 +83,7 @@ pub grown : (b : List ℕ) (v : StoredVersion) (bs : List Page) (q : Page) (cs m
     → IsNew v (items_of b (bs ++ q ∷ cs))
     → Each (λ x. is_gt (stored_cmp v x) ≡ true) (items_of b bs) → Each (λ x. is_gt (stored_cmp v x) ≡ false) (items_of b cs)
     → (bs ≡ []) ⊎ (is_first_passed (λ x. is_gt (stored_cmp v x)) (held b q) ≡ true)
-    → items_of b ms ≡ with_version v (held b q) → Each (IsPage b) ms → Each (λ m. m.due ≡ min q.due v.commit) ms
+    → items_of b ms ≡ with_version v (held b q) → Each (IsPage b) ms → Each (λ m. due_of m ≡ min (due_of q) v.commit) ms
     → Grown b v (bs ++ q ∷ cs) (bs ++ (ms ++ cs))
 grown b v bs q cs ms g n f late first e pages dues =
     let zs = items_of b cs ++ [] in
@@ -102,7 +102,8 @@ grown b v bs q cs ms g n f late first e pages dues =
     ∙ ap (λ w. items_of b bs ++ w) tail) ordered)
     in
     let behind = dues-right b bs (q ∷ cs) [] g.dues in
-    let middle : Dues b ms zs = dues-parts b ms (min q.due v.commit) zs dues (λ u l. subst (λ (w : List StoredVersion). Idle u w zs) (sym e)
+    let middle : Dues b ms zs =
+    dues-parts b ms (min (due_of q) v.commit) zs dues (λ u l. subst (λ (w : List StoredVersion). Idle u w zs) (sym e)
     (idle-with u v (held b q) zs (omega arith)
     (subst (λ (w : List StoredVersion). InOrder (with_version v (held b q) ++ w)) (sym (append-nil (items_of b cs))) here)
     (behind.0 u (omega arith)))) in
@@ -159,7 +160,7 @@ cut-at old i q h e = at-index old i q h ∙ ap (λ p. take i old ++ p ∷ drop (
 pub added-at : (b : List ℕ) (v : StoredVersion) (old : List Page) (i : ℕ) (q : Page) (ms : List Page) → IsPaged b old []
     → IsNew v (items_of b old)
     → i < length old → Around b (λ x. is_gt (stored_cmp v x)) old i → q ≡ get_or old i q
-    → items_of b ms ≡ with_version v (held b q) → Each (IsPage b) ms → Each (λ m. m.due ≡ min q.due v.commit) ms
+    → items_of b ms ≡ with_version v (held b q) → Each (IsPage b) ms → Each (λ m. due_of m ≡ min (due_of q) v.commit) ms
     → Grown b v old (take i old ++ (ms ++ drop (i + 1) old))
 added-at b v old i q ms g n h a e items pages dues =
     let cut = cut-at old i q h e in
@@ -194,7 +195,7 @@ insert-cut old i q r h =
     ∙ append_assoc (take i old) (q ∷ []) (r ∷ drop (i + 1) old)
 
 over-cut : (old : List Page) (i : ℕ) (q : Page) → i < length old → q ≡ get_or old i q
-    → load old ≡ over (take i old) + ((length q.items.items - 32) + over (drop (i + 1) old))
+    → load old ≡ over (take i old) + ((length (slots_of q) - 32) + over (drop (i + 1) old))
 over-cut old i q h e = load-some old (omega arith) ∙ ap over (cut-at old i q h e) ∙ over-append (take i old) (q ∷ drop (i + 1) old)
 
 load-middle : (bs : List Page) (m : Page) (ms cs : List Page) → load (bs ++ ((m ∷ ms) ++ cs)) ≡ over bs + (over (m ∷ ms) + over cs)
@@ -203,22 +204,22 @@ load-middle bs m ms cs =
     load-some (bs ++ ((m ∷ ms) ++ cs)) (omega arith) ∙ over-append bs ((m ∷ ms) ++ cs) ∙ ap (λ n. over bs + n) (over-append (m ∷ ms) cs)
 
 pub spare-one : (old : List Page) (i : ℕ) (q r : Page) (n : ℕ) → i < length old → q ≡ get_or old i q
-    → length r.items.items ≡ length q.items.items + 1
+    → length (slots_of r) ≡ length (slots_of q) + 1
     → spare_of old n ≤ spare_of (take i old ++ ((r ∷ []) ++ drop (i + 1) old)) n + 1
 spare-one old i q r n h e l =
     let a = over-cut old i q h e in
     let b = load-middle (take i old) r [] (drop (i + 1) old) in
     spare-kept (load old) (load (take i old ++ ((r ∷ []) ++ drop (i + 1) old))) n (omega arith)
 
-pub spare-two : (old : List Page) (i : ℕ) (q r s : Page) (n m : ℕ) → i < length old → q ≡ get_or old i q → length q.items.items ≡ 64
-    → length r.items.items ≡ 32 → length s.items.items ≡ 33 → n ≡ m + 1
+pub spare-two : (old : List Page) (i : ℕ) (q r s : Page) (n m : ℕ) → i < length old → q ≡ get_or old i q → length (slots_of q) ≡ 64
+    → length (slots_of r) ≡ 32 → length (slots_of s) ≡ 33 → n ≡ m + 1
     → spare_of old n ≤ spare_of (take i old ++ ((r ∷ s ∷ []) ++ drop (i + 1) old)) m + 1
 spare-two old i q r s n m h e l k j f =
     let a = over-cut old i q h e in
     let b = load-middle (take i old) r (s ∷ []) (drop (i + 1) old) in
     spare-split (load old) (load (take i old ++ ((r ∷ s ∷ []) ++ drop (i + 1) old))) n m (omega arith) f
 
-pub pool-there : (old : List Page) (i : ℕ) (q : Page) (n : ℕ) → i < length old → q ≡ get_or old i q → length q.items.items ≡ 64
+pub pool-there : (old : List Page) (i : ℕ) (q : Page) (n : ℕ) → i < length old → q ≡ get_or old i q → length (slots_of q) ≡ 64
     → 1 ≤ spare_of old n → 1 ≤ n
 pool-there old i q n h e l s = let a = over-cut old i q h e in empty-there (load old) n (omega arith) s
 
@@ -226,11 +227,11 @@ pub page-at : (b : List ℕ) (old : List Page) (i : ℕ) (q : Page) → Each (Is
 page-at b old i q g h e = subst (IsPage b) (sym e) (each-at (IsPage b) old i q g h)
 
 -- the two halves of a page that has one version too many
-pub halves : (b : List ℕ) (xs : List Slot) (q r : Page) → q.items.items ≡ take 32 xs → r.items.items ≡ drop 32 xs
+pub halves : (b : List ℕ) (xs : List Slot) (q r : Page) → (slots_of q) ≡ take 32 xs → (slots_of r) ≡ drop 32 xs
     → items_of b (q ∷ r ∷ []) ≡ map (seen b) xs
 halves b xs q r e f =
-    ap (λ w. held b q ++ w) (append-nil (held b r)) ∙ sym (map-append (seen b) q.items.items r.items.items)
-    ∙ ap (map (seen b)) (ap (λ w. w ++ r.items.items) e ∙ ap (λ w. take 32 xs ++ w) f ∙ take-append-drop 32 xs)
+    ap (λ w. held b q ++ w) (append-nil (held b r)) ∙ sym (map-append (seen b) (slots_of q) (slots_of r))
+    ∙ ap (map (seen b)) (ap (λ w. w ++ (slots_of r)) e ∙ ap (λ w. take 32 xs ++ w) f ∙ take-append-drop 32 xs)
 
 pub length-set-insert : (old : List Page) (i : ℕ) (q r : Page) → i < length old → length (insert (set old i q) (i + 1) r) ≡ length old + 1
 length-set-insert old i q r h =
@@ -254,13 +255,13 @@ pub some-pages : (b : List ℕ) (ps : List Page) → Each (IsPage b) ps → leng
 some-pages b [] g = omega arith
 some-pages b (p ∷ ps) g =
     let some = g.0.some in let rest = some-pages b ps g.1 in let whole = length-append (held b p) (items_of b ps) in
-    let same = length-map p.items.items (seen b) in omega arith
+    let same = length-map (slots_of p) (seen b) in omega arith
 
 pub few-pages : (b : List ℕ) (ps : List Page) → Each (IsPage b) ps → length (items_of b ps) ≤ 64 * length ps
 few-pages b [] g = omega arith
 few-pages b (p ∷ ps) g =
     let few = g.0.few in let rest = few-pages b ps g.1 in let whole = length-append (held b p) (items_of b ps) in
-    let same = length-map p.items.items (seen b) in omega arith
+    let same = length-map (slots_of p) (seen b) in omega arith
 
 pub vec-long : {X : Type 0} (v : Vec X Global) → vec_len v ≡ length v.items
 vec-long v = grind (arith, common_steps)

@@ -11,7 +11,7 @@ use Rattle.xc_versions.specs.declared.page.Page.{Page}
 use Rattle.xc_arena.specs.Arena.{op_at}
 use Rattle.xc_versions.specs.Slots.{seen, bytes_of}
 use Rattle.xc_versions.specs.Heads.{IsSlot}
-use Rattle.xc_versions.specs.Pages.{held, live_of, IsPage, over, load, spare_of}
+use Rattle.xc_versions.specs.Pages.{held, live_of, IsPage, over, load, spare_of, slots_of, due_of}
 use Rattle.xc_versions.specs.Dues.{dues_of}
 use Rattle.xc_versions.proofs.SplitLaws.{each-at}
 use Rattle.xc_arena.proofs.ArenaLaws.{lies-well}
@@ -131,24 +131,24 @@ pub moving_pages-start : (b : List ℕ) (old : List Page) (to : List ℕ) → to
 moving_pages-start b old to e = record { long = refl; to_is = e; alike = refl; good = tt; rest = refl }
 
 pub live-more : (b : List ℕ) (ps : List Page) (i : ℕ) (p : Page) → i < length ps → p ≡ get_or ps i p
-    → live_of b (take (i + 1) ps) ≡ live_of b (take i ps) ++ bytes_of b p.items.items
+    → live_of b (take (i + 1) ps) ≡ live_of b (take i ps) ++ bytes_of b (slots_of p)
 live-more b ps i p h e =
     ap (live_of b) (take_more ps i p h ∙ ap (λ q. take i ps ++ q ∷ []) (sym e))
-    ∙ flat_map-append (λ (q : Page). bytes_of b q.items.items) (take i ps) (p ∷ [])
-    ∙ ap (λ w. live_of b (take i ps) ++ w) (append-nil (bytes_of b p.items.items))
+    ∙ flat_map-append (λ (q : Page). bytes_of b (slots_of q)) (take i ps) (p ∷ [])
+    ∙ ap (λ w. live_of b (take i ps) ++ w) (append-nil (bytes_of b (slots_of p)))
 
 pub live-within : (b : List ℕ) (ps : List Page) (i : ℕ) (p : Page) → i < length ps → p ≡ get_or ps i p
-    → length (live_of b (take i ps)) + length (bytes_of b p.items.items) ≤ length (live_of b ps)
+    → length (live_of b (take i ps)) + length (bytes_of b (slots_of p)) ≤ length (live_of b ps)
 live-within b ps i p h e =
     let one = ap length (live-more b ps i p h e) in
-    let parts = length-append (live_of b (take i ps)) (bytes_of b p.items.items) in
+    let parts = length-append (live_of b (take i ps)) (bytes_of b (slots_of p)) in
     let whole = ap (λ qs. length (live_of b qs)) (take-append-drop (i + 1) ps) in
-    let cut = ap length (flat_map-append (λ (q : Page). bytes_of b q.items.items) (take (i + 1) ps) (drop (i + 1) ps)) in
+    let cut = ap length (flat_map-append (λ (q : Page). bytes_of b (slots_of q)) (take (i + 1) ps) (drop (i + 1) ps)) in
     let cut_long = length-append (live_of b (take (i + 1) ps)) (live_of b (drop (i + 1) ps)) in
     omega arith
 
 alike-last : (b : List ℕ) (ps : List Page) (c : List ℕ) (qs : List Page) (p q : Page) → Alike b ps c qs → held c q ≡ held b p
-    → q.due ≡ p.due → Alike b (ps ++ p ∷ []) c (qs ++ q ∷ [])
+    → due_of q ≡ due_of p → Alike b (ps ++ p ∷ []) c (qs ++ q ∷ [])
 alike-last b [] c qs p q a h d = subst (λ (w : List Page). Alike b (p ∷ []) c (w ++ q ∷ [])) (sym a) (h, (d, refl))
 alike-last b (o ∷ ps) c [] p q a h d = absurd a
 alike-last b (o ∷ ps) c (r ∷ qs) p q a h d = (a.0, (a.1.0, alike-last b ps c qs p q a.1.1 h d))
@@ -159,23 +159,23 @@ alike-on b [] c more qs a g = (a, subst (λ (w : List Page). Each (IsPage (c ++ 
 alike-on b (p ∷ ps) c more [] a g = absurd a
 alike-on b (p ∷ ps) c more (q ∷ qs) a g =
     let rest = alike-on b ps c more qs a.1.1 g.1 in (
-      (slots-more c more q.items.items g.0.slots ∙ a.0, (a.1.0, rest.0)),
+      (slots-more c more (slots_of q) g.0.slots ∙ a.0, (a.1.0, rest.0)),
       (page-more c more q g.0, rest.1),
     )
 
 -- what the move of one page gives
 pub record MovesPage (b : List ℕ) (p : Page) (to : List ℕ) (q : Page) : Type 0 where
   pub alike : held to q ≡ held b p
-  pub due : q.due ≡ p.due
+  pub due : due_of q ≡ due_of p
   pub good : IsPage to q
 
 pub moving_pages-more : (b : List ℕ) (old : List Page) (to : List ℕ) (pages : List Page) (i : ℕ) (p q : Page)
     → MovingPages b old to pages i → i < length pages → p ≡ get_or pages i p
-    → MovesPage b p (to ++ bytes_of b p.items.items) q
-    → MovingPages b old (to ++ bytes_of b p.items.items) (set pages i q) (i + 1)
+    → MovesPage b p (to ++ bytes_of b (slots_of p)) q
+    → MovingPages b old (to ++ bytes_of b (slots_of p)) (set pages i q) (i + 1)
 moving_pages-more b old to pages i p q m h e one =
     let long = m.long in
-    let more = bytes_of b p.items.items in
+    let more = bytes_of b (slots_of p) in
     let is_old = still-old old pages i p m.rest h (omega arith) e in
     let front : take (i + 1) (set pages i q) ≡ take i pages ++ q ∷ [] = take_more_set pages i q h in
     let front_old : take (i + 1) old ≡ take i old ++ p ∷ [] = take_more old i p (omega arith)
@@ -198,8 +198,8 @@ alike-over b (p ∷ ps) c [] a = absurd a
 alike-over b (p ∷ ps) c (q ∷ qs) a =
     let rest = alike-over b ps c qs a.1.1 in
     let same = ap length a.0 in
-    let mine = length-map q.items.items (seen c) in
-    let theirs = length-map p.items.items (seen b) in
+    let mine = length-map (slots_of q) (seen c) in
+    let theirs = length-map (slots_of p) (seen b) in
     omega arith
 
 alike-load : (b : List ℕ) (ps : List Page) (c : List ℕ) (qs : List Page) → Alike b ps c qs → load qs ≡ load ps
@@ -210,7 +210,7 @@ alike-load b (p ∷ ps) c (q ∷ qs) a = alike-over b (p ∷ ps) c (q ∷ qs) a
 alike-said : (b : List ℕ) (ps : List Page) (c : List ℕ) (qs : List Page) → Alike b ps c qs → dues_of qs ≡ dues_of ps
 alike-said b [] c qs a = ap dues_of a
 alike-said b (p ∷ ps) c [] a = absurd a
-alike-said b (p ∷ ps) c (q ∷ qs) a = ap (λ n. n ∷ dues_of qs) a.1.0 ∙ ap (λ w. p.due ∷ w) (alike-said b ps c qs a.1.1)
+alike-said b (p ∷ ps) c (q ∷ qs) a = ap (λ n. n ∷ dues_of qs) a.1.0 ∙ ap (λ w. due_of p ∷ w) (alike-said b ps c qs a.1.1)
 
 -- all pages are moved
 pub record MovedPages (b : List ℕ) (old : List Page) (to : List ℕ) (pages : List Page) : Type 0 where

@@ -13,7 +13,7 @@ use Rattle.xc_versions.specs.Stored.{InOrder, stored}
 use Rattle.xc_arena.specs.Arena.{key_at, value_at, Lies}
 use Rattle.xc_versions.specs.Slots.{seen}
 use Rattle.xc_versions.specs.Heads.{head_of, IsSlot}
-use Rattle.xc_versions.specs.Pages.{held, items_of, IsPage, IsPaged, Idle, Dues}
+use Rattle.xc_versions.specs.Pages.{held, items_of, IsPage, IsPaged, Idle, Dues, slots_of, due_of}
 use Rattle.xc_versions.specs.Pool.{IsStore}
 use Rattle.xc_arena.proofs.ArenaLaws.{lies-more, lies-last, key_at-more, value_at-more, last-key, last-value}
 
@@ -21,7 +21,7 @@ use Rattle.xc_arena.proofs.ArenaLaws.{lies-more, lies-last, key_at-more, value_a
 abbrev pub Alike : List ℕ → List Page → List ℕ → List Page → Type 0
 Alike b [] c qs = qs ≡ []
 Alike b (p ∷ ps) c [] = ⊥
-Alike b (p ∷ ps) c (q ∷ qs) = (held c q ≡ held b p) × ((q.due ≡ p.due) × Alike b ps c qs)
+Alike b (p ∷ ps) c (q ∷ qs) = (held c q ≡ held b p) × ((due_of q ≡ due_of p) × Alike b ps c qs)
 
 pub alike-items : (b : List ℕ) (ps : List Page) (c : List ℕ) (qs : List Page) → Alike b ps c qs → items_of c qs ≡ items_of b ps
 alike-items b [] c qs a = ap (items_of c) a
@@ -73,11 +73,11 @@ all-more b more [] h = tt
 all-more b more (x ∷ xs) h = (slot-more b more x h.0, all-more b more xs h.1)
 
 pub page-more : (b more : List ℕ) (p : Page) → IsPage b p → IsPage (b ++ more) p
-page-more b more p g = record { some = g.some; few = g.few; room = g.room; slots = all-more b more p.items.items g.slots; first = g.first }
+page-more b more p g = record { some = g.some; few = g.few; room = g.room; slots = all-more b more (slots_of p) g.slots; first = g.first }
 
 alike-more : (b more : List ℕ) (ps : List Page) → Each (IsPage b) ps → Alike b ps (b ++ more) ps
 alike-more b more [] h = refl
-alike-more b more (p ∷ ps) h = (slots-more b more p.items.items h.0.slots, (refl, alike-more b more ps h.1))
+alike-more b more (p ∷ ps) h = (slots-more b more (slots_of p) h.0.slots, (refl, alike-more b more ps h.1))
 
 pages-more : (b more : List ℕ) (ps : List Page) → Each (IsPage b) ps → Each (IsPage (b ++ more)) ps
 pages-more b more [] h = tt
@@ -86,7 +86,7 @@ pages-more b more (p ∷ ps) h = (page-more b more p h.0, pages-more b more ps h
 pub items-more : (b more : List ℕ) (ps : List Page) → Each (IsPage b) ps → items_of (b ++ more) ps ≡ items_of b ps
 items-more b more ps h = alike-items b ps (b ++ more) ps (alike-more b more ps h)
 
-pub store-more : (b more : List ℕ) (pages : VecDeque Page Global) (pool : Vec (VecDeque Slot Global) Global) → IsStore b pages pool
+pub store-more : (b more : List ℕ) (pages : VecDeque Page Global) (pool : Vec Page Global) → IsStore b pages pool
     → IsStore (b ++ more) pages pool
 store-more b more pages pool s =
     let ps = pages.items in

@@ -23,7 +23,7 @@ use Rattle.xc_versions.specs.declared.stored.Slot.{Slot}
 use Rattle.xc_versions.specs.Slots.{seen}
 use Rattle.xc_versions.specs.Heads.{IsSlot}
 use Rattle.xc_versions.specs.Around.{Around}
-use Rattle.xc_versions.specs.Pages.{held, items_of, IsPage, is_first_passed, Idle, Dues}
+use Rattle.xc_versions.specs.Pages.{held, items_of, IsPage, is_first_passed, Idle, Dues, slots_of, first_of}
 
 -- ---- lists in parts
 
@@ -51,7 +51,7 @@ falls-before p (x ∷ xs) y ys f e = (
 -- ---- the first versions of pages
 
 held-some : (b : List ℕ) (q : Page) → IsPage b q → 0 < length (held b q)
-held-some b q g = let long = length-map q.items.items (seen b) in let some = g.some in omega arith
+held-some b q g = let long = length-map (slots_of q) (seen b) in let some = g.some in omega arith
 
 fails-first : (b : List ℕ) (p : StoredVersion → Bool) (q : Page) (rest : List StoredVersion) → Each (λ x. p x ≡ false) (held b q ++ rest)
     → is_first_passed p (held b q) ≡ false
@@ -79,17 +79,18 @@ pages-fall b p (q ∷ qs) h f = (behind (held b q) (held-some b q h.0) f, pages-
 
 -- what a page has of its first version beside its slots
 pub first-held : (b : List ℕ) (test : StoredVersion → Bool) (q : Page) → IsPage b q
-    → test (seen b q.first) ≡ is_first_passed test (held b q)
-first-held b test q g = by q.items.items g.some g.first
+    → test (seen b (first_of q)) ≡ is_first_passed test (held b q)
+first-held b test q g = by (slots_of q) g.some g.first
   where
-    by : (xs : List Slot) → 0 < length xs → q.first ≡ get_or xs 0 q.first → test (seen b q.first) ≡ is_first_passed test (map (seen b) xs)
+    by : (xs : List Slot) → 0 < length xs → first_of q ≡ get_or xs 0 (first_of q)
+        → test (seen b (first_of q)) ≡ is_first_passed test (map (seen b) xs)
     by [] l e = absurd (omega arith)
     by (x ∷ xs) l e = ap (λ s. test (seen b s)) e
 
-pub first-slot : (b : List ℕ) (q : Page) → IsPage b q → IsSlot b q.first
-first-slot b q g = by q.items.items g.some g.first g.slots
+pub first-slot : (b : List ℕ) (q : Page) → IsPage b q → IsSlot b (first_of q)
+first-slot b q g = by (slots_of q) g.some g.first g.slots
   where
-    by : (xs : List Slot) → 0 < length xs → q.first ≡ get_or xs 0 q.first → Each (IsSlot b) xs → IsSlot b q.first
+    by : (xs : List Slot) → 0 < length xs → first_of q ≡ get_or xs 0 (first_of q) → Each (IsSlot b) xs → IsSlot b (first_of q)
     by [] l e h = absurd (omega arith)
     by (x ∷ xs) l e h = subst (IsSlot b) (sym e) h.0
 

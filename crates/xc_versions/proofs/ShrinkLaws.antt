@@ -8,7 +8,7 @@ use Rattle.xc_record.proofs.ListLaws.{Each, Each-append}
 use Rattle.xc_versions.specs.declared.stored.StoredVersion.{StoredVersion}
 use Rattle.xc_versions.specs.declared.page.Page.{Page}
 use Rattle.xc_versions.specs.Stored.{InOrder, is_replaced, next_replaces, pruned_before}
-use Rattle.xc_versions.specs.Pages.{held, items_of, IsPage, IsPaged, Idle, IdleNext, Dues, over, load, spare_of}
+use Rattle.xc_versions.specs.Pages.{held, items_of, IsPage, IsPaged, Idle, IdleNext, Dues, over, load, spare_of, slots_of, due_of}
 use Rattle.xc_versions.proofs.StoredOrder.{in_order-right}
 use Rattle.xc_versions.proofs.VersionLaws.{replaced-first}
 use Rattle.xc_versions.proofs.PageLaws.{each-left, each-right, items_of-append, items-from, idle-instead, dues-append, dues-left}
@@ -73,11 +73,11 @@ load-most [] = omega arith
 load-most (p ∷ ps) = omega arith
 
 over-at : (old : List Page) (i : ℕ) (q : Page) → i < length old → q ≡ get_or old i q
-    → load old ≡ over (take i old) + ((length q.items.items - 32) + over (drop (i + 1) old))
+    → load old ≡ over (take i old) + ((length (slots_of q) - 32) + over (drop (i + 1) old))
 over-at old i q h e = load-some old (omega arith) ∙ ap over (cut-at old i q h e) ∙ over-append (take i old) (q ∷ drop (i + 1) old)
 
 pub spare-shrunk : (old : List Page) (i : ℕ) (q r : Page) (n : ℕ) → i < length old → q ≡ get_or old i q
-    → length r.items.items ≤ length q.items.items → spare_of old n ≤ spare_of (take i old ++ (r ∷ drop (i + 1) old)) n
+    → length (slots_of r) ≤ length (slots_of q) → spare_of old n ≤ spare_of (take i old ++ (r ∷ drop (i + 1) old)) n
 spare-shrunk old i q r n h e l =
     let a = over-at old i q h e in
     let long = length-append (take i old) (r ∷ drop (i + 1) old) in
@@ -162,7 +162,7 @@ behind-removed old i h = drop_at (take i old) (drop (i + 1) old) i (length-take-
 
 -- what a page is due for is idle below it
 pub idle-at : (b : List ℕ) (old : List Page) (i : ℕ) (q : Page) → IsPaged b old [] → i < length old → q ≡ get_or old i q → (u : ℕ)
-    → u < q.due
+    → u < due_of q
     → Idle u (held b q) (items_of b (drop (i + 1) old))
 idle-at b old i q g h e u l =
     let d = dues-right b (take i old) (q ∷ drop (i + 1) old) [] (subst (λ (ps : List Page). Dues b ps []) (cut-at old i q h e) g.dues) in
@@ -184,7 +184,7 @@ pruned-idle u (x ∷ xs) rest o i =
     ap (λ b. cond b (pruned_before u xs rest) (x ∷ pruned_before u xs rest)) test ∙ ap (λ w. x ∷ w) below
 
 -- one page that is idle as its due tells
-pub dues-one : (b : List ℕ) (q : Page) (rest : List StoredVersion) → ((u : ℕ) → u < q.due → Idle u (held b q) rest)
+pub dues-one : (b : List ℕ) (q : Page) (rest : List StoredVersion) → ((u : ℕ) → u < due_of q → Idle u (held b q) rest)
     → Dues b (q ∷ []) (rest ++ [])
 dues-one b q rest h = (λ u l. subst (λ (w : List StoredVersion). Idle u (held b q) w) (sym (append-nil rest)) (h u l), tt)
 

@@ -34,7 +34,7 @@ pub(crate) fn live_bytes(bytes: &[u8], pages: &VecDeque<Page>) -> Option<usize>
     let mut live: usize = 0;
     for i in 0..pages.len() {
         let page = &pages[i];
-        live = live.checked_add(page_bytes(bytes, &page.items)?)?;
+        live = live.checked_add(page_bytes(bytes, &page.body.items)?)?;
     }
     Some(live)
 }
@@ -62,7 +62,7 @@ pub(crate) fn move_pages(
     bytes: &[u8],
     to: &mut Vec<u8>,
     pages: &mut VecDeque<Page>,
-    pool: &Vec<VecDeque<Slot>>,
+    pool: &Vec<Page>,
 )
     requires store { IsStore bytes.now pages.old pool.now }
     requires none { to.old.items ≡ [] }
@@ -77,7 +77,8 @@ pub(crate) fn move_pages(
 {
     for i in 0..pages.len() {
         let page = &mut pages[i];
-        move_page(bytes, to, &mut page.items);
-        page.first = first_or(&page.items, page.first);
+        let body = &mut *page.body;
+        move_page(bytes, to, &mut body.items);
+        body.first = first_or(&body.items, body.first);
     }
 }

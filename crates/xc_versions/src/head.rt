@@ -14,7 +14,7 @@ const HEAD_BYTES: usize = 15;
 
 /// The first 15 bytes of a key, with zeros behind a shorter one, and then its length, or 16 where it is longer: the
 /// numbers that the first eight and the last eight of these spell, the greatest first.
-#[derive(Clone, Copy, Debug)]
+#[derive(Clone, Copy, Debug, Default)]
 pub(crate) struct Head {
     pub(crate) front: u64,
     pub(crate) back: u64,

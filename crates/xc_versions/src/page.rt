@@ -1,27 +1,35 @@
 // A page of versions, and the search among pages.
 ghost use Rattle.std.specs.Prelude.{◌≡◌, ◌<◌, ◌≤◌, ◌+◌, min, length, take, drop, nat_lt, vec_capacity, true};
-ghost use Rattle.std.specs.Prelude.{slice_index_or};
-ghost use Rattle.std.specs.VecDeque.{deque_capacity};
+ghost use Rattle.std.specs.Prelude.{◌↔◌, [], slice_index_or, filter, nat_le, IfOk, IsTrue};
 ghost use Rattle.std.specs.Ordering.{is_gt};
 ghost use Rattle.std.specs.List.{AllByRecursion};
 ghost use Rattle.xc_versions.specs.Stored.{stored_cmp, InOrder, with_version, reaches};
-ghost use Rattle.xc_versions.specs.Splits.{Splits, Falls};
+ghost use Rattle.xc_versions.specs.Splits.{Splits};
 ghost use Rattle.xc_versions.specs.Slots.{seen};
 ghost use Rattle.xc_versions.specs.Heads.{IsSlot, head_of};
 ghost use Rattle.xc_versions.specs.Pages.{held, items_of, IsPage, IsEmptyPage, is_first_passed};
+ghost use Rattle.xc_versions.specs.Pages.{slots_of, due_of, first_of, capacity_of};
 
 use crate::head::Head;
 use crate::queue::{insert_at, move_behind};
-use crate::stored::{Slot, place_of};
+use crate::stored::{Slot, drop_later, place_of};
+use std::alloc::{AllocError, Global};
 use std::collections::VecDeque;
 use xc_base::Key;
 
 /// The most versions of a page.
 pub(crate) const PAGE: usize = 64;
 
-/// Versions in order, 1 to 64 of them, with room for one more.
+/// Versions in order, 1 to 64 of them, with room for one more. They lie in a box, so that few bytes move where a page
+/// is put between others.
 #[derive(Drop, Debug)]
 pub(crate) struct Page {
+    pub(crate) body: Box<PageBody>,
+}
+
+/// What lies in a page's box.
+#[derive(Drop, Debug)]
+pub(crate) struct PageBody {
     pub(crate) items: VecDeque<Slot>,
     /// A cutoff below this takes nothing from the page.
     pub(crate) due: u64,
@@ -79,7 +87,7 @@ fn begins_before(bytes: &[u8], page: &Page, slot: &Slot) -> bool
     ensures { result ≡ is_first_passed (λ x. is_gt (stored_cmp (seen bytes.now slot.now) x))
         (held bytes.now page.now) }
 {
-    slot.is_after(bytes, &page.first)
+    slot.is_after(bytes, &page.body.first)
 }
 
 /// How many pages begin with a version that reaches the key at t. The head is that of the key.
@@ -115,13 +123,14 @@ fn begins_reaching(bytes: &[u8], page: &Page, key: &Key, head: &Head, t: u64) ->
     requires head { head.now ≡ head_of key.now }
     ensures { result ≡ is_first_passed (reaches key.now t) (held bytes.now page.now) }
 {
-    page.first.reaches(bytes, key, head, t)
+    page.body.first.reaches(bytes, key, head, t)
 }
 
 /// The first of the slots, or this one where there is none.
 #[inline]
 pub(crate) fn first_or(items: &VecDeque<Slot>, slot: Slot) -> Slot
-    ensures { result ≡ slice_index_or items.now.items 0 result }
+    ensures first { result ≡ slice_index_or items.now.items 0 result }
+    ensures none { items.now.items ≡ [] → result ≡ slot }
 {
     match items.front() {
         Some(first) => *first,
@@ -139,7 +148,7 @@ fn first_with(first: Slot, at: usize, slot: Slot) -> Slot
 }
 
 /// Takes one of the empty pages.
-pub(crate) fn take_empty(pool: &mut Vec<VecDeque<Slot>>) -> VecDeque<Slot>
+pub(crate) fn take_empty(pool: &mut Vec<Page>) -> Page
     requires some { 1 ≤ length pool.old.items }
     requires empty { AllByRecursion IsEmptyPage pool.old.items }
     ensures result { IsEmptyPage result }
@@ -151,55 +160,100 @@ pub(crate) fn take_empty(pool: &mut Vec<VecDeque<Slot>>) -> VecDeque<Slot>
 }
 
 impl Page {
+    /// No versions yet, and room for 65.
+    pub(crate) fn empty(alloc: Global) -> Result<Page, AllocError>
+        ensures { IfOk result IsEmptyPage }
+    {
+        let body = PageBody {
+            items: VecDeque::with_capacity(alloc, PAGE + 1)?,
+            due: 0,
+            first: Slot::default(),
+        };
+        Ok(Page {
+            body: Box::new(alloc, body)?,
+        })
+    }
+
+    /// Whether it has no version.
+    #[inline]
+    pub(crate) fn is_empty(&self) -> bool
+        ensures { IsTrue result ↔ (slots_of self.now ≡ []) }
+    {
+        self.body.items.is_empty()
+    }
+
     /// Whether it has more versions than a page may have.
     #[inline]
     pub(crate) fn is_over(&self) -> bool
-        ensures { result ≡ nat_lt 64 (length self.now.items.items) }
+        ensures { result ≡ nat_lt 64 (length (slots_of self.now)) }
     {
-        self.items.len() > PAGE
+        self.body.items.len() > PAGE
+    }
+
+    /// Makes an empty page ready for this version.
+    pub(crate) fn begin(&mut self, slot: Slot)
+        requires { IsEmptyPage self.old }
+        ensures empty { IsEmptyPage self.new }
+        ensures due { due_of self.new ≡ slot.commit }
+        ensures first { first_of self.new ≡ slot }
+    {
+        let page = &mut *self.body;
+        page.due = slot.commit;
+        page.first = slot;
     }
 
     /// Puts the version at its place.
     pub(crate) fn put(&mut self, bytes: &[u8], slot: Slot)
         requires ordered { InOrder (held bytes.now self.old) }
-        requires few { length self.old.items.items ≤ 64 }
-        requires room { 65 ≤ deque_capacity self.old.items }
-        requires slots { AllByRecursion (IsSlot bytes.now) self.old.items.items }
-        requires first { self.old.first ≡ slice_index_or self.old.items.items 0 self.old.first }
+        requires few { length (slots_of self.old) ≤ 64 }
+        requires room { 65 ≤ capacity_of self.old }
+        requires slots { AllByRecursion (IsSlot bytes.now) (slots_of self.old) }
+        requires first { first_of self.old ≡ slice_index_or (slots_of self.old) 0 (first_of self.old) }
         requires slot { IsSlot bytes.now slot }
         ensures items { held bytes.now self.new ≡ with_version (seen bytes.now slot) (held bytes.now self.old) }
-        ensures len { length self.new.items.items ≡ length self.old.items.items + 1 }
-        ensures room { 65 ≤ deque_capacity self.new.items }
-        ensures slots { AllByRecursion (IsSlot bytes.now) self.new.items.items }
-        ensures first { self.new.first ≡ slice_index_or self.new.items.items 0 self.new.first }
-        ensures due { self.new.due ≡ min self.old.due slot.commit }
+        ensures len { length (slots_of self.new) ≡ length (slots_of self.old) + 1 }
+        ensures room { 65 ≤ capacity_of self.new }
+        ensures slots { AllByRecursion (IsSlot bytes.now) (slots_of self.new) }
+        ensures first { first_of self.new ≡ slice_index_or (slots_of self.new) 0 (first_of self.new) }
+        ensures due { due_of self.new ≡ min (due_of self.old) slot.commit }
     {
-        let at = place_of(bytes, &self.items, &slot);
-        self.due = self.due.min(slot.commit);
-        self.first = first_with(self.first, at, slot);
-        insert_at(&mut self.items, at, slot);
+        let page = &mut *self.body;
+        let at = place_of(bytes, &page.items, &slot);
+        page.due = page.due.min(slot.commit);
+        page.first = first_with(page.first, at, slot);
+        insert_at(&mut page.items, at, slot);
     }
 
-    /// Moves all but the first 32 versions to a page of their own, which takes over the empty one.
-    pub(crate) fn split(&mut self, bytes: &[u8], mut upper: VecDeque<Slot>) -> Page
-        requires empty { IsEmptyPage upper }
-        requires slots { AllByRecursion (IsSlot bytes.now) self.old.items.items }
-        requires first { self.old.first ≡ slice_index_or self.old.items.items 0 self.old.first }
-        requires full { length self.old.items.items ≡ 65 }
-        requires room { 65 ≤ deque_capacity self.old.items }
-        ensures lower { self.new.items.items ≡ take 32 self.old.items.items }
-        ensures upper { result.items.items ≡ drop 32 self.old.items.items }
-        ensures lower_due { self.new.due ≡ self.old.due }
-        ensures upper_due { result.due ≡ self.old.due }
+    /// Moves all but the first 32 versions to the empty page.
+    pub(crate) fn split(&mut self, bytes: &[u8], upper: &mut Page)
+        requires empty { IsEmptyPage upper.old }
+        requires slots { AllByRecursion (IsSlot bytes.now) (slots_of self.old) }
+        requires first { first_of self.old ≡ slice_index_or (slots_of self.old) 0 (first_of self.old) }
+        requires full { length (slots_of self.old) ≡ 65 }
+        requires room { 65 ≤ capacity_of self.old }
+        ensures lower { slots_of self.new ≡ take 32 (slots_of self.old) }
+        ensures upper { slots_of upper.new ≡ drop 32 (slots_of self.old) }
+        ensures lower_due { due_of self.new ≡ due_of self.old }
+        ensures upper_due { due_of upper.new ≡ due_of self.old }
         ensures lower_page { IsPage bytes.now self.new }
-        ensures upper_page { IsPage bytes.now result }
+        ensures upper_page { IsPage bytes.now upper.new }
     {
-        move_behind(&mut self.items, 32, &mut upper);
-        let first = first_or(&upper, self.first);
-        Page {
-            items: upper,
-            due: self.due,
-            first,
-        }
+        let lower = &mut *self.body;
+        let upper = &mut *upper.body;
+        move_behind(&mut lower.items, 32, &mut upper.items);
+        upper.due = lower.due;
+        upper.first = first_or(&upper.items, lower.first);
+    }
+
+    /// The versions with commit above t go.
+    pub(crate) fn drop_later(&mut self, t: u64)
+        ensures items { slots_of self.new ≡ filter (λ x. nat_le x.commit t) (slots_of self.old) }
+        ensures first { first_of self.new ≡ slice_index_or (slots_of self.new) 0 (first_of self.new) }
+        ensures due { due_of self.new ≡ due_of self.old }
+        ensures capacity { capacity_of self.new ≡ capacity_of self.old }
+    {
+        let page = &mut *self.body;
+        drop_later(&mut page.items, t);
+        page.first = first_or(&page.items, page.first);
     }
 }

@@ -1,6 +1,6 @@
 // Pages of versions beside a pool of empty ones.
 ghost use Rattle.std.specs.Prelude.{◌≡◌, ◌<◌, ◌≤◌, ◌+◌, [], ◌∷◌, length, min, ◌/◌, vec_capacity};
-ghost use Rattle.std.specs.Prelude.{List, OnOk, filter, option_map, IfSome};
+ghost use Rattle.std.specs.Prelude.{OnOk, filter, option_map, IfSome};
 ghost use Rattle.std.specs.List.{AllByRecursion};
 ghost use Rattle.std.specs.Option.{option_to_list};
 ghost use Rattle.std.specs.Ordering.{is_gt};
@@ -17,7 +17,7 @@ ghost use Rattle.xc_versions.specs.Dues.{dues_of, Covers, Grew};
 
 use crate::head::Head;
 use crate::least::{grown, lower_at};
-use crate::page::{PAGE, Page, pages_before, pages_reaching, take_empty};
+use crate::page::{Page, pages_before, pages_reaching, take_empty};
 use crate::queue::insert_at;
 use crate::rows::put_versions;
 use crate::stored::{Slot, reached};
@@ -26,7 +26,7 @@ use std::collections::VecDeque;
 use xc_base::{Key, Value};
 
 // Puts the version into the first page.
-fn add_first(bytes: &[u8], pages: &mut VecDeque<Page>, pool: &mut Vec<VecDeque<Slot>>, slot: Slot)
+fn add_first(bytes: &[u8], pages: &mut VecDeque<Page>, pool: &mut Vec<Page>, slot: Slot)
     requires store { IsStore bytes.now pages.old pool.old }
     requires none { pages.old.items ≡ [] }
     requires slot { IsSlot bytes.now slot }
@@ -38,23 +38,14 @@ fn add_first(bytes: &[u8], pages: &mut VecDeque<Page>, pool: &mut Vec<VecDeque<S
         + 1 }
     ensures dues { dues_of pages.new.items ≡ slot.commit ∷ [] }
 {
-    let mut page = Page {
-        items: take_empty(pool),
-        due: slot.commit,
-        first: slot,
-    };
+    let mut page = take_empty(pool);
+    page.begin(slot);
     page.put(bytes, slot);
     pages.push_back_reserved(page);
 }
 
 // Puts the version into the page i, the last that begins before it, or else the first.
-fn add_at(
-    bytes: &[u8],
-    pages: &mut VecDeque<Page>,
-    pool: &mut Vec<VecDeque<Slot>>,
-    i: usize,
-    slot: Slot,
-)
+fn add_at(bytes: &[u8], pages: &mut VecDeque<Page>, pool: &mut Vec<Page>, i: usize, slot: Slot)
     requires store { IsStore bytes.now pages.old pool.old }
     requires fresh { IsNew (seen bytes.now slot) (items_of bytes.now pages.old.items) }
     requires within { i < length pages.old.items }
@@ -72,7 +63,8 @@ fn add_at(
     let page = &mut pages[i];
     page.put(bytes, slot);
     if page.is_over() {
-        let upper = page.split(bytes, take_empty(pool));
+        let mut upper = take_empty(pool);
+        page.split(bytes, &mut upper);
         insert_at(pages, i + 1, upper);
     }
 }
@@ -81,7 +73,7 @@ fn add_at(
 pub(crate) fn add(
     bytes: &[u8],
     pages: &mut VecDeque<Page>,
-    pool: &mut Vec<VecDeque<Slot>>,
+    pool: &mut Vec<Page>,
     least: &mut Vec<u64>,
     slot: Slot,
 )
@@ -128,11 +120,11 @@ pub(crate) fn last_reaching(
         return None;
     }
     let page = &pages[begin - 1];
-    let reached = reached(bytes, &page.items, key, head, t);
+    let reached = reached(bytes, &page.body.items, key, head, t);
     if reached == 0 {
         return None;
     }
-    Some(page.items[reached - 1])
+    Some(page.body.items[reached - 1])
 }
 
 /// Puts what the versions with commit at most t leave at their keys.
@@ -149,13 +141,13 @@ pub(crate) fn put_pages(
 {
     for i in 0..pages.len() {
         let page = &pages[i];
-        put_versions(rows, bytes, &page.items, t)?;
+        put_versions(rows, bytes, &page.body.items, t)?;
     }
     Ok(())
 }
 
 // Puts so many empty pages into the pool, or some of them.
-fn add_empty(alloc: Global, pool: &mut Vec<VecDeque<Slot>>, more: usize) -> Result<(), AllocError>
+fn add_empty(alloc: Global, pool: &mut Vec<Page>, more: usize) -> Result<(), AllocError>
     requires empty { AllByRecursion IsEmptyPage pool.old.items }
     requires room { length pool.old.items + more ≤ vec_capacity pool.old }
     ensures empty { AllByRecursion IsEmptyPage pool.new.items }
@@ -165,7 +157,7 @@ fn add_empty(alloc: Global, pool: &mut Vec<VecDeque<Slot>>, more: usize) -> Resu
     ensures capacity { vec_capacity pool.new ≡ vec_capacity pool.old }
 {
     for _made in 0..more {
-        pool.push_reserved(VecDeque::with_capacity(alloc, PAGE + 1)?);
+        pool.push_reserved(Page::empty(alloc)?);
     }
     Ok(())
 }
@@ -183,7 +175,7 @@ pub(crate) fn grow(
     alloc: Global,
     bytes: &[u8],
     pages: &mut VecDeque<Page>,
-    pool: &mut Vec<VecDeque<Slot>>,
+    pool: &mut Vec<Page>,
     n: usize,
 ) -> Result<(), AllocError>
     requires { IsStore bytes.now pages.old pool.old }

@@ -1,13 +1,12 @@
 // What a prune takes from a page, from its last version to its first.
 ghost use Rattle.std.specs.Prelude.{◌≡◌, ℕ, List, ◌++◌, ◌<◌, ◌≤◌, length, slice_get, slice_index_or, option_map};
 ghost use Rattle.std.specs.Prelude.{IfSome};
-ghost use Rattle.std.specs.VecDeque.{deque_capacity};
 ghost use Rattle.std.specs.Option.{option_to_list};
 ghost use Rattle.xc_versions.specs.Stored.{next_commit, pruned_before};
 ghost use Rattle.std.specs.List.{AllByRecursion};
 ghost use Rattle.xc_versions.specs.Slots.{seen};
 ghost use Rattle.xc_versions.specs.Heads.{IsSlot};
-ghost use Rattle.xc_versions.specs.Pages.{held, IdleNext};
+ghost use Rattle.xc_versions.specs.Pages.{held, slots_of, due_of, first_of, capacity_of, IdleNext};
 ghost use Rattle.xc_versions.specs.declared.stored.StoredVersion.{StoredVersion};
 
 use crate::page::{Page, first_or};
@@ -39,28 +38,29 @@ impl Page {
     /// Removes what its next version replaces at the cutoff, and notes when more is due. Behind the page stands `next`,
     /// or nothing. It gives the number of bytes that no slot of the page names any more.
     pub(crate) fn prune(&mut self, bytes: &[u8], next: Option<Slot>, cutoff: u64) -> usize
-        requires slots { AllByRecursion (IsSlot bytes.now) self.old.items.items }
+        requires slots { AllByRecursion (IsSlot bytes.now) (slots_of self.old) }
         requires next { IfSome next (λ slot. IsSlot bytes.now slot) }
         ensures items { (rest : List StoredVersion) → slice_get rest 0 ≡ option_map (seen bytes.now) next
             → held bytes.now self.new ++ rest ≡ pruned_before cutoff (held bytes.now self.old) rest }
         ensures idle { (u : ℕ) (rest : List StoredVersion) → slice_get rest 0 ≡ option_map (seen bytes.now) next
-            → u < self.new.due → IdleNext u (held bytes.now self.new) rest }
-        ensures slots { AllByRecursion (IsSlot bytes.now) self.new.items.items }
-        ensures first { self.new.first ≡ slice_index_or self.new.items.items 0 self.new.first }
-        ensures len { length self.new.items.items ≤ length self.old.items.items }
-        ensures capacity { deque_capacity self.new.items ≡ deque_capacity self.old.items }
+            → u < due_of self.new → IdleNext u (held bytes.now self.new) rest }
+        ensures slots { AllByRecursion (IsSlot bytes.now) (slots_of self.new) }
+        ensures first { first_of self.new ≡ slice_index_or (slots_of self.new) 0 (first_of self.new) }
+        ensures len { length (slots_of self.new) ≤ length (slots_of self.old) }
+        ensures capacity { capacity_of self.new ≡ capacity_of self.old }
     {
+        let page = &mut *self.body;
         let mut behind = next;
         let mut due = u64::MAX;
         let mut dead: usize = 0;
-        let mut i = self.items.len();
+        let mut i = page.items.len();
         while i > 0 {
             i -= 1;
-            let version = self.items[i];
+            let version = page.items[i];
             match next_commit(bytes, &version, &behind) {
                 Some(commit) if commit <= cutoff => {
                     dead = dead.saturating_add(op_bytes(bytes, version.at).len());
-                    remove_at(&mut self.items, i);
+                    remove_at(&mut page.items, i);
                 }
                 Some(commit) => {
                     due = due.min(commit);
@@ -69,8 +69,8 @@ impl Page {
                 None => behind = Some(version),
             }
         }
-        self.due = due;
-        self.first = first_or(&self.items, self.first);
+        page.due = due;
+        page.first = first_or(&page.items, page.first);
         dead
     }
 }

@@ -6,14 +6,14 @@ ghost use Rattle.std.specs.VecDeque.{deque_capacity};
 ghost use Rattle.xc_versions.specs.Stored.{kept, pruned_before, up_to};
 ghost use Rattle.xc_versions.specs.Slots.{seen};
 ghost use Rattle.xc_versions.specs.Heads.{IsSlot};
-ghost use Rattle.xc_versions.specs.Pages.{held, IsPage, IsEmptyPage, items_of, spare_of};
+ghost use Rattle.xc_versions.specs.Pages.{held, due_of, IsPage, IsEmptyPage, items_of, spare_of};
 ghost use Rattle.xc_versions.specs.declared.page.Page.{Page};
 ghost use Rattle.xc_versions.specs.Pool.{IsStore};
 ghost use Rattle.xc_versions.specs.Dues.{dues_of, Covers, Shrunk};
 
 use crate::least::{GROUP, fill, least_of, raise_at, settle};
-use crate::page::{Page, first_or};
-use crate::stored::{Slot, drop_later};
+use crate::page::Page;
+use crate::stored::Slot;
 use std::collections::VecDeque;
 
 // The first version of the pages from i on.
@@ -25,16 +25,16 @@ fn first_from(bytes: &[u8], pages: &VecDeque<Page>, i: usize) -> Option<Slot>
 {
     if i < pages.len() {
         let page = &pages[i];
-        Some(page.first)
+        Some(page.body.first)
     } else {
         None
     }
 }
 
 // Moves the empty page i to the pool.
-fn free(pages: &mut VecDeque<Page>, pool: &mut Vec<VecDeque<Slot>>, i: usize)
+fn free(pages: &mut VecDeque<Page>, pool: &mut Vec<Page>, i: usize)
     requires within { i < length pages.old.items }
-    requires none { (q : Page) → q ≡ slice_index_or pages.old.items i q → IsEmptyPage q.items }
+    requires none { (q : Page) → q ≡ slice_index_or pages.old.items i q → IsEmptyPage q }
     requires empty { AllByRecursion IsEmptyPage pool.old.items }
     requires room { length pool.old.items < vec_capacity pool.old }
     ensures pages { pages.new.items ≡ remove pages.old.items i }
@@ -43,8 +43,8 @@ fn free(pages: &mut VecDeque<Page>, pool: &mut Vec<VecDeque<Slot>>, i: usize)
     ensures pages_capacity { deque_capacity pages.new ≡ deque_capacity pages.old }
     ensures pool_capacity { vec_capacity pool.new ≡ vec_capacity pool.old }
 {
-    if let Some(Page { items, .. }) = pages.remove(i) {
-        pool.push_reserved(items);
+    if let Some(page) = pages.remove(i) {
+        pool.push_reserved(page);
     }
 }
 
@@ -53,7 +53,7 @@ fn free(pages: &mut VecDeque<Page>, pool: &mut Vec<VecDeque<Slot>>, i: usize)
 fn prune_at(
     bytes: &[u8],
     pages: &mut VecDeque<Page>,
-    pool: &mut Vec<VecDeque<Slot>>,
+    pool: &mut Vec<Page>,
     i: usize,
     cutoff: u64,
 ) -> usize
@@ -75,7 +75,7 @@ fn prune_at(
     let next = first_from(bytes, pages, i + 1);
     let page = &mut pages[i];
     let dead = page.prune(bytes, next, cutoff);
-    if page.items.is_empty() {
+    if page.is_empty() {
         free(pages, pool, i);
     }
     dead
@@ -85,17 +85,17 @@ fn prune_at(
 #[inline]
 fn is_idle(pages: &VecDeque<Page>, i: usize, cutoff: u64) -> bool
     requires { i < length pages.now.items }
-    ensures { (q : Page) → q ≡ slice_index_or pages.now.items i q → result ≡ nat_lt cutoff q.due }
+    ensures { (q : Page) → q ≡ slice_index_or pages.now.items i q → result ≡ nat_lt cutoff (due_of q) }
 {
     let page = &pages[i];
-    cutoff < page.due
+    cutoff < page.body.due
 }
 
 // The same, and what is said of the page's group holds. At the group's first page it is what the pages are due for.
 fn prune_page(
     bytes: &[u8],
     pages: &mut VecDeque<Page>,
-    pool: &mut Vec<VecDeque<Slot>>,
+    pool: &mut Vec<Page>,
     least: &mut Vec<u64>,
     i: usize,
     cutoff: u64,
@@ -124,7 +124,7 @@ fn prune_page(
 pub(crate) fn prune(
     bytes: &[u8],
     pages: &mut VecDeque<Page>,
-    pool: &mut Vec<VecDeque<Slot>>,
+    pool: &mut Vec<Page>,
     least: &mut Vec<u64>,
     cutoff: u64,
 ) -> usize
@@ -152,13 +152,7 @@ pub(crate) fn prune(
 }
 
 // Removes from the page i the versions with commit above t.
-fn drop_at(
-    bytes: &[u8],
-    pages: &mut VecDeque<Page>,
-    pool: &mut Vec<VecDeque<Slot>>,
-    i: usize,
-    t: u64,
-)
+fn drop_at(bytes: &[u8], pages: &mut VecDeque<Page>, pool: &mut Vec<Page>, i: usize, t: u64)
     requires store { IsStore bytes.now pages.old pool.old }
     requires within { i < length pages.old.items }
     ensures store { IsStore bytes.now pages.new pool.new }
@@ -172,9 +166,8 @@ fn drop_at(
     ensures len { i ≤ length pages.new.items }
 {
     let page = &mut pages[i];
-    drop_later(&mut page.items, t);
-    page.first = first_or(&page.items, page.first);
-    if page.items.is_empty() {
+    page.drop_later(t);
+    if page.is_empty() {
         free(pages, pool, i);
     }
 }
@@ -183,7 +176,7 @@ fn drop_at(
 pub(crate) fn drop_after(
     bytes: &[u8],
     pages: &mut VecDeque<Page>,
-    pool: &mut Vec<VecDeque<Slot>>,
+    pool: &mut Vec<Page>,
     least: &mut Vec<u64>,
     t: u64,
 )

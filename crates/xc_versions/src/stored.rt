@@ -34,7 +34,7 @@ pub struct StoredVersion {
 
 /// What a page keeps of a version. Its key and its value lie in the arena, which is read only where the head of its key
 /// doesn't tell.
-#[derive(Clone, Copy, Debug)]
+#[derive(Clone, Copy, Debug, Default)]
 pub(crate) struct Slot {
     pub(crate) head: Head,
     pub(crate) commit: u64,

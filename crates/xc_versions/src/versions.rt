@@ -28,7 +28,7 @@ pub struct Versions {
     // Each has 1 to 64 versions.
     pages: VecDeque<Page>,
     // Empty pages, for additions.
-    pool: Vec<VecDeque<Slot>>,
+    pool: Vec<Page>,
     // For each 64 pages at most the least cutoff that takes something from one of them. 0 where it has no entry.
     least: Vec<u64>,
     // About so many bytes of the arena are of versions that are gone.

@@ -6,9 +6,10 @@ use Rattle.xc_versions.proofs.PageLaws.{first-held, first-slot}
 use Rattle.xc_versions.proofs.page.begins_before.Goals as goal
 
 pub is_after-requires-clause-other : goal.is_after-requires-clause-other
-is_after-requires-clause-other c = first-slot c.args.bytes.now c.args.page.now c.requires.page
+is_after-requires-clause-other c = rw c.deref.ensures (first-slot c.args.bytes.now c.args.page.now c.requires.page)
 
 pub returns : goal.returns
 returns c =
     let b = c.args.bytes.now in
-    c.is_after.ensures ∙ first-held b (λ x. is_gt (stored_cmp (seen b c.args.slot.now) x)) c.args.page.now c.requires.page
+    rw c.deref.ensures at c.is_after.ensures
+    ∙ first-held b (λ x. is_gt (stored_cmp (seen b c.args.slot.now) x)) c.args.page.now c.requires.page

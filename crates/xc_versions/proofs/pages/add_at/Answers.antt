@@ -5,7 +5,7 @@ use Rattle.std.proofs.lemmas.Bool.{ltb-true, ltb-false}
 use Rattle.xc_versions.specs.declared.page.Page.{Page}
 use Rattle.xc_versions.specs.Stored.{with_version}
 use Rattle.xc_versions.specs.Slots.{seen}
-use Rattle.xc_versions.specs.Pages.{held, items_of, IsPage, spare_of}
+use Rattle.xc_versions.specs.Pages.{held, items_of, IsPage, spare_of, slots_of}
 use Rattle.xc_versions.proofs.AddLaws.{Grown, in_page, added-at, set-cut, insert-cut, spare-one, spare-two, pool-there, page-at, halves}
 use Rattle.xc_versions.proofs.AddLaws.{length-set-insert}
 use Rattle.xc_versions.proofs.DueLaws.{grew-one, grew-two}
@@ -18,13 +18,13 @@ put-requires-clause-ordered c =
     (in_page b (seen b c.args.slot) c.args.pages.now.items c.args.i c.index_mut-page.result.now c.requires.store.paged c.requires.fresh
     c.requires.within c.index_mut-page.ensures.value).0
 
-pub take_empty-requires-clause-some : goal.take_empty-requires-clause-some
-take_empty-requires-clause-some c =
+pub take_empty-upper-requires-clause-some : goal.take_empty-upper-requires-clause-some
+take_empty-upper-requires-clause-some c =
     let b = c.args.bytes.now in
     let q = c.index_mut-page.result.now in
     let page = page-at b c.args.pages.now.items c.args.i q c.requires.store.paged.pages c.requires.within c.index_mut-page.ensures.value in
-    let over = ltb-true 64 (length c.put.new.self.items.items) (sym c.if-is_over.ensures) in
-    let full : length q.items.items ≡ 64 = let few = page.few in let long = c.put.ensures.len in omega arith in
+    let over = ltb-true 64 (length (slots_of c.put.new.self)) (sym c.if-is_over.ensures) in
+    let full : length (slots_of q) ≡ 64 = let few = page.few in let long = c.put.ensures.len in omega arith in
     pool-there c.args.pages.now.items c.args.i q (length c.args.pool.now.items) c.requires.within c.index_mut-page.ensures.value full
     c.requires.room
 
@@ -36,9 +36,15 @@ grown-one c =
     let q = c.index_mut-page.result.now in
     let r = c.put.new.self in
     let page = page-at b old c.args.i q c.requires.store.paged.pages c.requires.within c.index_mut-page.ensures.value in
-    let fits = ltb-false 64 (length r.items.items) (sym c.if-is_over.ensures) in
+    let fits = ltb-false 64 (length (slots_of r)) (sym c.if-is_over.ensures) in
     let long = c.put.ensures.len in
-    let is_page : IsPage b r = record { some = omega arith; few = fits; room = c.put.ensures.room; slots = c.put.ensures.slots; first = c.put.ensures.first } in
+    let is_page : IsPage b r = record {
+      some = omega arith;
+      few = fits;
+      room = c.put.ensures.room;
+      slots = c.put.ensures.slots;
+      first = c.put.ensures.first;
+    } in
     subst (λ (ps : List Page). Grown b (seen b c.args.slot) old ps) (sym (set-cut old c.args.i r c.requires.within))
     (added-at b (seen b c.args.slot) old c.args.i q (r ∷ []) c.requires.store.paged c.requires.fresh c.requires.within c.requires.around
     c.index_mut-page.ensures.value
@@ -66,22 +72,22 @@ returns-else-is_over-clause-spare c =
     subst (λ (ps : List Page). spare_of old n ≤ spare_of ps n + 1) (sym (set-cut old c.args.i c.put.new.self c.requires.within))
     (spare-one old c.args.i c.index_mut-page.result.now c.put.new.self n c.requires.within c.index_mut-page.ensures.value c.put.ensures.len)
 
-full-page : (c : After-insert_at) → length c.index_mut-page.result.now.items.items ≡ 64
+full-page : (c : After-insert_at) → length (slots_of c.index_mut-page.result.now) ≡ 64
 full-page c =
     let b = c.args.bytes.now in
     let q = c.index_mut-page.result.now in
     let page = page-at b c.args.pages.now.items c.args.i q c.requires.store.paged.pages c.requires.within c.index_mut-page.ensures.value in
-    let over = ltb-true 64 (length c.put.new.self.items.items) (sym c.if-is_over.ensures) in
+    let over = ltb-true 64 (length (slots_of c.put.new.self)) (sym c.if-is_over.ensures) in
     let few = page.few in
     let long = c.put.ensures.len in
     omega arith
 
 new-pages : (c : After-insert_at)
     → c.insert_at.new.items.items ≡ take c.args.i c.args.pages.now.items ++
-    ((c.split-upper.new.self ∷ c.split-upper.result ∷ []) ++ drop (c.args.i + 1) c.args.pages.now.items)
+    ((c.split.new.self ∷ c.split.new.upper ∷ []) ++ drop (c.args.i + 1) c.args.pages.now.items)
 new-pages c =
     c.insert_at.ensures.items
-    ∙ insert-cut c.args.pages.now.items c.args.i c.split-upper.new.self c.split-upper.result c.requires.within
+    ∙ insert-cut c.args.pages.now.items c.args.i c.split.new.self c.split.new.upper c.requires.within
 
 grown-two : (c : After-insert_at) → Grown c.args.bytes.now (seen c.args.bytes.now c.args.slot) c.args.pages.now.items
     c.insert_at.new.items.items
@@ -89,31 +95,31 @@ grown-two c =
     let b = c.args.bytes.now in
     let old = c.args.pages.now.items in
     let q = c.index_mut-page.result.now in
-    let r = c.split-upper.new.self in
-    let s = c.split-upper.result in
+    let r = c.split.new.self in
+    let s = c.split.new.upper in
     let whole : items_of b (r ∷ s ∷ []) ≡ with_version (seen b c.args.slot) (held b q) =
-    halves b c.put.new.self.items.items r s c.split-upper.ensures.lower c.split-upper.ensures.upper ∙ c.put.ensures.items in
+    halves b (slots_of c.put.new.self) r s c.split.ensures.lower c.split.ensures.upper ∙ c.put.ensures.items in
     subst (λ (ps : List Page). Grown b (seen b c.args.slot) old ps) (sym (new-pages c))
     (added-at b (seen b c.args.slot) old c.args.i q (r ∷ s ∷ []) c.requires.store.paged c.requires.fresh c.requires.within c.requires.around
     c.index_mut-page.ensures.value
-    whole (c.split-upper.ensures.lower_page, (c.split-upper.ensures.upper_page, tt)) (
-      c.split-upper.ensures.lower_due
+    whole (c.split.ensures.lower_page, (c.split.ensures.upper_page, tt)) (
+      c.split.ensures.lower_due
           ∙ c.put.ensures.due,
-      (c.split-upper.ensures.upper_due ∙ c.put.ensures.due, tt),
+      (c.split.ensures.upper_due ∙ c.put.ensures.due, tt),
     ))
 
 pub returns-then-is_over-clause-store : goal.returns-then-is_over-clause-store
 returns-then-is_over-clause-store c =
-    let long = length-set-insert c.args.pages.now.items c.args.i c.split-upper.new.self c.split-upper.result c.requires.within in
+    let long = length-set-insert c.args.pages.now.items c.args.i c.split.new.self c.split.new.upper c.requires.within in
     let count : length c.insert_at.new.items.items ≡ length c.args.pages.now.items + 1 = ap length c.insert_at.ensures.items ∙ long in
-    let taken : length c.take_empty.new.pool.items + 1 ≡ length c.args.pool.now.items = c.take_empty.ensures.len in
+    let taken : length c.take_empty-upper.new.pool.items + 1 ≡ length c.args.pool.now.items = c.take_empty-upper.ensures.len in
     let pages_capacity : deque_capacity c.args.pages.now ≤ deque_capacity c.insert_at.new.items = c.insert_at.ensures.capacity in
-    let pool_capacity : vec_capacity c.take_empty.new.pool ≡ vec_capacity c.args.pool.now = c.take_empty.ensures.capacity in
+    let pool_capacity : vec_capacity c.take_empty-upper.new.pool ≡ vec_capacity c.args.pool.now = c.take_empty-upper.ensures.capacity in
     let pages_room = c.requires.store.room.pages_room in
     let pool_room = c.requires.store.room.pool_room in
     record {
       paged = (grown-two c).paged;
-      empty = c.take_empty.ensures.empty;
+      empty = c.take_empty-upper.ensures.empty;
       room = record
           { pages_room = omega arith; pool_room = omega arith };
     }
@@ -126,24 +132,24 @@ pub returns-then-is_over-clause-spare : goal.returns-then-is_over-clause-spare
 returns-then-is_over-clause-spare c =
     let old = c.args.pages.now.items in
     let n = length c.args.pool.now.items in
-    let m = length c.take_empty.new.pool.items in
-    let r = c.split-upper.new.self in
-    let s = c.split-upper.result in
+    let m = length c.take_empty-upper.new.pool.items in
+    let r = c.split.new.self in
+    let s = c.split.new.upper in
     let full = full-page c in
     let long = c.put.ensures.len in
-    let low : length r.items.items ≡ 32 =
-    ap length c.split-upper.ensures.lower ∙ length-take-le 32 c.put.new.self.items.items (omega arith) in
-    let high : length s.items.items ≡ 33 =
-    ap length c.split-upper.ensures.upper ∙ length-drop 32 c.put.new.self.items.items ∙ omega arith in
+    let low : length (slots_of r) ≡ 32 =
+    ap length c.split.ensures.lower ∙ length-take-le 32 (slots_of c.put.new.self) (omega arith) in
+    let high : length (slots_of s) ≡ 33 =
+    ap length c.split.ensures.upper ∙ length-drop 32 (slots_of c.put.new.self) ∙ omega arith in
     subst (λ (ps : List Page). spare_of old n ≤ spare_of ps m + 1) (sym (new-pages c))
     (spare-two old c.args.i c.index_mut-page.result.now r s n m c.requires.within c.index_mut-page.ensures.value full low high
-    (sym c.take_empty.ensures.len))
+    (sym c.take_empty-upper.ensures.len))
 
 pub returns-then-is_over-clause-dues : goal.returns-then-is_over-clause-dues
 returns-then-is_over-clause-dues c =
     grew-two c.args.pages.now.items c.insert_at.new.items.items c.args.i c.args.slot.commit c.index_mut-page.result.now
-    c.split-upper.new.self c.split-upper.result c.requires.within c.index_mut-page.ensures.value
-    (c.split-upper.ensures.lower_due ∙ c.put.ensures.due) (c.split-upper.ensures.upper_due ∙ c.put.ensures.due) (new-pages c)
+    c.split.new.self c.split.new.upper c.requires.within c.index_mut-page.ensures.value
+    (c.split.ensures.lower_due ∙ c.put.ensures.due) (c.split.ensures.upper_due ∙ c.put.ensures.due) (new-pages c)
 
 pub returns-else-is_over-clause-dues : goal.returns-else-is_over-clause-dues
 returns-else-is_over-clause-dues c =

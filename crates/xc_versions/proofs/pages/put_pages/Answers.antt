@@ -24,7 +24,7 @@ put_versions-requires-clause-under c =
     let q = c.index-page.result.now in
     let rest = items_of b (drop (c.loop-i.i + 1) c.args.pages.now.items) in
     let split = from b c.args.pages.now c.loop-i.i c.len-i-end.result q c.len-i-end.ensures c.loop-i-test.true c.index-page.ensures in
-    (each-left (λ x. Under c.loop-i.rows.items x.key) (held b q) rest (rw split at c.loop-i.invariant.under))
+    rw c.deref.ensures (each-left (λ x. Under c.loop-i.rows.items x.key) (held b q) rest (rw split at c.loop-i.invariant.under))
 
 pub put_versions-requires-clause-ordered : goal.put_versions-requires-clause-ordered
 put_versions-requires-clause-ordered c =
@@ -32,7 +32,7 @@ put_versions-requires-clause-ordered c =
     let q = c.index-page.result.now in
     let rest = items_of b (drop (c.loop-i.i + 1) c.args.pages.now.items) in
     let split = from b c.args.pages.now c.loop-i.i c.len-i-end.result q c.len-i-end.ensures c.loop-i-test.true c.index-page.ensures in
-    (in_order-left (held b q) rest (rw split at c.loop-i.invariant.ordered))
+    rw c.deref.ensures (in_order-left (held b q) rest (rw split at c.loop-i.invariant.ordered))
 
 pub loop-i-preserved : goal.loop-i-preserved
 loop-i-preserved c =
@@ -45,7 +45,7 @@ loop-i-preserved c =
     subst (λ (w : List StoredVersion). Left t c.args.rows.now.items c.loop-i.rows.items (items_of b c.args.pages.now.items) w) split
     c.loop-i.invariant in
     let put : c.put_versions.new.rows.items ≡ rows_after (ops_to t (held b q)) c.loop-i.rows.items =
-    c.in_ok-put_versions.ensures
+    rw c.deref.ensures at c.in_ok-put_versions.ensures
     in
     rw put (left-more t c.args.rows.now.items c.loop-i.rows.items (items_of b c.args.pages.now.items) (held b q) rest before)
 
@@ -54,5 +54,6 @@ put_versions-requires-clause-slots c =
     let long = deque-long c.args.pages.now in
     let below = c.loop-i-test.true in
     let end = c.len-i-end.ensures in
+    rw c.deref.ensures
     (page-at c.args.bytes.now c.args.pages.now.items c.loop-i.i c.index-page.result.now c.requires.pages (omega arith)
     c.index-page.ensures).slots

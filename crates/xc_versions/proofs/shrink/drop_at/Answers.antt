@@ -1,4 +1,4 @@
-use Rattle.std.proofs.Common.{◌≡◌, ◌+◌, ◌<◌, ◌≤◌, List, [], ◌∷◌, ◌++◌, length, take, drop, map, ap, sym, ◌∙◌, subst, arith, append-nil}
+use Rattle.std.proofs.Common.{◌≡◌, ℕ, ◌+◌, ◌<◌, ◌≤◌, List, [], ◌∷◌, ◌++◌, length, take, drop, map, ap, sym, ◌∙◌, subst, arith, append-nil}
 use Rattle.std.proofs.Common.{vec_capacity, deque_capacity}
 use Rattle.std.specs.Prelude.{nat_le}
 use Rattle.std.proofs.lemmas.Grind.{common_steps}
@@ -11,7 +11,7 @@ use Rattle.xc_versions.specs.declared.stored.Slot.{Slot}
 use Rattle.xc_versions.specs.Slots.{seen}
 use Rattle.xc_versions.specs.Heads.{IsSlot}
 use Rattle.xc_versions.proofs.SlotLaws.{map-filter, each-filtered}
-use Rattle.xc_versions.specs.Pages.{held, items_of, IsPage, IsPaged, Idle, spare_of}
+use Rattle.xc_versions.specs.Pages.{held, items_of, IsPage, IsPaged, Idle, spare_of, slots_of, capacity_of}
 use Rattle.xc_versions.proofs.AddLaws.{set-cut, page-at}
 use Rattle.xc_versions.proofs.SubLaws.{Sub, sub-filter, sub-behind, idle-sub}
 use Rattle.xc_versions.proofs.ShrinkLaws.{shrunk-at, remove-cut, length-removed, behind-removed, idle-at, dues-one, spare-shrunk}
@@ -28,9 +28,9 @@ new-pages c =
 none-left : (c : After-free) → up_to c.args.t (held c.args.bytes.now c.index_mut-page.result.now) ≡ []
 none-left c =
     let b = c.args.bytes.now in
-    let empty : length c.drop_later.new.items.items ≡ 0 = grind (arith, common_steps) in
-    sym (map-filter (seen b) (λ x. nat_le x.commit c.args.t) c.index_mut-page.result.now.items.items)
-    ∙ ap (map (seen b)) (sym c.drop_later.ensures.items ∙ nil_from_length c.drop_later.new.items.items empty)
+    let empty : length (slots_of c.drop_later.new.self) ≡ 0 = grind (arith, common_steps) in
+    sym (map-filter (seen b) (λ x. nat_le x.commit c.args.t) (slots_of c.index_mut-page.result.now))
+    ∙ ap (map (seen b)) (sym c.drop_later.ensures.items ∙ nil_from_length (slots_of c.drop_later.new.self) empty)
 
 pub returns-then-is_empty-clause-store : goal.returns-then-is_empty-clause-store
 returns-then-is_empty-clause-store c =
@@ -84,10 +84,10 @@ returns-else-is_empty-clause-store c =
     let old = c.args.pages.now.items in
     let i = c.args.i in
     let q = c.index_mut-page.result.now in
-    let r : Page = record { items = c.drop_later.new.items; due = q.due; first = c.first_or-page.result } in
+    let r = c.drop_later.new.self in
     let rest = items_of b (drop (i + 1) old) in
     let left : held b r ≡ up_to c.args.t (held b q) =
-    ap (map (seen b)) c.drop_later.ensures.items ∙ map-filter (seen b) (λ x. nat_le x.commit c.args.t) q.items.items in
+    ap (map (seen b)) c.drop_later.ensures.items ∙ map-filter (seen b) (λ x. nat_le x.commit c.args.t) (slots_of q) in
     let flat : items_of b (r ∷ []) ++ rest ≡ up_to c.args.t (held b q) ++ rest =
     ap (λ w. w ++ rest) (append-nil (held b r) ∙ left) in
     let part = sub-filter (λ x. nat_le x.commit c.args.t) (held b q) in
@@ -95,21 +95,22 @@ returns-else-is_empty-clause-store c =
     subst (λ (w : List StoredVersion). Sub w (held b q ++ rest)) (sym flat)
     (sub-behind (up_to c.args.t (held b q)) (held b q) rest part) in
     let page = page-at b old i q c.requires.store.paged.pages c.requires.within c.index_mut-page.ensures.value in
-    let some : 0 < length r.items.items = grind (arith, common_steps) in
+    let some : 0 < length (slots_of r) = grind (arith, common_steps) in
     let few = page.few in
-    let shorter : length r.items.items ≤ length q.items.items =
-    rw c.drop_later.ensures.items (length-kept (λ (x : Slot). nat_le x.commit c.args.t) q.items.items) in
-    let room : 65 ≤ deque_capacity r.items =
-    let cap : deque_capacity r.items ≡ deque_capacity q.items = c.drop_later.ensures.capacity in let was = page.room in omega arith in
+    let shorter : length (slots_of r) ≤ length (slots_of q) =
+    rw c.drop_later.ensures.items (length-kept (λ (x : Slot). nat_le x.commit c.args.t) (slots_of q)) in
+    let room : 65 ≤ capacity_of r =
+    let cap : capacity_of r ≡ capacity_of q = c.drop_later.ensures.capacity in let was = page.room in omega arith in
     let slots = subst (λ (xs : List Slot). Each (IsSlot b) xs) (sym c.drop_later.ensures.items)
-    (each-filtered (IsSlot b) (λ x. nat_le x.commit c.args.t) q.items.items page.slots) in
-    let is_page : IsPage b r = record { some = some; few = omega arith; room = room; slots = slots; first = c.first_or-page.ensures } in
+    (each-filtered (IsSlot b) (λ x. nat_le x.commit c.args.t) (slots_of q) page.slots) in
+    let is_page : IsPage b r = record { some = some; few = omega arith; room = room; slots = slots; first = c.drop_later.ensures.first } in
     let paged : IsPaged b (take i old ++ ((r ∷ []) ++ drop (i + 1) old)) [] =
     shrunk-at b old i q (r ∷ []) c.requires.store.paged c.requires.within c.index_mut-page.ensures.value sub (is_page, tt)
     (λ o. dues-one b r rest
     (λ u l. subst (λ (w : List StoredVersion). Idle u w rest) (sym left)
     (idle-sub u (up_to c.args.t (held b q)) (held b q) rest part
-    (idle-at b old i q c.requires.store.paged c.requires.within c.index_mut-page.ensures.value u l))))
+    (idle-at b old i q c.requires.store.paged c.requires.within c.index_mut-page.ensures.value u
+    (subst (λ (n : ℕ). u < n) c.drop_later.ensures.due l)))))
     in
     let long = length-set old i r in
     let pages_room = c.requires.store.room.pages_room in
@@ -126,10 +127,10 @@ returns-else-is_empty-clause-spare c =
     let old = c.args.pages.now.items in
     let n = length c.args.pool.now.items in
     let q = c.index_mut-page.result.now in
-    let r : Page = record { items = c.drop_later.new.items; due = q.due; first = c.first_or-page.result } in
+    let r = c.drop_later.new.self in
     subst (λ (ps : List Page). spare_of old n ≤ spare_of ps n) (sym (set-cut old c.args.i r c.requires.within))
     (spare-shrunk old c.args.i q r n c.requires.within c.index_mut-page.ensures.value
-    (rw c.drop_later.ensures.items (length-kept (λ (x : Slot). nat_le x.commit c.args.t) q.items.items)))
+    (rw c.drop_later.ensures.items (length-kept (λ (x : Slot). nat_le x.commit c.args.t) (slots_of q))))
 
 pub returns-then-is_empty-clause-dues : goal.returns-then-is_empty-clause-dues
 returns-then-is_empty-clause-dues c =
@@ -137,7 +138,7 @@ returns-then-is_empty-clause-dues c =
 
 pub returns-else-is_empty-clause-dues : goal.returns-else-is_empty-clause-dues
 returns-else-is_empty-clause-dues c =
-    let r : Page = record { items = c.drop_later.new.items; due = c.index_mut-page.result.now.due; first = c.first_or-page.result } in
+    let r = c.drop_later.new.self in
     shrunk-set c.args.pages.now.items c.args.i r c.requires.within
 
 pub returns-else-is_empty-clause-tail : goal.returns-else-is_empty-clause-tail
@@ -147,11 +148,11 @@ returns-else-is_empty-clause-tail c p e =
     let old = c.args.pages.now.items in
     let i = c.args.i in
     let q = c.index_mut-page.result.now in
-    let r : Page = record { items = c.drop_later.new.items; due = q.due; first = c.first_or-page.result } in
+    let r = c.drop_later.new.self in
     let rest = items_of b (drop (i + 1) old) in
     let within = c.requires.within in
     let left : held b r ≡ up_to t (held b q) =
-    ap (map (seen b)) c.drop_later.ensures.items ∙ map-filter (seen b) (λ x. nat_le x.commit t) q.items.items in
+    ap (map (seen b)) c.drop_later.ensures.items ∙ map-filter (seen b) (λ x. nat_le x.commit t) (slots_of q) in
     let same : p ≡ q = e ∙ get_or_default old i p q within ∙ sym c.index_mut-page.ensures.value in
     ap (λ ps. items_of b (drop i ps)) (set-cut old i r within)
     ∙ ap (items_of b) (drop_at (take i old) (r ∷ drop (i + 1) old) i (length-take-le i old (omega arith)))

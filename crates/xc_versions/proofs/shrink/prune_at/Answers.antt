@@ -7,7 +7,7 @@ use Rattle.xc_versions.specs.declared.stored.StoredVersion.{StoredVersion}
 use Rattle.xc_versions.specs.declared.page.Page.{Page}
 use Rattle.xc_versions.specs.Stored.{InOrder, pruned_before}
 use Rattle.xc_versions.specs.Slots.{seen}
-use Rattle.xc_versions.specs.Pages.{held, items_of, IsPage, IsPaged, spare_of}
+use Rattle.xc_versions.specs.Pages.{held, items_of, IsPage, IsPaged, spare_of, slots_of, due_of, capacity_of}
 use Rattle.xc_versions.proofs.AddLaws.{set-cut, page-at}
 use Rattle.xc_versions.proofs.PageLaws.{items-from}
 use Rattle.xc_versions.proofs.SubLaws.{Sub, sub-pruned}
@@ -23,7 +23,7 @@ returns-then-is_idle-clause-tail c q e =
     let old = c.args.pages.now.items in
     let rest = items_of b (drop (c.args.i + 1) old) in
     let paged = c.requires.store.paged in
-    let early = ltb-true c.args.cutoff q.due (sym (c.if-is_idle.ensures q e)) in
+    let early = ltb-true c.args.cutoff (due_of q) (sym (c.if-is_idle.ensures q e)) in
     items-from b old c.args.i q c.requires.within e
     ∙ sym (pruned-idle c.args.cutoff (held b q) rest (order-at b old c.args.i q paged c.requires.within e)
     (idle-at b old c.args.i q paged c.requires.within e c.args.cutoff early))
@@ -40,8 +40,8 @@ returns-then-is_empty-clause-store c =
     let q = c.index_mut-page.result.now in
     let r = c.prune-dead.new.self in
     let rest = items_of b (drop (i + 1) old) in
-    let empty : length r.items.items ≡ 0 = grind (arith, common_steps) in
-    let none : held b r ≡ [] = ap (map (seen b)) (nil_from_length r.items.items empty) in
+    let empty : length (slots_of r) ≡ 0 = grind (arith, common_steps) in
+    let none : held b r ≡ [] = ap (map (seen b)) (nil_from_length (slots_of r) empty) in
     let all_left = c.prune-dead.ensures.items rest (sym c.first_from-next.ensures.version) in
     let gone : pruned_before c.args.cutoff (held b q) rest ≡ rest = sym all_left ∙ ap (λ w. w ++ rest) none in
     let sub : Sub rest (held b q ++ rest) =
@@ -70,8 +70,8 @@ returns-then-is_empty-clause-tail c p e =
     let q = c.index_mut-page.result.now in
     let r = c.prune-dead.new.self in
     let rest = items_of b (drop (i + 1) old) in
-    let empty : length r.items.items ≡ 0 = grind (arith, common_steps) in
-    let none : held b r ≡ [] = ap (map (seen b)) (nil_from_length r.items.items empty) in
+    let empty : length (slots_of r) ≡ 0 = grind (arith, common_steps) in
+    let none : held b r ≡ [] = ap (map (seen b)) (nil_from_length (slots_of r) empty) in
     let same : p ≡ q = e ∙ get_or_default old i p q c.requires.within ∙ sym c.index_mut-page.ensures.value in
     let all_left = c.prune-dead.ensures.items rest (sym c.first_from-next.ensures.version) in
     ap (λ ps. items_of b (drop i ps)) (new-pages c) ∙ ap (items_of b) (behind-removed old i c.requires.within)
@@ -100,12 +100,18 @@ returns-else-is_empty-clause-store c =
     subst (λ (w : List StoredVersion). Sub w (held b q ++ rest)) (sym (flat
     ∙ all_left)) (sub-pruned c.args.cutoff (held b q) rest) in
     let page = page-at b old i q c.requires.store.paged.pages c.requires.within c.index_mut-page.ensures.value in
-    let some : 0 < length r.items.items = grind (arith, common_steps) in
+    let some : 0 < length (slots_of r) = grind (arith, common_steps) in
     let few = page.few in
-    let shorter : length r.items.items ≤ length q.items.items = c.prune-dead.ensures.len in
-    let room : 65 ≤ deque_capacity r.items =
-    let cap : deque_capacity r.items ≡ deque_capacity q.items = c.prune-dead.ensures.capacity in let was = page.room in omega arith in
-    let is_page : IsPage b r = record { some = some; few = omega arith; room = room; slots = c.prune-dead.ensures.slots; first = c.prune-dead.ensures.first } in
+    let shorter : length (slots_of r) ≤ length (slots_of q) = c.prune-dead.ensures.len in
+    let room : 65 ≤ capacity_of r =
+    let cap : capacity_of r ≡ capacity_of q = c.prune-dead.ensures.capacity in let was = page.room in omega arith in
+    let is_page : IsPage b r = record {
+      some = some;
+      few = omega arith;
+      room = room;
+      slots = c.prune-dead.ensures.slots;
+      first = c.prune-dead.ensures.first;
+    } in
     let paged : IsPaged b (take i old ++ ((r ∷ []) ++ drop (i + 1) old)) [] =
     shrunk-at b old i q (r ∷ []) c.requires.store.paged c.requires.within c.index_mut-page.ensures.value sub (is_page, tt)
     (λ o. dues-one b r rest (λ u l. idle-from-next u (held b r) rest (subst InOrder flat o) (c.prune-dead.ensures.idle u rest head l)))

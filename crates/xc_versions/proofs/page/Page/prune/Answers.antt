@@ -3,6 +3,7 @@ use Rattle.std.specs.Prelude.{option_map}
 use Rattle.std.proofs.lemmas.Bool.{le-leb, lt-leb}
 use Rattle.std.proofs.lemmas.List.{length-map}
 use Rattle.xc_record.proofs.ListLaws.{Each}
+use Rattle.xc_versions.specs.Pages.{slots_of}
 use Rattle.xc_versions.specs.declared.stored.StoredVersion.{StoredVersion}
 use Rattle.xc_versions.specs.declared.stored.Slot.{Slot}
 use Rattle.xc_versions.specs.Stored.{is_due}
@@ -13,7 +14,8 @@ use Rattle.xc_versions.proofs.SlotLaws.{read-map, map-remove, each-removed}
 use Rattle.xc_versions.proofs.PruneLaws.{Going, going-kept, going-removed}
 use Rattle.xc_versions.proofs.page.Page.prune.Goals as goal
 
-slot-read : (b : List ℕ) (slots : List Slot) (i : ℕ) (x : Slot) → i < length slots → x ≡ get_or slots i x → Each (IsSlot b) slots → IsSlot b x
+slot-read : (b : List ℕ) (slots : List Slot) (i : ℕ) (x : Slot) → i < length slots → x ≡ get_or slots i x → Each (IsSlot b) slots
+    → IsSlot b x
 slot-read b slots i x h e g = subst (IsSlot b) (sym e) (each-at (IsSlot b) slots i x g h)
 
 pub loop-i-preserved-then-commit-cutoff : goal.loop-i-preserved-then-commit-cutoff
@@ -23,8 +25,8 @@ loop-i-preserved-then-commit-cutoff c =
     let x = c.index.result.now in
     let next = option_map (seen b) c.args.next in
     let behind = option_map (seen b) c.loop-i.behind in
-    let slots = c.loop-i.self.items.items in
-    let old = map (seen b) c.args.self.now.items.items in
+    let slots = c.loop-i.page.items.items in
+    let old = map (seen b) (slots_of c.args.self.now) in
     let items = map (seen b) slots in
     let i = c.loop-i.i - 1 in
     let same : c.loop-i.i ≡ i + 1 = omega arith in
@@ -48,8 +50,8 @@ loop-i-preserved-in-Some-2 c =
     let x = c.index.result.now in
     let next = option_map (seen b) c.args.next in
     let behind = option_map (seen b) c.loop-i.behind in
-    let slots = c.loop-i.self.items.items in
-    let old = map (seen b) c.args.self.now.items.items in
+    let slots = c.loop-i.page.items.items in
+    let old = map (seen b) (slots_of c.args.self.now) in
     let items = map (seen b) slots in
     let commit = c.in-Some.commit in
     let i = c.loop-i.i - 1 in
@@ -64,7 +66,7 @@ loop-i-preserved-in-Some-2 c =
           (ap (is_due u) (sym c.in-Some.ensures) ∙ lt-leb commit u (omega arith))
           (λ w l. (omega arith, ap (is_due w) (sym c.in-Some.ensures) ∙ lt-leb commit w (omega arith)));
       slots = c.loop-i.invariant.slots;
-      behind = slot-read b c.loop-i.self.items.items i x within c.index.ensures c.loop-i.invariant.slots;
+      behind = slot-read b c.loop-i.page.items.items i x within c.index.ensures c.loop-i.invariant.slots;
       capacity = c.loop-i.invariant.capacity;
     }
 
@@ -75,8 +77,8 @@ loop-i-preserved c =
     let x = c.index.result.now in
     let next = option_map (seen b) c.args.next in
     let behind = option_map (seen b) c.loop-i.behind in
-    let slots = c.loop-i.self.items.items in
-    let old = map (seen b) c.args.self.now.items.items in
+    let slots = c.loop-i.page.items.items in
+    let old = map (seen b) (slots_of c.args.self.now) in
     let items = map (seen b) slots in
     let i = c.loop-i.i - 1 in
     let same : c.loop-i.i ≡ i + 1 = omega arith in
@@ -87,14 +89,14 @@ loop-i-preserved c =
           (read-map (seen b) slots i x within c.index.ensures)
           (ap (is_due u) (sym c.in-None.ensures)) (λ w l. (l, ap (is_due w) (sym c.in-None.ensures)));
       slots = c.loop-i.invariant.slots;
-      behind = slot-read b c.loop-i.self.items.items i x within c.index.ensures c.loop-i.invariant.slots;
+      behind = slot-read b c.loop-i.page.items.items i x within c.index.ensures c.loop-i.invariant.slots;
       capacity = c.loop-i.invariant.capacity;
     }
 
 pub op_bytes-requires : goal.op_bytes-requires
 op_bytes-requires c =
     let b = c.args.bytes.now in
-    let slots = c.loop-i.self.items.items in
+    let slots = c.loop-i.page.items.items in
     let i = c.loop-i.i - 1 in
     let short = c.loop-i.invariant.going.short in
     let long = length-map slots (seen b) in

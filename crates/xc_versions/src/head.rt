@@ -28,7 +28,7 @@ fn beginning(key: &[u8]) -> [u8; 16]
     let mut bytes = [0u8; 16];
     let count = key.len().min(HEAD_BYTES);
     bytes[..count].copy_from_slice(&key[..count]);
-    bytes[15] = key.len().min(16) as u8;
+    bytes[HEAD_BYTES] = key.len().min(HEAD_BYTES + 1) as u8;
     bytes
 }
 
@@ -68,7 +68,7 @@ impl Head {
     fn is_whole(&self) -> bool
         ensures { (k : List ℕ) → self.now ≡ head_of k → result ≡ nat_lt (length k) 16 }
     {
-        self.back % 256 < 16
+        self.back % 256 <= HEAD_BYTES as u64
     }
 
     /// How the keys of two heads compare. None comes where the heads don't tell: keys of more than 15 bytes that begin

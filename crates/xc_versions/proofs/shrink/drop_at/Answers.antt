@@ -1,8 +1,8 @@
-use Rattle.std.proofs.Common.{◌≡◌, ℕ, ◌+◌, ◌<◌, ◌≤◌, List, [], ◌∷◌, ◌++◌, length, take, drop, map, ap, sym, ◌∙◌, subst, arith, append-nil}
-use Rattle.std.proofs.Common.{vec_capacity, deque_capacity}
+use Rattle.std.proofs.Common.{◌≡◌, ℕ, ◌+◌, ◌<◌, ◌≤◌, List, [], ◌∷◌, ◌++◌, length, take, drop, map, ap, sym, ◌∙◌, subst, arith}
+use Rattle.std.proofs.Common.{refl}
 use Rattle.std.specs.Prelude.{nat_le}
 use Rattle.std.proofs.lemmas.Grind.{common_steps}
-use Rattle.std.proofs.lemmas.List.{length-set, nil_from_length, get_or_default, drop_at, length-take-le}
+use Rattle.std.proofs.lemmas.List.{nil_from_length, get_or_default, drop_at, length-take-le}
 use Rattle.xc_versions.specs.declared.stored.StoredVersion.{StoredVersion}
 use Rattle.xc_versions.specs.declared.page.Page.{Page}
 use Rattle.xc_versions.specs.Stored.{up_to}
@@ -11,10 +11,10 @@ use Rattle.xc_versions.specs.declared.stored.Slot.{Slot}
 use Rattle.xc_versions.specs.Slots.{seen}
 use Rattle.xc_versions.specs.Heads.{IsSlot}
 use Rattle.xc_versions.proofs.SlotLaws.{map-filter, each-filtered}
-use Rattle.xc_versions.specs.Pages.{held, items_of, IsPage, IsPaged, Idle, spare_of, slots_of, capacity_of}
+use Rattle.xc_versions.specs.Pages.{held, items_of, IsPage, Idle, spare_of, slots_of, capacity_of}
 use Rattle.xc_versions.proofs.AddLaws.{set-cut, page-at}
 use Rattle.xc_versions.proofs.SubLaws.{Sub, sub-filter, sub-behind, idle-sub}
-use Rattle.xc_versions.proofs.ShrinkLaws.{shrunk-at, remove-cut, length-removed, behind-removed, idle-at, dues-one, spare-shrunk}
+use Rattle.xc_versions.proofs.ShrinkLaws.{store-gone, store-kept, remove-cut, behind-removed, idle-at, spare-shrunk}
 use Rattle.xc_versions.proofs.ShrinkLaws.{spare-gone, length-kept}
 use Rattle.xc_versions.proofs.DueLaws.{shrunk-gone, shrunk-set}
 use Rattle.xc_versions.proofs.shrink.drop_at.Goals as goal
@@ -43,21 +43,8 @@ returns-then-is_empty-clause-store c =
     subst (λ (w : List StoredVersion). Sub (w ++ rest) (held b q ++ rest)) (none-left c)
     (sub-behind (up_to c.args.t (held b q)) (held b q) rest (sub-filter (λ x. nat_le x.commit c.args.t) (held b q)))
     in
-    let paged : IsPaged b (take i old ++ drop (i + 1) old) [] =
-    shrunk-at b old i q [] c.requires.store.paged c.requires.within c.index_mut-page.ensures.value sub tt (λ o. tt) in
-    let long = length-removed old i c.requires.within in
-    let count : length c.free.new.pages.items ≡ length (take i old ++ drop (i + 1) old) = ap length (new-pages c) in
-    let more : length c.free.new.pool.items ≡ length c.args.pool.now.items + 1 = c.free.ensures.len in
-    let pages_capacity : deque_capacity c.free.new.pages ≡ deque_capacity c.args.pages.now = c.free.ensures.pages_capacity in
-    let pool_capacity : vec_capacity c.free.new.pool ≡ vec_capacity c.args.pool.now = c.free.ensures.pool_capacity in
-    let pages_room = c.requires.store.room.pages_room in
-    let pool_room = c.requires.store.room.pool_room in
-    record {
-      paged = subst (λ (ps : List Page). IsPaged b ps []) (sym (new-pages c)) paged;
-      empty = c.free.ensures.empty;
-      room = record
-          { pages_room = omega arith; pool_room = omega arith };
-    }
+    store-gone b c.args.pages.now _ c.args.pool.now _ i q c.requires.store c.requires.within c.index_mut-page.ensures.value sub
+    (new-pages c) c.free.ensures.empty c.free.ensures.len c.free.ensures.pages_capacity c.free.ensures.pool_capacity
 
 pub returns-then-is_empty-clause-tail : goal.returns-then-is_empty-clause-tail
 returns-then-is_empty-clause-tail c p e =
@@ -88,11 +75,9 @@ returns-else-is_empty-clause-store c =
     let rest = items_of b (drop (i + 1) old) in
     let left : held b r ≡ up_to c.args.t (held b q) =
     ap (map (seen b)) c.drop_later.ensures.items ∙ map-filter (seen b) (λ x. nat_le x.commit c.args.t) (slots_of q) in
-    let flat : items_of b (r ∷ []) ++ rest ≡ up_to c.args.t (held b q) ++ rest =
-    ap (λ w. w ++ rest) (append-nil (held b r) ∙ left) in
     let part = sub-filter (λ x. nat_le x.commit c.args.t) (held b q) in
-    let sub : Sub (items_of b (r ∷ []) ++ rest) (held b q ++ rest) =
-    subst (λ (w : List StoredVersion). Sub w (held b q ++ rest)) (sym flat)
+    let sub : Sub (held b r ++ rest) (held b q ++ rest) =
+    subst (λ (w : List StoredVersion). Sub (w ++ rest) (held b q ++ rest)) (sym left)
     (sub-behind (up_to c.args.t (held b q)) (held b q) rest part) in
     let page = page-at b old i q c.requires.store.paged.pages c.requires.within c.index_mut-page.ensures.value in
     let some : 0 < length (slots_of r) = grind (arith, common_steps) in
@@ -104,23 +89,11 @@ returns-else-is_empty-clause-store c =
     let slots = subst (λ (xs : List Slot). Each (IsSlot b) xs) (sym c.drop_later.ensures.items)
     (each-filtered (IsSlot b) (λ x. nat_le x.commit c.args.t) (slots_of q) page.slots) in
     let is_page : IsPage b r = record { some = some; few = omega arith; room = room; slots = slots; first = c.drop_later.ensures.first } in
-    let paged : IsPaged b (take i old ++ ((r ∷ []) ++ drop (i + 1) old)) [] =
-    shrunk-at b old i q (r ∷ []) c.requires.store.paged c.requires.within c.index_mut-page.ensures.value sub (is_page, tt)
-    (λ o. dues-one b r rest
-    (λ u l. subst (λ (w : List StoredVersion). Idle u w rest) (sym left)
-    (idle-sub u (up_to c.args.t (held b q)) (held b q) rest part
+    store-kept b c.args.pages.now _ c.args.pool.now i q r c.requires.store c.requires.within c.index_mut-page.ensures.value sub is_page
+    (λ o u l. subst (λ (w : List StoredVersion). Idle u w rest) (sym left) (idle-sub u (up_to c.args.t (held b q)) (held b q) rest part
     (idle-at b old i q c.requires.store.paged c.requires.within c.index_mut-page.ensures.value u
-    (subst (λ (n : ℕ). u < n) c.drop_later.ensures.due l)))))
-    in
-    let long = length-set old i r in
-    let pages_room = c.requires.store.room.pages_room in
-    let pool_room = c.requires.store.room.pool_room in
-    record {
-      paged = subst (λ (ps : List Page). IsPaged b ps []) (sym (set-cut old i r c.requires.within)) paged;
-      empty =
-          c.requires.store.empty;
-      room = record { pages_room = omega arith; pool_room = omega arith };
-    }
+    (subst (λ (n : ℕ). u < n) c.drop_later.ensures.due l))))
+    refl refl
 
 pub returns-else-is_empty-clause-spare : goal.returns-else-is_empty-clause-spare
 returns-else-is_empty-clause-spare c =

@@ -1,17 +1,17 @@
-use Rattle.std.proofs.Common.{◌≡◌, ◌+◌, ◌<◌, ◌≤◌, List, [], ◌∷◌, ◌++◌, length, take, drop, map, ap, sym, ◌∙◌, subst, arith, append-nil}
-use Rattle.std.proofs.Common.{vec_capacity, deque_capacity}
+use Rattle.std.proofs.Common.{◌≡◌, ◌+◌, ◌<◌, ◌≤◌, List, [], ◌++◌, length, take, drop, map, ap, sym, ◌∙◌, subst, arith}
+use Rattle.std.proofs.Common.{refl}
 use Rattle.std.proofs.lemmas.Grind.{common_steps}
 use Rattle.std.proofs.lemmas.Bool.{ltb-true}
-use Rattle.std.proofs.lemmas.List.{length-set, nil_from_length, get_or_default}
+use Rattle.std.proofs.lemmas.List.{nil_from_length, get_or_default}
 use Rattle.xc_versions.specs.declared.stored.StoredVersion.{StoredVersion}
 use Rattle.xc_versions.specs.declared.page.Page.{Page}
-use Rattle.xc_versions.specs.Stored.{InOrder, pruned_before}
+use Rattle.xc_versions.specs.Stored.{pruned_before}
 use Rattle.xc_versions.specs.Slots.{seen}
-use Rattle.xc_versions.specs.Pages.{held, items_of, IsPage, IsPaged, spare_of, slots_of, due_of, capacity_of}
+use Rattle.xc_versions.specs.Pages.{held, items_of, IsPage, spare_of, slots_of, due_of, capacity_of}
 use Rattle.xc_versions.proofs.AddLaws.{set-cut, page-at}
 use Rattle.xc_versions.proofs.PageLaws.{items-from}
 use Rattle.xc_versions.proofs.SubLaws.{Sub, sub-pruned}
-use Rattle.xc_versions.proofs.ShrinkLaws.{shrunk-at, remove-cut, length-removed, behind-removed, idle-at, order-at, pruned-idle, dues-one}
+use Rattle.xc_versions.proofs.ShrinkLaws.{store-gone, store-kept, remove-cut, behind-removed, idle-at, order-at, pruned-idle}
 use Rattle.xc_versions.proofs.ShrinkLaws.{idle-from-next, spare-shrunk, spare-gone}
 use Rattle.xc_versions.proofs.DueLaws.{shrunk-gone, shrunk-set}
 use Rattle.xc_versions.proofs.shrink.prune_at.Goals as goal
@@ -46,21 +46,8 @@ returns-then-is_empty-clause-store c =
     let gone : pruned_before c.args.cutoff (held b q) rest ≡ rest = sym all_left ∙ ap (λ w. w ++ rest) none in
     let sub : Sub rest (held b q ++ rest) =
     subst (λ (w : List StoredVersion). Sub w (held b q ++ rest)) gone (sub-pruned c.args.cutoff (held b q) rest) in
-    let paged : IsPaged b (take i old ++ drop (i + 1) old) [] =
-    shrunk-at b old i q [] c.requires.store.paged c.requires.within c.index_mut-page.ensures.value sub tt (λ o. tt) in
-    let long = length-removed old i c.requires.within in
-    let count : length c.free.new.pages.items ≡ length (take i old ++ drop (i + 1) old) = ap length (new-pages c) in
-    let more : length c.free.new.pool.items ≡ length c.args.pool.now.items + 1 = c.free.ensures.len in
-    let pages_capacity : deque_capacity c.free.new.pages ≡ deque_capacity c.args.pages.now = c.free.ensures.pages_capacity in
-    let pool_capacity : vec_capacity c.free.new.pool ≡ vec_capacity c.args.pool.now = c.free.ensures.pool_capacity in
-    let pages_room = c.requires.store.room.pages_room in
-    let pool_room = c.requires.store.room.pool_room in
-    record {
-      paged = subst (λ (ps : List Page). IsPaged b ps []) (sym (new-pages c)) paged;
-      empty = c.free.ensures.empty;
-      room = record
-          { pages_room = omega arith; pool_room = omega arith };
-    }
+    store-gone b c.args.pages.now _ c.args.pool.now _ i q c.requires.store c.requires.within c.index_mut-page.ensures.value sub
+    (new-pages c) c.free.ensures.empty c.free.ensures.len c.free.ensures.pages_capacity c.free.ensures.pool_capacity
 
 pub returns-then-is_empty-clause-tail : goal.returns-then-is_empty-clause-tail
 returns-then-is_empty-clause-tail c p e =
@@ -95,10 +82,8 @@ returns-else-is_empty-clause-store c =
     let rest = items_of b (drop (i + 1) old) in
     let head = sym c.first_from-next.ensures.version in
     let all_left = c.prune-dead.ensures.items rest head in
-    let flat : items_of b (r ∷ []) ++ rest ≡ held b r ++ rest = ap (λ w. w ++ rest) (append-nil (held b r)) in
-    let sub : Sub (items_of b (r ∷ []) ++ rest) (held b q ++ rest) =
-    subst (λ (w : List StoredVersion). Sub w (held b q ++ rest)) (sym (flat
-    ∙ all_left)) (sub-pruned c.args.cutoff (held b q) rest) in
+    let sub : Sub (held b r ++ rest) (held b q ++ rest) =
+    subst (λ (w : List StoredVersion). Sub w (held b q ++ rest)) (sym all_left) (sub-pruned c.args.cutoff (held b q) rest) in
     let page = page-at b old i q c.requires.store.paged.pages c.requires.within c.index_mut-page.ensures.value in
     let some : 0 < length (slots_of r) = grind (arith, common_steps) in
     let few = page.few in
@@ -112,19 +97,9 @@ returns-else-is_empty-clause-store c =
       slots = c.prune-dead.ensures.slots;
       first = c.prune-dead.ensures.first;
     } in
-    let paged : IsPaged b (take i old ++ ((r ∷ []) ++ drop (i + 1) old)) [] =
-    shrunk-at b old i q (r ∷ []) c.requires.store.paged c.requires.within c.index_mut-page.ensures.value sub (is_page, tt)
-    (λ o. dues-one b r rest (λ u l. idle-from-next u (held b r) rest (subst InOrder flat o) (c.prune-dead.ensures.idle u rest head l)))
-    in
-    let long = length-set old i r in
-    let pages_room = c.requires.store.room.pages_room in
-    let pool_room = c.requires.store.room.pool_room in
-    record {
-      paged = subst (λ (ps : List Page). IsPaged b ps []) (sym (set-cut old i r c.requires.within)) paged;
-      empty =
-          c.requires.store.empty;
-      room = record { pages_room = omega arith; pool_room = omega arith };
-    }
+    store-kept b c.args.pages.now _ c.args.pool.now i q r c.requires.store c.requires.within c.index_mut-page.ensures.value sub is_page
+    (λ o u l. idle-from-next u (held b r) rest o (c.prune-dead.ensures.idle u rest head l))
+    refl refl
 
 pub returns-else-is_empty-clause-spare : goal.returns-else-is_empty-clause-spare
 returns-else-is_empty-clause-spare c =

@@ -87,6 +87,15 @@ held-read : (c : After-take_next)
 held-read c = ap (λ w. held_in w c.deref_mut.result.now) c.deref.ensures.value
     ∙ ap (held_in c.self.inside.arena.items) c.deref_mut.ensures.value
 
+-- what is left, as the walk's chain and as contracts tell it
+left-kept : (c : After-take_next)
+    → held_in c.deref.result.now c.take_next.new.slots ≡ without_first (part c) (held_in c.deref.result.now c.deref_mut.result.now)
+    → held_in c.self.inside.arena.items (with_items c.self.inside.slots c.take_next.new.slots).items
+    ≡ without_first (is_sought c.args.self.now.sought) c.args.self.now.held
+left-kept c left =
+    ap (held_in c.self.inside.arena.items) (slots_are c) ∙ ap (λ w. held_in w c.take_next.new.slots) (sym c.deref.ensures.value) ∙ left
+    ∙ as-sought c without_first
+
 pub invariant_of-self : goal.invariant_of-self
 invariant_of-self c =
     let a = (goal.at.invariant_of-self c).After-take_next in
@@ -110,9 +119,7 @@ returns-in-None-clause-taken c =
 
 pub returns-in-None-clause-left : goal.returns-in-None-clause-left
 returns-in-None-clause-left c =
-    ap (held_in c.self.inside.arena.items) (slots_are (goal.at.returns-in-None-clause-left c).After-take_next)
-    ∙ ap (λ w. held_in w c.take_next.new.slots) (sym c.deref.ensures.value) ∙ c.in-None.ensures.left
-    ∙ as-sought (goal.at.returns-in-None-clause-left c).After-take_next without_first
+    left-kept (goal.at.returns-in-None-clause-left c).After-take_next c.in-None.ensures.left
 
 pub returns-in-None-clause-sought : goal.returns-in-None-clause-sought
 returns-in-None-clause-sought c =
@@ -124,9 +131,7 @@ returns-in-Some-clause-taken c =
 
 pub returns-in-Some-clause-left : goal.returns-in-Some-clause-left
 returns-in-Some-clause-left c =
-    ap (held_in c.self.inside.arena.items) (slots_are (goal.at.returns-in-Some-clause-left c).After-take_next)
-    ∙ ap (λ w. held_in w c.take_next.new.slots) (sym c.deref.ensures.value) ∙ c.in-Some.ensures.left
-    ∙ as-sought (goal.at.returns-in-Some-clause-left c).After-take_next without_first
+    left-kept (goal.at.returns-in-Some-clause-left c).After-take_next c.in-Some.ensures.left
 
 pub returns-in-Some-clause-sought : goal.returns-in-Some-clause-sought
 returns-in-Some-clause-sought c =

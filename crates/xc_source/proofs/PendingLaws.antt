@@ -10,6 +10,7 @@ use Rattle.std.proofs.Common.{◌<◌, length, ◌⊎◌, inl, inr, ⊎_elim, sy
 use Rattle.std.specs.BTreeSet as set
 use Rattle.std.proofs.lemmas.Option.{same_Some, slice_get_past}
 use Rattle.xc_source.specs.Machine.{begun}
+use Rattle.xc_source.specs.Universe.{places_in}
 use Rattle.xc_source.proofs.HolderLaws.{numbered-next, numbered-pos}
 use Rattle.std.specs.List.{list_any}
 use Rattle.std.specs.BTreeMap.{is_at}
@@ -46,6 +47,17 @@ pending-is m (p ∷ ps) = ap (λ xs. pending_of m p.0 p.1 ++ xs) (pending-is m p
 pub pending_whole : (m : Machine) → pending_by m (enumerate_from 1 m.txns) ≡ pending m
 unfolding pending
 pending_whole m = pending-is m (enumerate_from 1 m.txns)
+
+-- what waits of a committed transaction, by the open tablets
+pub places_pending : (m : Machine) (n : ℕ) (t : Transaction) → is_some (commit_of t.stage) ≡ true
+    → map (λ p. (n, p.0)) (places_in m t) ≡ pending_of m n t
+unfolding tablets_of
+places_pending m n t e =
+    fused (places_in m t) ∙ ap (λ b. if b then map {B = ℕ × ℕ} (λ id. (n, id)) (map (λ p. p.0) (places_in m t)) else []) (sym e)
+  where
+    fused : (ps : List (ℕ × Tablet)) → map {B = ℕ × ℕ} (λ p. (n, p.0)) ps ≡ map (λ id. (n, id)) (map (λ p. p.0) ps)
+    fused [] = refl
+    fused (p ∷ ps) = ap (λ qs. (n, p.0) ∷ qs) (fused ps)
 
 -- ---- found by the numbers of those of which something waits
 

@@ -1,7 +1,7 @@
 -- What the calls of a workload leave, as commands.
 use Rattle.std.proofs.Common.{◌≡◌, ℕ, zero, suc, ◌+◌, ◌<◌, ◌^◌, true, ⊎_elim, List, [], ◌∷◌, ◌++◌, length, Option, Some, None}
 use Rattle.std.proofs.Common.{refl, sym, ◌∙◌, ap, subst, arith, decimal, lit<, drop-cons, add-one}
-use Rattle.std.specs.Prelude.{Ok, Bool, nat_le, ◌≤◌, ◌-◌, ◌%◌, ◌&&◌, slice_get, get_or, option_map, if◌then◌else◌, map, drop}
+use Rattle.std.specs.Prelude.{Ok, Bool, nat_le, ◌≤◌, ◌-◌, ◌%◌, ◌&&◌, slice_get, get_or, option_map, if◌then◌else◌, map, take, drop}
 use Rattle.std.specs.Int.{w64, from_le_bytes, to_le_bytes}
 use Rattle.std.specs.Option.{option_map_or}
 use Rattle.std.proofs.lemmas.Option.{slice_get-get_or, same_Some}
@@ -46,6 +46,17 @@ pub is_key_of : (n : ℕ) → n < 2 ^ 64 → is_key (key_of n) ≡ true
 is_key_of n h =
     let few : length (decimal n) ≤ 20 = length-decimal-le 20 n (lit< tt) (omega arith) h in
     fits 1 32 (suc (length (decimal n))) (are_bytes (decimal n)) (omega arith) (omega arith) (bytes-decimal n h)
+
+-- a `k` and then the digits, in front of what else the memory holds
+pub key_front : (n : ℕ) (ds xs rest : List ℕ) → ds ≡ decimal n → xs ≡ ds → take (1 + length ds) (107 ∷ (xs ++ rest)) ≡ key_of n
+key_front n ds xs rest d e =
+    let one : 1 + length ds ≡ suc (length ds) = omega arith in
+    ap (λ ys. take (1 + length ds) (107 ∷ (ys ++ rest))) e ∙ ap (λ k. take k (107 ∷ (ds ++ rest))) one
+    ∙ ap (λ ys. 107 ∷ ys) (go ds) ∙ ap (λ ys. 107 ∷ ys) d
+  where
+    go : (ys : List ℕ) → take (length ys) (ys ++ rest) ≡ ys
+    go [] = refl
+    go (y ∷ ys) = ap (λ zs. y ∷ zs) (go ys)
 
 -- ---- answers
 

@@ -1,6 +1,8 @@
 -- What the source universe keeps beside the machine, and what holds of it.
 use Rattle.xc_base.specs.declared.limits.TheConstants.{MOST_RECORDS, MOST_TABLETS, LAST_SUB}
 use Rattle.std.specs.Prelude.{◌≡◌, ◌≤◌, ◌<◌, ◌+◌, ◌-◌, ◌++◌, ◌∷◌, [], ℕ, List, Some, length, sum_by, take, slice_get, slice_set, fold}
+use Rattle.std.specs.Prelude.{◌&&◌, filter}
+use Rattle.std.specs.List.{enumerate_from}
 use Rattle.std.specs.Option.{option_map_or}
 use Rattle.xc_record.specs.declared.record.Kind.{Kind}
 use Rattle.xc_record.specs.declared.record.Kind.TheVariants.{Split, Abort}
@@ -10,7 +12,8 @@ use Rattle.xc_record.specs.declared.record.Tablet.{Tablet}
 use Rattle.xc_record.specs.Grown.{with_record}
 use Rattle.xc_source.specs.declared.transaction.Provisional.{Provisional}
 use Rattle.xc_source.specs.declared.transaction.Stage.{Stage}
-use Rattle.xc_source.specs.Machine.{Transaction, records_in, commit_of, empty_tablet}
+use Rattle.xc_source.specs.Machine.{Machine, Transaction, records_in, commit_of, empty_tablet, is_open}
+use Rattle.xc_source.specs.Waiting.{waits_on}
 use Rattle.xc_source.specs.Holders.{numbered, commit_at}
 
 -- a transaction with a write logged it before its commit, so that it commits at 2 at the earliest
@@ -21,6 +24,10 @@ pub record IsTransaction (writes : List Provisional) (current : ℕ) (stage : St
 -- how many writes there are
 abbrev pub writes_in : List Transaction → ℕ
 writes_in txns = sum_by (λ t. length t.writes) txns
+
+-- the open tablets on which something of the transaction waits, each with its number
+abbrev pub places_in : Machine → Transaction → List (ℕ × Tablet)
+places_in m t = filter (λ p. is_open p.1 && waits_on p.1.header t) (enumerate_from 0 m.tablets)
 
 -- the clock and the tablets of a machine
 pub record Logged : Type 0 where

@@ -34,9 +34,11 @@ pub(crate) fn push_commit(
     }
 }
 
-// Lists the transaction's commit, unless it wrote nothing. After an error all is as before.
+// Lists the transaction's commit, unless it wrote nothing. Its operations are written into the room first. After an
+// error all is as before.
 pub(crate) fn list(
     alloc: Global,
+    room: &mut Ops,
     commits: &mut Vec<Commit>,
     time: u64,
     txn: u32,
@@ -48,7 +50,7 @@ pub(crate) fn list(
     if t.is_empty() {
         return Ok(());
     }
-    let ops = t.kept_ops(alloc)?;
+    let ops = t.kept_ops(alloc, room)?;
     push_commit(commits, time, txn, ops)
 }
 

@@ -17,6 +17,9 @@ use std::marker::Model;
 use xc_base::{Key, LAST_SUB};
 use xc_record::{Header, HybridTime, Op, Ops, Subs, hash};
 
+// So many writes of a transaction get room one at a time, since most transactions have few.
+const FEW_WRITES: usize = 4;
+
 /// How far a transaction came.
 #[derive(Clone, Copy, PartialEq, Eq, Debug)]
 pub enum Stage {
@@ -46,6 +49,16 @@ fn take_write(header: &Header, write: &mut Provisional)
     if header.holds(hash(&write.op.key)) {
         write.waits = false;
     }
+}
+
+// Makes room for one write more where there are few.
+fn make_room(writes: &mut Vec<Provisional>) -> Result<(), AllocError>
+    ensures { writes.new.items ≡ writes.old.items }
+{
+    if writes.len() < FEW_WRITES {
+        return writes.reserve_exact(1);
+    }
+    Ok(())
 }
 
 // A begun transaction. Contracts see it as the definition's.
@@ -175,6 +188,7 @@ impl Transaction {
         ensures ok { OnOk result (self.new ≡ written op self.old) }
         ensures err { OnErr result (self.new ≡ self.old) }
     {
+        make_room(&mut self.writes)?;
         let sub = self.current;
         let Op { key, value } = op;
         let write = Provisional {
@@ -236,17 +250,18 @@ impl Transaction {
         }
     }
 
-    // Its operations that weren't rolled back, in the order written and in memory of their exact size.
-    pub(crate) fn kept_ops(&self, alloc: Global) -> Result<Ops, AllocError>
+    // Its operations that weren't rolled back, in the order written and in memory of their exact size. They are written
+    // into the room first.
+    pub(crate) fn kept_ops(&self, alloc: Global, room: &mut Ops) -> Result<Ops, AllocError>
         ensures { IfOk result (λ ops. ops ≡ kept_ops self.now) }
     {
-        let mut ops = Ops::new(alloc);
+        room.clear();
         for write in &self.writes {
             if !self.undone.contains(write.sub) {
-                ops.push(write.op)?;
+                room.push(write.op)?;
             }
         }
-        ops.clone_in(alloc)
+        room.clone_in(alloc)
     }
 
     // The subtransactions that were rolled back.

@@ -1,5 +1,5 @@
 // The source universe.
-ghost use Rattle.std.specs.Prelude.{◌≡◌, ◌≤◌, ◌<◌, ◌+◌, ◌^◌, true, None, IfOk, OnOk, OnErr, length, ◌∷◌, ◌++◌, []};
+ghost use Rattle.std.specs.Prelude.{◌≡◌, ◌≤◌, ◌<◌, ◌+◌, ◌^◌, true, None, IfOk, OnOk, OnErr, length, ◌∷◌, ◌++◌, [], map};
 ghost use Rattle.xc_time.specs.Times.{last_time, IsTime};
 ghost use Rattle.std.specs.Option.{option_map};
 ghost use Rattle.std.specs.Prelude.{ℕ, List};
@@ -7,6 +7,7 @@ ghost use Rattle.xc_source.specs.Machine.{are_roots, start as new_machine, logs_
 ghost use Rattle.std.specs.List.{enumerate_from};
 ghost use Rattle.xc_source.specs.Waiting.{pending_at, pending_by, holder, tablets_of, open_tablets, pending};
 ghost use Rattle.xc_source.specs.Waiting.{pending_of};
+ghost use Rattle.xc_source.specs.Universe.{places_in};
 ghost use Rattle.xc_source.specs.Calls.{Answers, begin, tick, not_live, no_room, not_open, savepoint, roll_back};
 ghost use Rattle.xc_source.specs.Calls.{savepoint_refusal, roll_back_refusal, put, put_refusal, write, write_refusal};
 ghost use Rattle.xc_source.specs.Calls.{put_after, write_after, to_transaction};
@@ -39,6 +40,8 @@ pub struct SourceUniverse {
     journal: Journal,
     commits: Vec<Commit>,
     txns: Transactions,
+    // where operations are written before they go into memory of their exact size
+    room: Ops,
 }
 
 impl Model for SourceUniverse {
@@ -77,13 +80,13 @@ fn push_number(numbers: &mut Vec<u32>, number: u32) -> Result<(), AllocError>
     }
 }
 
-// The operation alone, in memory of its exact size.
-fn one_op(alloc: Global, op: Op) -> Result<Ops, AllocError>
+// The operation alone, in memory of its exact size. It is written into the room first.
+fn one_op(alloc: Global, room: &mut Ops, op: Op) -> Result<Ops, AllocError>
     ensures { IfOk result (λ ops. ops ≡ op ∷ []) }
 {
-    let mut ops = Ops::new(alloc);
-    ops.push(op)?;
-    ops.clone_in(alloc)
+    room.clear();
+    room.push(op)?;
+    room.clone_in(alloc)
 }
 
 impl SourceUniverse {
@@ -100,6 +103,7 @@ impl SourceUniverse {
             journal: Journal::new(alloc, roots, start)?,
             commits: Vec::new(alloc),
             txns: Transactions::new(alloc),
+            room: Ops::new(alloc),
         })
     }
 
@@ -294,7 +298,7 @@ impl SourceUniverse {
         ensures err { OnErr result (self.new ≡ self.old) }
     {
         let id = self.journal.owner(&op.key);
-        let ops = one_op(self.alloc, op)?;
+        let ops = one_op(self.alloc, &mut self.room, op)?;
         let listed = ops.clone_in(self.alloc)?;
         let time = self.journal.now() + 1;
         push_commit(&mut self.commits, time, 0, listed)?;
@@ -340,7 +344,7 @@ impl SourceUniverse {
         ensures err { OnErr result (self.new ≡ self.old) }
     {
         let id = self.journal.owner(&op.key);
-        let ops = one_op(self.alloc, op)?;
+        let ops = one_op(self.alloc, &mut self.room, op)?;
         let sub = self.txns.at(txn).current();
         let time = self.journal.log(id, Kind::Intent { txn, sub, ops })?;
         if self.txns.write(txn, op).is_err() {
@@ -383,7 +387,14 @@ impl SourceUniverse {
     {
         let time = self.journal.now() + 1;
         let commit = HybridTime::new(time).unwrap();
-        list(self.alloc, &mut self.commits, time, txn, self.txns.at(txn))?;
+        list(
+            self.alloc,
+            &mut self.room,
+            &mut self.commits,
+            time,
+            txn,
+            self.txns.at(txn),
+        )?;
         if self.txns.commit(txn, commit).is_err() {
             unlist(&mut self.commits, self.txns.at(txn));
             return Err(AllocError);
@@ -563,6 +574,23 @@ impl SourceUniverse {
         Ok(ids)
     }
 
+    // The transaction with each open tablet on which something of it waits, behind the pairs.
+    fn add_tablets(
+        &self,
+        txn: u32,
+        t: &Transaction,
+        pairs: &mut Vec<Pair>,
+    ) -> Result<(), AllocError>
+        ensures { OnOk result (pairs.new.items ≡ pairs.old.items ++ map (λ p. (txn, p.0)) (places_in self.now t.now)) }
+    {
+        for (id, tablet) in self.journal.tablets().iter().enumerate() {
+            if is_open(tablet) && t.waits_on(&tablet.header) {
+                push_pair(pairs, txn, id as u32)?;
+            }
+        }
+        Ok(())
+    }
+
     // What the transaction has waiting, if it is committed, behind the pairs.
     fn add_pending(
         &self,
@@ -575,9 +603,7 @@ impl SourceUniverse {
         if t.commit_time().is_none() {
             return Ok(());
         }
-        for id in &self.tablets_of(t)? {
-            push_pair(pairs, txn, *id)?;
-        }
+        self.add_tablets(txn, t, pairs)?;
         Ok(())
     }
 

@@ -10,10 +10,11 @@ ghost use Rattle.xc_source.specs.declared.command.SourceCommand.TheVariants as c
 use crate::fail::SourceFail;
 use crate::tablets::is_open;
 use crate::universe::SourceUniverse;
+use itoa::Buffer;
 use rand_core::SeedableRng;
 use rand_core::utils::NextWord;
 use rand_xoshiro::SplitMix64;
-use std::alloc::{AllocError, Global};
+use std::alloc::Global;
 use xc_base::{Key, MOST_TABLETS, NoMemory, Value};
 use xc_record::{Header, Op, Tablet};
 
@@ -22,6 +23,9 @@ pub const MOST_STEPS: u64 = 100_000;
 
 // How many keys there are, and how many values.
 const NAMES: u64 = 1000;
+
+// The most bytes of a key: `k` and the digits of a number.
+const NAME_BYTES: usize = 21;
 
 // No tablet is split where there are so many.
 const ENOUGH_TABLETS: usize = 16;
@@ -42,30 +46,33 @@ fn root(id: u32, lo: u16, hi: u16) -> Header
 
 // The key of a number is `k` and its digits.
 #[tactic(auto, using(crate::proofs::WorkloadLaws::is_key_of))]
-fn key_of(alloc: Global, number: u64) -> Result<Key, AllocError>
-    ensures { IfOk result (λ key. key ≡ key_of number) }
+fn key_of(number: u64) -> Key
+    ensures { result ≡ key_of number }
 {
-    let name = format!(in alloc; "k{number}")?;
-    Ok(Key::of(name.as_bytes()))
+    let mut buffer = Buffer::new();
+    let digits = buffer.format(number).as_bytes();
+    let mut name = [b'k'; NAME_BYTES];
+    name[1..1 + digits.len()].copy_from_slice(digits);
+    Key::of(&name[..1 + digits.len()])
 }
 
 // The value of a number is its digits.
 #[tactic(auto, using(crate::proofs::WorkloadLaws::is_value_of))]
-fn value_of(alloc: Global, number: u64) -> Result<Value, AllocError>
-    ensures { IfOk result (λ value. value ≡ decimal number) }
+fn value_of(number: u64) -> Value
+    ensures { result ≡ decimal number }
 {
-    let digits = format!(in alloc; "{number}")?;
-    Ok(Value::of(digits.as_bytes()))
+    let mut buffer = Buffer::new();
+    Value::of(buffer.format(number).as_bytes())
 }
 
 // ---- what a word does
 
 // The key is set to the value.
-fn set(u: &mut SourceUniverse, alloc: Global, key: u64, value: u64) -> Result<(), SourceFail>
+fn set(u: &mut SourceUniverse, key: u64, value: u64) -> Result<(), SourceFail>
     ensures { OnOk result (u.new ≡ run (command.Put (set_op key value) ∷ []) u.old) }
 {
-    let key = key_of(alloc, key)?;
-    let value = value_of(alloc, value)?;
+    let key = key_of(key);
+    let value = value_of(value);
     u.put(Op {
         key,
         value: Some(value),
@@ -74,27 +81,21 @@ fn set(u: &mut SourceUniverse, alloc: Global, key: u64, value: u64) -> Result<()
 }
 
 // The key is removed.
-fn remove(u: &mut SourceUniverse, alloc: Global, key: u64) -> Result<(), SourceFail>
+fn remove(u: &mut SourceUniverse, key: u64) -> Result<(), SourceFail>
     ensures { OnOk result (u.new ≡ run (command.Put (remove_op key) ∷ []) u.old) }
 {
-    let key = key_of(alloc, key)?;
+    let key = key_of(key);
     u.put(Op { key, value: None })?;
     Ok(())
 }
 
 // A transaction sets both keys to the value, and commits.
-fn commit(
-    u: &mut SourceUniverse,
-    alloc: Global,
-    one: u64,
-    two: u64,
-    value: u64,
-) -> Result<(), SourceFail>
+fn commit(u: &mut SourceUniverse, one: u64, two: u64, value: u64) -> Result<(), SourceFail>
     ensures { OnOk result (u.new ≡ run (commit_commands (set_op one value) (set_op two value) u.old) u.old) }
 {
-    let first = key_of(alloc, one)?;
-    let second = key_of(alloc, two)?;
-    let value = value_of(alloc, value)?;
+    let first = key_of(one);
+    let second = key_of(two);
+    let value = value_of(value);
     let txn = u.begin()?;
     u.write(
         txn,
@@ -115,11 +116,11 @@ fn commit(
 }
 
 // A transaction sets the key to the value, and aborts.
-fn abort(u: &mut SourceUniverse, alloc: Global, key: u64, value: u64) -> Result<(), SourceFail>
+fn abort(u: &mut SourceUniverse, key: u64, value: u64) -> Result<(), SourceFail>
     ensures { OnOk result (u.new ≡ run (abort_commands (set_op key value) u.old) u.old) }
 {
-    let key = key_of(alloc, key)?;
-    let value = value_of(alloc, value)?;
+    let key = key_of(key);
+    let value = value_of(value);
     let txn = u.begin()?;
     u.write(
         txn,
@@ -157,19 +158,19 @@ fn log_safe(u: &mut SourceUniverse, position: u64) -> Result<(), SourceFail>
 }
 
 #[tactic(auto, unfolding(crate::specs::Workload::word_commands))]
-fn do_word(u: &mut SourceUniverse, alloc: Global, word: u64) -> Result<(), SourceFail>
+fn do_word(u: &mut SourceUniverse, word: u64) -> Result<(), SourceFail>
     ensures { OnOk result (u.new ≡ run (word_commands word u.old) u.old) }
 {
     let a = word / 16 % NAMES;
     let b = word / 16_000 % NAMES;
     let value = word / 16_000_000 % NAMES;
     match word % 16 {
-        0..=5 => set(u, alloc, a, value),
-        6 => remove(u, alloc, a),
-        7..=12 => commit(u, alloc, a, b, value),
+        0..=5 => set(u, a, value),
+        6 => remove(u, a),
+        7..=12 => commit(u, a, b, value),
         13 => apply_pending(u),
         14 => log_safe(u, a),
-        _ => abort(u, alloc, a, value),
+        _ => abort(u, a, value),
     }
 }
 
@@ -236,21 +237,21 @@ fn split(u: &mut SourceUniverse, step: u64) -> Result<(), SourceFail>
 // ---- all steps
 
 #[tactic(auto, using(crate::proofs::WorkloadLaws::run_append))]
-fn do_step(u: &mut SourceUniverse, alloc: Global, step: u64, word: u64) -> Result<(), SourceFail>
+fn do_step(u: &mut SourceUniverse, step: u64, word: u64) -> Result<(), SourceFail>
     ensures { OnOk result (u.new ≡ run (step_commands step word u.old) u.old) }
 {
     split(u, step)?;
-    do_word(u, alloc, word)
+    do_word(u, word)
 }
 
 // The steps from 1 to `size`, and a finish.
-fn do_steps(u: &mut SourceUniverse, alloc: Global, number: u64, size: u64) -> Result<(), SourceFail>
+fn do_steps(u: &mut SourceUniverse, number: u64, size: u64) -> Result<(), SourceFail>
     requires { size ≤ MOST_STEPS }
     ensures { OnOk result (u.new ≡ run (commands_from 1 (words number size) u.old) u.old) }
 {
     let mut rng = SplitMix64::from_seed(number.to_le_bytes());
     for step in 1..size + 1 {
-        do_step(u, alloc, step, rng.next_word())?;
+        do_step(u, step, rng.next_word())?;
     }
     u.finish()?;
     Ok(())
@@ -275,7 +276,7 @@ pub fn generate(alloc: Global, number: u64, size: u64) -> Result<SourceUniverse,
         root(3, 49_152, 65_535),
     ];
     let mut u = SourceUniverse::new(alloc, &roots, 0)?;
-    match do_steps(&mut u, alloc, number, size) {
+    match do_steps(&mut u, number, size) {
         Ok(()) => Ok(u),
         Err(_) => Err(NoMemory),
     }

@@ -3,6 +3,6 @@ use Rattle.xc_source.proofs.workload.abort.Goals as goal
 
 pub returns : goal.returns
 returns c =
-    abort_run c.args.key c.args.value c.in_ok-key.key c.in_ok-value.value c.args.u.now c.begin.new.self c.write.new.self
-    c.abort.new.self c.in_ok-txn.txn _ c.in_ok-key.ensures c.in_ok-value.ensures c.in_ok-txn.ensures c.in_ok-write.ensures
+    abort_run c.args.key c.args.value c.key_of-key.result c.value_of-value.result c.args.u.now c.begin.new.self c.write.new.self
+    c.abort.new.self c.in_ok-txn.txn _ c.key_of-key.ensures c.value_of-value.ensures c.in_ok-txn.ensures c.in_ok-write.ensures
     c.in_ok-abort.ensures

@@ -8,6 +8,7 @@ use Rattle.std.specs.Prelude.{◌≡◌, ℕ, ◌-◌, ◌==◌, ◌&&◌, Bool,
 use Rattle.std.specs.Prelude.{bytes_eq, is_some, IfSome, ◌<◌, ◌≤◌, ◌+◌, nat_le, length, ◌^◌}
 use Rattle.std.specs.List.{list_any}
 use Rattle.std.specs.Option.{option_map_or}
+use Rattle.xc_source.specs.declared.cursor.Cursor.{Cursor}
 use Rattle.xc_source.specs.Machine.{Transaction, is_live, commit_of}
 use Rattle.xc_source.specs.Waiting.{has_write, commit_on}
 use Rattle.std.specs.Prelude.{option_map, min, map, filter_map}
@@ -54,11 +55,28 @@ bound_at header o = option_map_or (λ t. option_map (λ commit. commit - 1) (com
 abbrev pub least_bound : Header → List Transaction → ℕ → ℕ
 least_bound header ts x = min x (least (map (λ commit. commit - 1) (filter_map (commit_on header) ts)))
 
+-- ---- where to look on for a commit that waits on a tablet
+
+-- what waits on the tablet with this header committed at this time or later; and this is no later than a time above all commits
+pub record IsEarliest (header : Header) (earliest : ℕ) (ts : List Transaction) : Type 0 where
+  pub least : (n c : ℕ) (t : Transaction) → numbered ts n ≡ Some t → commit_on header t ≡ Some c → earliest ≤ c
+  pub most : (x : ℕ) → ((n c : ℕ) → commit_at (numbered ts n) ≡ Some c → c < x) → earliest ≤ x
+
+-- k tells of a tablet, by the first hash of its range, where to look on
+abbrev pub AreCursors : (ℕ → Option Cursor) → List Transaction → Type 0
+AreCursors k ts = (header : Header) (cursor : Cursor) → k header.lo ≡ Some cursor → cursor.hi ≡ header.hi
+    → IsEarliest header cursor.earliest ts
+
+-- the earliest commit that may wait on the tablet with this header, by the cursor of its first hash
+abbrev pub earliest_at : Header → Option Cursor → ℕ
+earliest_at header o = option_map_or (λ cursor. if cursor.hi == header.hi then cursor.earliest else 0) o 0
+
 -- the begun transactions, and what is kept beside them
-pub record AreTransactions (f : List ℕ → Option ℕ) (w : ℕ → Option ℕ) (ts : List Transaction) : Type 0 where
+pub record AreTransactions (f : List ℕ → Option ℕ) (w : ℕ → Option ℕ) (k : ℕ → Option Cursor) (ts : List Transaction) : Type 0 where
   pub few : length ts < 2 ^ 32
   pub holders : AreHolders f ts
   pub waiting : AreWaiting w ts
+  pub cursors : AreCursors k ts
 
 -- ---- what a call asks of a transaction
 

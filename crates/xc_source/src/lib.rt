@@ -3,6 +3,7 @@
 
 mod command;
 mod commit;
+mod cursor;
 mod fail;
 mod finish;
 mod journal;

@@ -12,12 +12,15 @@ ghost use Rattle.xc_source.specs.Holders.{sub_within, other_than, commit_at, som
 ghost use Rattle.std.specs.Prelude.{IfSome, min};
 ghost use Rattle.std.specs.Option.{option_map_or};
 ghost use Rattle.std.specs.BTreeMap.{get, values, is_at, IsOrdered};
+ghost use Rattle.std.specs.BTreeMap.Range.{entries_between};
+ghost use Rattle.std.specs.declared.ops.Bound.TheVariants.{Included, Unbounded};
 ghost use Rattle.std.specs.BTreeSet.{contains, IsOrdered as IsRising};
 ghost use Rattle.std.specs.List.{list_any};
 ghost use Rattle.std.specs.Prelude.{is_some};
 ghost use Rattle.xc_record.specs.Lists.{first_some};
 ghost use Rattle.std.specs.Ordering.{nat_cmp};
 
+use crate::cursor::{Cursor, earliest_on, next_earliest, set_earliest};
 use crate::transaction::{Stage, Transaction};
 use std::alloc::{AllocError, Global};
 use std::collections::{BTreeMap, BTreeSet};
@@ -34,6 +37,8 @@ pub(crate) struct Transactions {
     holders: BTreeMap<Key, u32>,
     // the committed transactions of which something waits, by commit
     waiting: BTreeMap<u64, u32>,
+    // for tablets, by the first hash of the range, where to look on for a commit that waits there
+    cursors: BTreeMap<u16, Cursor>,
 }
 
 impl Model for Transactions {
@@ -49,7 +54,7 @@ impl Model for Transactions {
     ghost view = { λ t. t.items.items };
 
     ghost invariant = { λ t. AreTransactions (tree.get (slice_cmp nat_cmp) t.holders)
-        (tree.get nat_cmp t.waiting) t.items.items };
+        (tree.get nat_cmp t.waiting) (tree.get nat_cmp t.cursors) t.items.items };
 }
 
 // Lists the transaction by its commit, unless nothing of it waits. After an error all is as before.
@@ -107,13 +112,20 @@ fn bound(items: &[Transaction], txn: u32, header: &Header) -> Option<u64>
     }
 }
 
-// The same of the first transaction, in order of commit, that waits on the tablet with this header.
-fn first_bound(waiting: &BTreeMap<u64, u32>, items: &[Transaction], header: &Header) -> Option<u64>
-    ensures value { result ≡ first_some (λ n. bound_at header.now (numbered items.now n)) (values waiting.now) }
+// The same of the first transaction, in order of commit, that committed at `earliest` or later and waits on the tablet
+// with this header.
+fn first_bound(
+    waiting: &BTreeMap<u64, u32>,
+    items: &[Transaction],
+    header: &Header,
+    earliest: u64,
+) -> Option<u64>
+    ensures value { result ≡ first_some (λ p. bound_at header.now (numbered items.now p.1))
+        (entries_between nat_cmp (Included earliest) Unbounded waiting.now.entries) }
     ensures ordered { IsOrdered nat_cmp waiting.now }
     ensures time { IfSome result (λ value. 1 ≤ value) }
 {
-    for txn in waiting.values() {
+    for (_, txn) in waiting.range(earliest..) {
         if let Some(bound) = bound(items, *txn, header) {
             return Some(bound);
         }
@@ -146,6 +158,7 @@ impl Transactions {
             items: Vec::new(alloc),
             holders: BTreeMap::new(alloc),
             waiting: BTreeMap::new(alloc),
+            cursors: BTreeMap::new(alloc),
         }
     }
 
@@ -195,13 +208,18 @@ impl Transactions {
     }
 
     // The greatest safe value at which no committed transaction that waits on the tablet with this header shows, if one
-    // waits there.
-    pub(crate) fn first_bound(&self, header: &Header) -> Option<u64>
+    // waits there. The next search on the tablet begins where this one ends.
+    pub(crate) fn first_bound(&mut self, header: &Header) -> Option<u64>
         ensures value { (x : ℕ) → x ≤ 2 ^ 62 → option_map_or (λ bound. min x bound) result x
-            ≡ least_bound header.now self.now x }
+            ≡ least_bound header.now self.old x }
         ensures time { IfSome result (λ value. 1 ≤ value) }
+        ensures same { self.new ≡ self.old }
     {
-        first_bound(&self.waiting, self.items.as_slice(), header)
+        let earliest = earliest_on(&self.cursors, header);
+        let bound = first_bound(&self.waiting, self.items.as_slice(), header, earliest);
+        let next = next_earliest(&self.waiting, bound);
+        set_earliest(&mut self.cursors, header, next);
+        bound
     }
 
     // The numbers of the committed transactions of which something waits, rising.

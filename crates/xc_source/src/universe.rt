@@ -463,10 +463,11 @@ impl SourceUniverse {
 
     // The greatest time at which no committed transaction that waits on the tablet shows, up to the next log time.
     #[tactic(auto, unfolding(crate::specs::Waiting::commits_on))]
-    fn safe_value(&self, header: &Header) -> u64
-        requires { self.now.time < last_time }
-        ensures value { result ≡ safe_on self.now header.now }
+    fn safe_value(&mut self, header: &Header) -> u64
+        requires { self.old.time < last_time }
+        ensures value { result ≡ safe_on self.old header.now }
         ensures time { IsTime result }
+        ensures same { self.new ≡ self.old }
     {
         let next = self.journal.now() + 1;
         match self.txns.first_bound(header) {

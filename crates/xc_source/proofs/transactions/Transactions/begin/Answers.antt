@@ -9,5 +9,5 @@ use Rattle.xc_source.proofs.transactions.Transactions.begin.Goals as goal
 pub invariant_of-self-2 : goal.invariant_of-self-2
 invariant_of-self-2 c =
     book-begun (tree.get (slice_cmp nat_cmp) c.self.inside.holders)
-    (tree.get nat_cmp c.self.inside.waiting) c.self.inside.items.items c.push.new.self.items
+    (tree.get nat_cmp c.self.inside.waiting) (tree.get nat_cmp c.self.inside.cursors) c.self.inside.items.items c.push.new.self.items
     (grind (arith, common_steps)) (grind (arith, common_steps)) c.self.invariant

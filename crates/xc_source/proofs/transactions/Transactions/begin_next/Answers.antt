@@ -16,8 +16,9 @@ invariant_of-self c =
     let num : numbered c.self.inside.items.items c.args.txn ≡ Some c.index_mut.result.now =
     numbered-get c.self.inside.items.items c.args.txn c.index_mut.result.now one within c.index_mut.ensures.value in
     book-kept (tree.get (slice_cmp nat_cmp) c.self.inside.holders)
-    (tree.get nat_cmp c.self.inside.waiting) next_begun c.args.txn c.self.inside.items.items c.index_mut.result.now c.begin_next.new.self
-    num c.begin_next.ensures.next (λ key. refl) refl (λ k q a. a) c.self.invariant
+    (tree.get nat_cmp c.self.inside.waiting) (tree.get nat_cmp c.self.inside.cursors)
+    next_begun c.args.txn c.self.inside.items.items c.index_mut.result.now c.begin_next.new.self
+    num c.begin_next.ensures.next (λ key. refl) refl (λ k q a. a) (λ header k q. q) c.self.invariant
 
 pub returns-clause-next : goal.returns-clause-next
 returns-clause-next c =

@@ -30,7 +30,7 @@ invariant_of-self-2 c =
     c.get.ensures.value in
     book-committed (tree.get (slice_cmp nat_cmp) c.self.inside.holders) (tree.get (slice_cmp nat_cmp) c.free.new.holders)
     (tree.get nat_cmp c.self.inside.waiting)
-    (tree.get nat_cmp c.list_waiting.new.waiting) c.args.commit c.args.txn c.self.inside.items.items
+    (tree.get nat_cmp c.list_waiting.new.waiting) (tree.get nat_cmp c.self.inside.cursors) c.args.commit c.args.txn c.self.inside.items.items
     c.index_mut-t.result.now c.set_committed.new.self num c.set_committed.ensures
     (test-at (λ t. is_live t.stage) c.self.inside.items.items c.args.txn c.index_mut-t.result.now
     (subst (λ (ts : List Transaction). live_at (numbered ts c.args.txn) ≡ true) (sym c.self.view_is) c.requires.live) num)
@@ -40,7 +40,8 @@ invariant_of-self-2 c =
 pub invariant_of-self : goal.invariant_of-self
 invariant_of-self c =
     subst (λ es. AreTransactions (tree.get (slice_cmp nat_cmp) c.self.inside.holders)
-    (λ q. lookup (tree.is_at (nat_cmp q)) es) c.self.inside.items.items)
+    (λ q. lookup (tree.is_at (nat_cmp q)) es)
+    (tree.get nat_cmp c.self.inside.cursors) c.self.inside.items.items)
     (sym c.in_err-list_waiting.ensures.err) c.self.invariant
 
 pub returns-clause-ok : goal.returns-clause-ok

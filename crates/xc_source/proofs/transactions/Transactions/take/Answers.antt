@@ -17,7 +17,8 @@ invariant_of-self c =
     let num : numbered c.self.inside.items.items c.args.txn ≡ Some c.index_mut-t.result.now =
     numbered-get c.self.inside.items.items c.args.txn c.index_mut-t.result.now one within c.index_mut-t.ensures.value in
     book-taken (tree.get (slice_cmp nat_cmp) c.self.inside.holders) (tree.get nat_cmp c.self.inside.waiting)
-    (tree.get nat_cmp c.unlist_waiting.new.waiting) c.args.header.now c.args.txn c.self.inside.items.items
+    (tree.get nat_cmp c.unlist_waiting.new.waiting) (tree.get nat_cmp c.self.inside.cursors)
+    c.args.header.now c.args.txn c.self.inside.items.items
     c.index_mut-t.result.now c.take.new.self num c.take.ensures
     (test-at (λ t. is_some (commit_of t.stage)) c.self.inside.items.items c.args.txn c.index_mut-t.result.now
     (subst (λ (ts : List Transaction). committed_at (numbered ts c.args.txn) ≡ true) (sym c.self.view_is) c.requires.committed) num)

@@ -565,7 +565,7 @@ waiting-begun w ts h = record {
 
 -- ---- where to look on
 
--- the transactions where the cursors hold still
+-- where each time to look on from stays one, the cursors do
 cursors-from : (k : ℕ → Option Cursor) (ts us : List Transaction)
     → ((header : Header) (earliest : ℕ) → IsEarliest header earliest ts → IsEarliest header earliest us)
     → AreCursors k ts → AreCursors k us
@@ -636,7 +636,8 @@ book-set g w k f n ts t u e is few h a b =
     }
 
 pub book-kept : (g : List ℕ → Option ℕ) (w : ℕ → Option ℕ) (k : ℕ → Option Cursor) (f : Transaction → Transaction) (n : ℕ)
-    (ts : List Transaction) (t u : Transaction) → numbered ts n ≡ Some t → u ≡ f t → ((key : List ℕ) → has_write key (f t) ≡ has_write key t)
+    (ts : List Transaction) (t u : Transaction) → numbered ts n ≡ Some t → u ≡ f t
+    → ((key : List ℕ) → has_write key (f t) ≡ has_write key t)
     → commit_of (f t).stage ≡ commit_of t.stage
     → ((c : ℕ) → commit_of t.stage ≡ Some c → some_waits (f t) ≡ true → some_waits t ≡ true)
     → ((header : Header) (c : ℕ) → commit_on header (f t) ≡ Some c → commit_on header t ≡ Some c)
@@ -726,7 +727,8 @@ some-taken header t e = go t.writes e
 taken-on : (header other : Header) (t : Transaction) (c : ℕ) → commit_on other (taken header t) ≡ Some c → commit_on other t ≡ Some c
 taken-on header other t c e = go (waits_on other (taken header t)) refl e
   where
-    still : (ws : List Provisional) → list_any (is_waiting other) (map (taken_write header) ws) ≡ true → list_any (is_waiting other) ws ≡ true
+    still : (ws : List Provisional) → list_any (is_waiting other) (map (taken_write header) ws) ≡ true
+        → list_any (is_waiting other) ws ≡ true
     still [] e = e
     still (w ∷ ws) e = ⊎_elim
         (λ a. or_left (is_waiting other w) (list_any (is_waiting other) ws) (one (holds header (hash_of w.op.key)) a))

@@ -3,6 +3,7 @@
 --     changed f n ts      the transactions, with f done to the one of number n
 --     is_holder ts key n      the transaction of number n is live and has a waiting write of the key
 --     AreHolders f ts      f tells of each key the live transaction that has a waiting write of it; so there is one at most
+--     AreCursors k ts      k tells of a tablet, by the first hash of its range, a time before which nothing that waits there committed
 use Rattle.xc_base.specs.declared.limits.TheConstants.{LAST_SUB}
 use Rattle.std.specs.Prelude.{◌≡◌, ℕ, ◌-◌, ◌==◌, ◌&&◌, Bool, true, false, List, Option, Some, None, if◌then◌else◌, slice_get, slice_set}
 use Rattle.std.specs.Prelude.{bytes_eq, is_some, IfSome, ◌<◌, ◌≤◌, ◌+◌, nat_le, length, ◌^◌}
@@ -62,7 +63,7 @@ pub record IsEarliest (header : Header) (earliest : ℕ) (ts : List Transaction)
   pub least : (n c : ℕ) (t : Transaction) → numbered ts n ≡ Some t → commit_on header t ≡ Some c → earliest ≤ c
   pub most : (x : ℕ) → ((n c : ℕ) → commit_at (numbered ts n) ≡ Some c → c < x) → earliest ≤ x
 
--- k tells of a tablet, by the first hash of its range, where to look on
+-- k tells of a tablet, by the first hash of its range, where to look on; it says nothing of a tablet with another last hash
 abbrev pub AreCursors : (ℕ → Option Cursor) → List Transaction → Type 0
 AreCursors k ts = (header : Header) (cursor : Cursor) → k header.lo ≡ Some cursor → cursor.hi ≡ header.hi
     → IsEarliest header cursor.earliest ts

@@ -17,7 +17,8 @@ pub(crate) struct Cursor {
     pub(crate) earliest: u64,
 }
 
-// When a transaction that waits on the tablet with this header committed at the earliest, as far as is known.
+// Where to look on for a commit that waits on the tablet with this header: from the first commit of all, where no
+// search of this range is known.
 pub(crate) fn earliest_on(cursors: &BTreeMap<u16, Cursor>, header: &Header) -> u64
     ensures { result ≡ earliest_at header.now (get nat_cmp cursors.now header.now.lo) }
 {
@@ -33,8 +34,8 @@ pub(crate) fn earliest_on(cursors: &BTreeMap<u16, Cursor>, header: &Header) -> u
     }
 }
 
-// The same, where a search among all that wait came to this bound: the commit that it is of, or a time above all the
-// commits.
+// Where to look on after a search on a tablet came to this bound: from the commit that it is of, or, where nothing
+// waits there, behind all that wait.
 pub(crate) fn next_earliest(waiting: &BTreeMap<u64, u32>, bound: Option<u64>) -> u64
     ensures found { IfSome bound (λ value. result ≡ min (value + 1) (2 ^ 64 - 1)) }
     ensures none { bound ≡ None → (x : ℕ) → ((c n : ℕ) → get nat_cmp waiting.now c ≡ Some n → c < x) → result ≤ x }
@@ -48,7 +49,7 @@ pub(crate) fn next_earliest(waiting: &BTreeMap<u64, u32>, bound: Option<u64>) ->
     }
 }
 
-// Keeps where to look on. Where memory is out, the next search may begin earlier.
+// Keeps where to look on for the tablet with this header. Where memory is out, the next search may begin earlier.
 pub(crate) fn set_earliest(cursors: &mut BTreeMap<u16, Cursor>, header: &Header, earliest: u64)
     ensures { (lo : ℕ) (cursor : Cursor) → get nat_cmp cursors.new lo ≡ Some cursor
         → ((lo ≡ header.now.lo) × (cursor ≡ record { hi = header.now.hi; earliest = earliest }))

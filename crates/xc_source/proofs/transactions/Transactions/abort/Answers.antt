@@ -17,8 +17,9 @@ invariant_of-self c =
     let num : numbered c.self.inside.items.items c.args.txn ≡ Some c.index_mut-t.result.now =
     numbered-get c.self.inside.items.items c.args.txn c.index_mut-t.result.now one within c.index_mut-t.ensures.value in
     book-aborted (tree.get (slice_cmp nat_cmp) c.self.inside.holders) (tree.get (slice_cmp nat_cmp) c.free.new.holders)
-    (tree.get nat_cmp c.self.inside.waiting) (tree.get nat_cmp c.self.inside.cursors) c.args.txn c.self.inside.items.items c.index_mut-t.result.now c.set_aborted.new.self num
-    c.set_aborted.ensures (test-at (λ t. is_live t.stage) c.self.inside.items.items c.args.txn c.index_mut-t.result.now
+    (tree.get nat_cmp c.self.inside.waiting) (tree.get nat_cmp c.self.inside.cursors) c.args.txn c.self.inside.items.items
+    c.index_mut-t.result.now c.set_aborted.new.self num c.set_aborted.ensures
+    (test-at (λ t. is_live t.stage) c.self.inside.items.items c.args.txn c.index_mut-t.result.now
     (subst (λ (ts : List Transaction). live_at (numbered ts c.args.txn) ≡ true)
     (sym c.self.view_is) c.requires.live) num) c.free.ensures c.self.invariant
 

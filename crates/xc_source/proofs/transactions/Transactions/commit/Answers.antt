@@ -30,8 +30,8 @@ invariant_of-self-2 c =
     c.get.ensures.value in
     book-committed (tree.get (slice_cmp nat_cmp) c.self.inside.holders) (tree.get (slice_cmp nat_cmp) c.free.new.holders)
     (tree.get nat_cmp c.self.inside.waiting)
-    (tree.get nat_cmp c.list_waiting.new.waiting) (tree.get nat_cmp c.self.inside.cursors) c.args.commit c.args.txn c.self.inside.items.items
-    c.index_mut-t.result.now c.set_committed.new.self num c.set_committed.ensures
+    (tree.get nat_cmp c.list_waiting.new.waiting) (tree.get nat_cmp c.self.inside.cursors) c.args.commit c.args.txn
+    c.self.inside.items.items c.index_mut-t.result.now c.set_committed.new.self num c.set_committed.ensures
     (test-at (λ t. is_live t.stage) c.self.inside.items.items c.args.txn c.index_mut-t.result.now
     (subst (λ (ts : List Transaction). live_at (numbered ts c.args.txn) ≡ true) (sym c.self.view_is) c.requires.live) num)
     (λ k q e. c.requires.past k q (subst

@@ -16,7 +16,8 @@ invariant_of-self c =
     let num : numbered c.self.inside.items.items c.args.txn ≡ Some c.index_mut-t.result.now =
     numbered-get c.self.inside.items.items c.args.txn c.index_mut-t.result.now one within c.index_mut-t.ensures.value in
     book-kept (tree.get (slice_cmp nat_cmp) c.self.inside.holders) (tree.get nat_cmp c.self.inside.waiting)
-    (tree.get nat_cmp c.self.inside.cursors) (λ (t : Transaction). next_begun (undone_from c.args.sub t)) c.args.txn c.self.inside.items.items c.index_mut-t.result.now
+    (tree.get nat_cmp c.self.inside.cursors) (λ (t : Transaction). next_begun (undone_from c.args.sub t)) c.args.txn
+    c.self.inside.items.items c.index_mut-t.result.now
     c.begin_next.new.self num (c.begin_next.ensures.next ∙ ap next_begun c.undo_from.ensures) (λ key. refl) refl
     (λ k q a. a) (λ header k q. q) c.self.invariant
 

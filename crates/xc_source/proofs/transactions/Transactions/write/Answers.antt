@@ -30,7 +30,8 @@ invariant_of-self-then-is_err c =
     subst (λ (ts : List Transaction). AreTransactions (tree.get (slice_cmp nat_cmp) c.insert.new.self)
     (tree.get nat_cmp c.self.inside.waiting) (tree.get nat_cmp c.self.inside.cursors) ts) (sym back)
     (subst (λ es. AreTransactions (λ q. lookup (tree.is_at (slice_cmp nat_cmp q)) es)
-    (tree.get nat_cmp c.self.inside.waiting) (tree.get nat_cmp c.self.inside.cursors) c.self.inside.items.items) (sym same) c.self.invariant)
+    (tree.get nat_cmp c.self.inside.waiting) (tree.get nat_cmp c.self.inside.cursors) c.self.inside.items.items)
+    (sym same) c.self.invariant)
 
 pub returns-then-is_err-clause-err : goal.returns-then-is_err-clause-err
 returns-then-is_err-clause-err c =
@@ -59,8 +60,9 @@ invariant_of-self-else-is_err c =
     numbered-get c.self.inside.items.items c.args.txn c.index_mut.result.now one within c.index_mut.ensures.value in
     let pushed : c.push_write.new.self ≡ written c.args.op c.index_mut.result.now = c.in_ok-push_write.ensures.ok in
     book-wrote (tree.get (slice_cmp nat_cmp) c.self.inside.holders) (tree.get (slice_cmp nat_cmp) c.insert.new.self)
-    (tree.get nat_cmp c.self.inside.waiting) (tree.get nat_cmp c.self.inside.cursors) c.args.op c.args.txn c.self.inside.items.items c.index_mut.result.now c.push_write.new.self
-    num pushed (test-at (λ t. is_live t.stage) c.self.inside.items.items c.args.txn c.index_mut.result.now
+    (tree.get nat_cmp c.self.inside.waiting) (tree.get nat_cmp c.self.inside.cursors) c.args.op c.args.txn
+    c.self.inside.items.items c.index_mut.result.now c.push_write.new.self num pushed
+    (test-at (λ t. is_live t.stage) c.self.inside.items.items c.args.txn c.index_mut.result.now
     (subst (λ (ts : List Transaction). live_at (numbered ts c.args.txn) ≡ true) (sym c.self.view_is) c.requires.live) num)
     (λ k h. c.requires.free k (subst (λ (ts : List Transaction). is_holder ts c.args.op.key k ≡ true) c.self.view_is h))
     (λ q. grind (arith, common_steps)) c.self.invariant

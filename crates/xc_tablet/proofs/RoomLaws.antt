@@ -118,6 +118,21 @@ room-applied r rs c d range is settles room =
       applied = λ e. omega (arith, settles.versions, settles.fewer);
     }
 
+-- behind a record that left all as it was
+pub room-passed : (r : Record) (rs : List Record) (c : Contents) → HasRoom (r ∷ rs) c → HasRoom rs c
+room-passed r rs c room =
+    let f = puts-more c.lo c.hi r rs in
+    let g = holds-more c.lo c.hi r rs in
+    record {
+      holds = omega (arith, room.holds);
+      puts = omega (arith, room.puts);
+      applied = λ e. let h = room.applied (behind (is_apply r.kind) (has_apply rs) e) in omega arith;
+    }
+  where
+    behind : (b d : Bool) → d ≡ true → (b || d) ≡ true
+    behind true d e = refl
+    behind false d e = e
+
 -- room for the first of the records
 pub room-first : (r : Record) (rs : List Record) (c : Contents) → HasRoom (r ∷ rs) c → HasRoom (r ∷ []) c
 room-first r rs c room =

@@ -85,9 +85,6 @@ impl Contents {
         ensures changes { Changes (put_events time ops.now) self.old self.new }
         ensures adds { Adds (count_in self.old.lo self.old.hi ops.now) 0 self.old self.new }
     {
-        if is_apart(header, self.lo, self.hi) {
-            return;
-        }
         for op in ops.iter() {
             self.put(header, time, &op);
         }
@@ -114,9 +111,6 @@ impl Contents {
         ensures changes { (time : ℕ) → Changes (hold_events txn sub time ops.now) self.old self.new }
         ensures adds { Adds 0 (count_in self.old.lo self.old.hi ops.now) self.old self.new }
     {
-        if is_apart(header, self.lo, self.hi) {
-            return;
-        }
         for op in ops.iter() {
             self.hold(header, txn, sub, &op);
         }
@@ -172,7 +166,7 @@ impl Contents {
         self.held.forget(txn, lo, hi);
     }
 
-    /// Takes in a record of the source tablet with this header.
+    /// Takes in a record of the source tablet with this header. Where that has no key of the range, nothing changes.
     pub(crate) fn take(&mut self, header: &Header, item: &Record)
         requires is { IsContents self.old }
         requires keep { keys_keep header.now item.now.kind ≡ true }
@@ -185,6 +179,9 @@ impl Contents {
         ensures next { self.new.next + length self.new.held.held
             ≤ self.old.next + length self.old.held.held + ops_in item.now.kind }
     {
+        if is_apart(header, self.lo, self.hi) {
+            return;
+        }
         match &item.kind {
             Kind::Write { ops } => self.put_all(header, item.time.get(), ops),
             Kind::Intent { txn, sub, ops } => self.hold_all(header, *txn, *sub, ops),

@@ -1,9 +1,8 @@
-use Rattle.std.proofs.Common.{◌≤◌, List, ◌∷◌, subst, rules}
+use Rattle.std.proofs.Common.{◌≤◌, List, ◌∷◌, subst}
 use Rattle.xc_record.specs.Path.{Hold}
 use Rattle.xc_record.specs.declared.record.Op.{Op}
 use Rattle.xc_tablet.specs.Room.{count_in}
 use Rattle.xc_tablet.proofs.ContentsLaws.{Left, HoldsLeft, left-more, left-none, holds-more, room-first, room-rest}
-use Rattle.xc_tablet.proofs.Aparts.{changes-apart, holds-apart}
 use Rattle.xc_tablet.proofs.RoomLaws.{all-next}
 use Rattle.xc_tablet.proofs.contents.Contents.hold_all.Goals as goal
 
@@ -44,12 +43,3 @@ pub returns-clause-changes : goal.returns-clause-changes
 returns-clause-changes c = λ time. left-none (Hold c.args.txn c.args.sub time) c.args.ops.now c.args.self.now c.loop-op.self
     (subst (λ (rest : List Op). Left (Hold c.args.txn c.args.sub time) c.args.ops.now rest c.args.self.now c.loop-op.self)
     c.in-None.ensures.steps.0 (c.loop-op.invariant.left time))
-
-pub returns-then-is_apart-clause-changes : goal.returns-then-is_apart-clause-changes
-returns-then-is_apart-clause-changes c = λ time.
-    changes-apart (Hold c.args.txn c.args.sub time) c.args.header.now c.args.self.now c.args.ops.now c.requires.is
-    (c.is_apart.ensures.apart (search rules)) c.requires.keep
-
-pub returns-then-is_apart-clause-adds : goal.returns-then-is_apart-clause-adds
-returns-then-is_apart-clause-adds c =
-    holds-apart c.args.header.now c.args.self.now c.args.ops.now (c.is_apart.ensures.apart (search rules)) c.requires.keep

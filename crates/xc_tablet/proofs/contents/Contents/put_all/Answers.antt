@@ -1,8 +1,7 @@
-use Rattle.std.proofs.Common.{List, ◌∷◌, subst, rules}
+use Rattle.std.proofs.Common.{List, ◌∷◌, subst}
 use Rattle.xc_record.specs.Path.{Put}
 use Rattle.xc_record.specs.declared.record.Op.{Op}
 use Rattle.xc_tablet.proofs.ContentsLaws.{Left, AddsLeft, left-more, adds-more}
-use Rattle.xc_tablet.proofs.Aparts.{changes-apart, adds-apart}
 use Rattle.xc_tablet.proofs.RoomLaws.{all-next}
 use Rattle.xc_tablet.proofs.contents.Contents.put_all.Goals as goal
 
@@ -26,12 +25,3 @@ loop-op-preserved c =
       left = left-more (Put c.args.time) ops c.in-Some.op c.next.new.self s d _ left c.put.ensures.changes;
       adds = adds-more ops c.in-Some.op c.next.new.self s d _ left.range adds c.put.ensures.adds;
     }
-
-pub returns-then-is_apart-clause-changes : goal.returns-then-is_apart-clause-changes
-returns-then-is_apart-clause-changes c =
-    changes-apart (Put c.args.time) c.args.header.now c.args.self.now c.args.ops.now c.requires.is (c.is_apart.ensures.apart (search rules))
-    c.requires.keep
-
-pub returns-then-is_apart-clause-adds : goal.returns-then-is_apart-clause-adds
-returns-then-is_apart-clause-adds c =
-    adds-apart c.args.header.now c.args.self.now c.args.ops.now (c.is_apart.ensures.apart (search rules)) c.requires.keep

@@ -1,12 +1,13 @@
-use Rattle.std.proofs.Common.{ℕ, cond, ap, sym, subst, ◌∙◌, arith}
+use Rattle.std.proofs.Common.{ℕ, cond, ap, sym, subst, ◌∙◌, arith, rules}
 use Rattle.xc_record.specs.declared.record.Kind.{Kind}
 use Rattle.xc_record.specs.Hash.{hash_of, holds}
-use Rattle.xc_record.specs.Path.{Put, Hold, kind_events}
+use Rattle.xc_record.specs.Path.{Put, Hold, kind_events, record_events}
 use Rattle.xc_record.specs.Kept.{steps}
 use Rattle.xc_versions.specs.Stored.{Store}
 use Rattle.xc_tablet.specs.Contents.{Changes, keys_keep}
 use Rattle.xc_tablet.specs.Room.{is_apply, puts_of, holds_of}
-use Rattle.xc_tablet.proofs.RoomLaws.{owned, room-behind}
+use Rattle.xc_tablet.proofs.Aparts.{changes-apart}
+use Rattle.xc_tablet.proofs.RoomLaws.{owned, room-behind, room-passed}
 use Rattle.xc_tablet.proofs.contents.Contents.take.Goals as goal
 
 pub returns-in-Write-clause-changes : goal.returns-in-Write-clause-changes
@@ -48,3 +49,11 @@ returns-in-Abort-clause-room c = λ rs room.
     let q = ap (holds_of s.lo s.hi) e in
     room-behind c.args.item.now rs s c.abort.new.self c.abort.ensures.changes.range (ap is_apply e) (omega (arith, spare))
     (omega (arith, a.held)) (omega (arith, a.fewer)) room
+
+pub returns-then-is_apart-clause-changes : goal.returns-then-is_apart-clause-changes
+returns-then-is_apart-clause-changes c =
+    changes-apart (λ k x. steps (record_events k c.args.item.now) x) c.args.header.now c.args.self.now c.requires.is
+    (c.is_apart.ensures.apart (search rules))
+
+pub returns-then-is_apart-clause-room : goal.returns-then-is_apart-clause-room
+returns-then-is_apart-clause-room c = λ rs room. room-passed c.args.item.now rs c.args.self.now room

@@ -1,68 +1,18 @@
 -- An operation that lies in bytes is read back, and bytes behind it change nothing.
-use Rattle.std.proofs.Common.{◌≡◌, ℕ, ◌+◌, ◌<◌, ◌≤◌, ◌==◌, true, false, List, [], ◌∷◌, ◌++◌, length, get_or, take, drop, min, ◌-◌, nat_lt}
-use Rattle.std.proofs.Common.{⊎_elim, Some, None, refl, sym, ap, subst, ◌∙◌}
-use Rattle.std.proofs.Common.{arith, append_assoc, append-nil, length-append, Option}
-use Rattle.std.proofs.Math.Seq.{take-append_seam, drop-append_seam}
+use Rattle.std.proofs.Common.{◌≡◌, ℕ, ◌+◌, ◌<◌, ◌≤◌, ◌==◌, true, false, List, [], ◌++◌, length, get_or, take, drop, min, ◌-◌, nat_lt}
+use Rattle.std.proofs.Common.{⊎_elim, refl, sym, ap, subst, ◌∙◌}
+use Rattle.std.proofs.Common.{arith, append_assoc, append-nil, length-append}
+use Rattle.std.proofs.Math.Seq.{drop-append_seam}
 use Rattle.std.proofs.lemmas.Bool.Decides.{nat_tests}
-use Rattle.std.proofs.lemmas.Bool.{and_parts, cases_Bool, ltb-true, ltb-false}
+use Rattle.std.proofs.lemmas.Bool.{cases_Bool, ltb-true, ltb-false}
 use Rattle.std.proofs.lemmas.List.{drop_all, take_all, length-drop, nil_from_length}
-use Rattle.std.specs.Option.{option_map_or}
-use Rattle.xc_base.specs.Names.{is_key, is_value}
 use Rattle.xc_record.specs.Path.{Written}
 use Rattle.xc_record.specs.declared.record.Op.{Op}
-use Rattle.xc_record.specs.Packed.{encode_value, encode_op, is_op, text_of, after_text, value_of, after_value, after_op, HasText, HasValue}
-use Rattle.xc_record.specs.Packed.{IsAt}
+use Rattle.xc_record.specs.Packed.{encode_op, is_op, text_of, after_text, value_of, IsAt}
+use Rattle.xc_record.proofs.PackedLaws.{front, front-is_at}
 use Rattle.xc_arena.specs.Arena.{key_at, value_at, op_at, Lies}
 
--- ---- one text, one value in front
-
-text-front : (t rest : List ℕ) → text_of (length t ∷ (t ++ rest)) ≡ t
-text-front t rest = take-append_seam t rest
-
-after_text-front : (t rest : List ℕ) → after_text (length t ∷ (t ++ rest)) ≡ rest
-after_text-front t rest = drop-append_seam t rest
-
-has_text-front : (t rest : List ℕ) → HasText (length t ∷ (t ++ rest))
-has_text-front t rest = let e = length-append t rest in omega arith
-
-value-front : (v : Option (List ℕ)) (rest : List ℕ) → value_of (encode_value v ++ rest) ≡ v
-value-front None rest = refl
-value-front (Some t) rest = ap (λ t. Some t) (text-front t rest)
-
-after_value-front : (v : Option (List ℕ)) (rest : List ℕ) → after_value (encode_value v ++ rest) ≡ rest
-after_value-front None rest = refl
-after_value-front (Some t) rest = after_text-front t rest
-
-has_value-front : (v : Option (List ℕ)) (rest : List ℕ) → option_map_or is_value v true ≡ true → HasValue (encode_value v ++ rest)
-has_value-front None rest e = record { some = omega arith; text = λ h. absurd (h refl); value = refl }
-has_value-front (Some t) rest e = record { some = omega arith; text = λ h. has_text-front t rest; value = rw (text-front t rest) e }
-
--- ---- an operation in front, and at a place
-
-record IsFront (op : Op) (rest bytes : List ℕ) : Type 0 where
-  is_at : IsAt bytes
-  key : text_of bytes ≡ op.key
-  value : value_of (after_text bytes) ≡ op.value
-  after : after_op bytes ≡ rest
-
-front : (op : Op) (rest : List ℕ) → is_op op ≡ true → IsFront op rest (encode_op op ++ rest)
-front op rest e =
-    let shape : encode_op op ++ rest ≡ length op.key ∷ (op.key ++ (encode_value op.value ++ rest)) =
-    ap (λ xs. length op.key ∷ xs) (append_assoc op.key (encode_value op.value) rest) in
-    let after : after_text (length op.key ∷ (op.key ++ (encode_value op.value ++ rest))) ≡ encode_value op.value ++ rest =
-    after_text-front op.key (encode_value op.value ++ rest) in
-    let key = text-front op.key (encode_value op.value ++ rest) in
-    let good = and_parts (is_key op.key) (option_map_or is_value op.value true) e in
-    rw shape (record {
-      is_at = record {
-        text = has_text-front op.key (encode_value op.value ++ rest);
-        key = rw key good.0;
-        has_value = rw after (has_value-front op.value rest good.1);
-      };
-      key = key;
-      value = rw after (value-front op.value rest);
-      after = rw after (after_value-front op.value rest);
-    })
+-- ---- an operation at a place
 
 there : (bytes : List ℕ) (at : ℕ) (l : Lies bytes at) → drop at bytes ≡ encode_op l.op ++ l.behind
 there bytes at l =
@@ -70,7 +20,7 @@ there bytes at l =
     ∙ drop-append_seam l.before (encode_op l.op ++ l.behind)
 
 pub lies-is_at : (bytes : List ℕ) (at : ℕ) → Lies bytes at → IsAt (drop at bytes)
-lies-is_at bytes at l = subst IsAt (sym (there bytes at l)) (front l.op l.behind l.well).is_at
+lies-is_at bytes at l = subst IsAt (sym (there bytes at l)) (front-is_at l.op l.behind l.well)
 
 pub lies-within : (bytes : List ℕ) (at : ℕ) → Lies bytes at → at ≤ length bytes
 lies-within bytes at l =
@@ -92,20 +42,6 @@ op_with k v = record { key = k; value = v }
 
 pub lies-op : (bytes : List ℕ) (at : ℕ) (l : Lies bytes at) → op_at bytes at ≡ l.op
 lies-op bytes at l = ap (λ k. op_with k (value_at bytes at)) (lies-key bytes at l) ∙ ap (op_with l.op.key) (lies-value bytes at l)
-
--- the bytes of the operation, cut off before those behind it
-pub lies-cut : (bytes : List ℕ) (at : ℕ) (rest : List ℕ) → Lies bytes at → rest ≡ drop at bytes
-    → take (length rest - length (after_op rest)) rest ≡ encode_op (op_at bytes at)
-lies-cut bytes at rest l e =
-    let f = front l.op l.behind l.well in
-    let is : rest ≡ encode_op l.op ++ l.behind = e ∙ there bytes at l in
-    let behind : after_op rest ≡ l.behind = ap after_op is ∙ f.after in
-    let whole = ap length is in
-    let parts = length-append (encode_op l.op) l.behind in
-    let tail = ap length behind in
-    let count : length rest - length (after_op rest) ≡ length (encode_op l.op) = omega arith in
-    ap (λ n. take n rest) count ∙ ap (take (length (encode_op l.op))) is ∙ take-append_seam (encode_op l.op) l.behind
-    ∙ sym (ap encode_op (lies-op bytes at l))
 
 -- ---- more bytes behind
 
@@ -163,19 +99,21 @@ lies-well bytes at l = ap is_op (lies-op bytes at l) ∙ l.well
 
 -- ---- a place behind the last byte
 
+-- a function of lists that gives the same behind the last byte
+clip : (f : ℕ → List ℕ) (long n m : ℕ) → m ≡ min long n → ((k : ℕ) → long ≤ k → f k ≡ f long) → f m ≡ f n
+clip f long n m e h =
+    ⊎_elim {C = f m ≡ f n}
+    (λ t. let l = ltb-true n long t in let same : m ≡ n = omega arith in ap f same)
+    (λ b. let l = ltb-false n long b in let last : m ≡ long = omega arith in ap f last ∙ sym (h n (omega arith)))
+    (cases_Bool (nat_lt n long))
+
 drop-clip : (xs : List ℕ) (n m : ℕ) → m ≡ min (length xs) n → drop m xs ≡ drop n xs
 drop-clip xs n m e =
-    ⊎_elim {C = drop m xs ≡ drop n xs}
-    (λ t. let l = ltb-true n (length xs) t in let same : m ≡ n = omega arith in ap (λ k. drop k xs) same)
-    (λ f. let l = ltb-false n (length xs) f in drop_all m xs (omega arith) ∙ sym (drop_all n xs (omega arith)))
-    (cases_Bool (nat_lt n (length xs)))
+    clip (λ k. drop k xs) (length xs) n m e (λ k h. drop_all k xs h ∙ sym (drop_all (length xs) xs (omega arith)))
 
 take-clip : (xs : List ℕ) (n m : ℕ) → m ≡ min (length xs) n → take m xs ≡ take n xs
 take-clip xs n m e =
-    ⊎_elim {C = take m xs ≡ take n xs}
-    (λ t. let l = ltb-true n (length xs) t in let same : m ≡ n = omega arith in ap (λ k. take k xs) same)
-    (λ f. let l = ltb-false n (length xs) f in take_all m xs (omega arith) ∙ sym (take_all n xs (omega arith)))
-    (cases_Bool (nat_lt n (length xs)))
+    clip (λ k. take k xs) (length xs) n m e (λ k h. take_all k xs h ∙ sym (take_all (length xs) xs (omega arith)))
 
 -- the bytes from the place on, as the code cuts them out
 pub rest-from : (bytes : List ℕ) (at from : ℕ) → from ≡ min (length bytes) at → take (length bytes - from) (drop from bytes) ≡ drop at bytes

@@ -8,7 +8,8 @@ use Rattle.std.specs.declared.alloc.Global.{Global}
 use Rattle.xc_record.specs.Path.{Written}
 use Rattle.xc_record.specs.declared.record.Op.{Op}
 use Rattle.xc_record.specs.Packed.{encode_op, is_op, text_of, after_text, value_of}
-use Rattle.xc_arena.specs.declared.limits.TheConstants.{OP_BYTES, ARENA_BYTES}
+use Rattle.xc_record.specs.declared.packed.TheConstants.{OP_BYTES}
+use Rattle.xc_arena.specs.declared.limits.TheConstants.{ARENA_BYTES}
 
 unfoldable pub key_at : List ℕ → ℕ → List ℕ
 key_at bytes at = text_of (drop at bytes)

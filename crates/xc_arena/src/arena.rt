@@ -1,14 +1,15 @@
-// The bytes of operations one behind another: for each its key, as a text, and then a 0, or a 1 and the value, as a
-// text. A text is its length and then its bytes.
-ghost use Rattle.std.specs.Prelude.{◌≡◌, ◌<◌, ◌≤◌, ◌+◌, ◌*◌, ◌++◌, ◌∷◌, length, drop, min, true, OnOk, vec_len};
+// The bytes of operations one behind another, each read at the place where it begins.
+ghost use Rattle.std.specs.Prelude.{◌≡◌, ◌≤◌, ◌+◌, ◌*◌, ◌++◌, length, drop, min, true, OnOk, vec_len};
 ghost use Rattle.std.specs.Prelude.{vec_capacity};
-ghost use Rattle.xc_arena.specs.declared.limits.TheConstants.{OP_BYTES, ARENA_BYTES};
-ghost use Rattle.xc_record.specs.Packed.{encode_op, is_op, HasText, HasValue, IsAt};
-ghost use Rattle.xc_record.specs.Packed.{after_text, after_value, text_of, value_of};
+ghost use Rattle.xc_arena.specs.declared.limits.TheConstants.{ARENA_BYTES};
+ghost use Rattle.xc_record.specs.declared.packed.TheConstants.{OP_BYTES};
+ghost use Rattle.xc_record.specs.Packed.{encode_op, is_op, IsAt};
 ghost use Rattle.xc_arena.specs.Arena.{Lies, key_at, value_at, op_at};
 
-use crate::limits::{ARENA_BYTES, OP_BYTES};
+use crate::limits::ARENA_BYTES;
 use xc_base::{Key, NoMemory, Value};
+use xc_record::OpAt;
+use xc_record::packed::{self, OP_BYTES};
 
 /// The bytes of the key of the operation at the place. Behind the last byte there are none.
 #[inline]
@@ -22,46 +23,6 @@ pub fn key_bytes(bytes: &[u8], at: u32) -> &[u8]
     }
     let end = rest.len().min(1 + rest[0] as usize);
     &rest[1..end]
-}
-
-#[inline]
-fn text(bytes: &[u8]) -> &[u8]
-    requires { HasText bytes.now }
-    ensures { result.now ≡ text_of bytes.now }
-{
-    &bytes[1..1 + bytes[0] as usize]
-}
-
-#[inline]
-fn after_text(bytes: &[u8]) -> &[u8]
-    requires { HasText bytes.now }
-    ensures { result.now ≡ after_text bytes.now }
-{
-    &bytes[1 + bytes[0] as usize..]
-}
-
-#[inline]
-fn value(bytes: &[u8]) -> Option<Value>
-    requires { HasValue bytes.now }
-    ensures { result ≡ value_of bytes.now }
-{
-    if bytes[0] == 0 {
-        None
-    } else {
-        Some(Value::of(text(&bytes[1..])))
-    }
-}
-
-#[inline]
-fn after_value(bytes: &[u8]) -> &[u8]
-    requires { HasValue bytes.now }
-    ensures { result.now ≡ after_value bytes.now }
-{
-    if bytes[0] == 0 {
-        &bytes[1..]
-    } else {
-        after_text(&bytes[1..])
-    }
 }
 
 // The bytes from the place on.
@@ -79,7 +40,7 @@ pub fn key(bytes: &[u8], at: u32) -> Key
     requires { Lies bytes.now at }
     ensures { result ≡ key_at bytes.now at }
 {
-    Key::of(text(from(bytes, at)))
+    Key::of(packed::text(from(bytes, at)))
 }
 
 /// The value of the operation at the place, or None where it removes its key.
@@ -87,7 +48,7 @@ pub fn value_of(bytes: &[u8], at: u32) -> Option<Value>
     requires { Lies bytes.now at }
     ensures { result ≡ value_at bytes.now at }
 {
-    value(after_text(from(bytes, at)))
+    packed::value(packed::after_text(from(bytes, at)))
 }
 
 /// The bytes of the operation at the place.
@@ -95,22 +56,16 @@ pub fn op_bytes(bytes: &[u8], at: u32) -> &[u8]
     requires { Lies bytes.now at }
     ensures { result.now ≡ encode_op (op_at bytes.now at) }
 {
-    let rest = from(bytes, at);
-    let behind = after_value(after_text(rest));
-    &rest[..rest.len() - behind.len()]
+    packed::op_bytes(from(bytes, at))
 }
 
-// Puts a text last, for which there is room.
+/// The operation at the place, where it lies.
 #[inline]
-fn put_text(bytes: &mut Vec<u8>, text: &[u8])
-    requires short { length text.now < 256 }
-    requires room { vec_len bytes.old + 1 + length text.now ≤ vec_capacity bytes.old }
-    ensures items { bytes.new.items ≡ bytes.old.items ++ length text.now ∷ text.now }
-    ensures len { vec_len bytes.new ≡ vec_len bytes.old + 1 + length text.now }
-    ensures capacity { vec_capacity bytes.old ≤ vec_capacity bytes.new }
+pub fn op(bytes: &[u8], at: u32) -> OpAt<'_>
+    requires { Lies bytes.now at }
+    ensures { result ≡ op_at bytes.now at }
 {
-    bytes.push_reserved(text.len() as u8);
-    let _ = bytes.extend_from_slice(text);
+    OpAt::of(from(bytes, at))
 }
 
 /// Puts an operation last, for which there is room.
@@ -123,14 +78,21 @@ pub fn put_op(bytes: &mut Vec<u8>, key: &Key, value: &Option<Value>)
     ensures len { vec_len bytes.new ≤ vec_len bytes.old + OP_BYTES }
     ensures capacity { vec_capacity bytes.old ≤ vec_capacity bytes.new }
 {
-    put_text(bytes, key.bytes());
-    match value {
-        None => bytes.push_reserved(0),
-        Some(value) => {
-            bytes.push_reserved(1);
-            put_text(bytes, value.bytes());
-        }
-    }
+    packed::put_op(bytes, key, value);
+}
+
+/// Puts an operation last that lies in other bytes. There is room for it.
+#[inline]
+pub fn copy_op(bytes: &mut Vec<u8>, op: &OpAt<'_>)
+    requires room { vec_len bytes.old + OP_BYTES ≤ vec_capacity bytes.old }
+    ensures items { bytes.new.items ≡ bytes.old.items ++ encode_op op.now }
+    ensures well { is_op op.now ≡ true }
+    ensures lies { Lies bytes.new.items (length bytes.old.items) }
+    ensures op { op_at bytes.new.items (length bytes.old.items) ≡ op.now }
+    ensures len { vec_len bytes.new ≤ vec_len bytes.old + OP_BYTES }
+    ensures capacity { vec_capacity bytes.old ≤ vec_capacity bytes.new }
+{
+    let _ = bytes.extend_from_slice(op.bytes());
 }
 
 /// Puts the operation at the place in `bytes` last in another arena, which has room for it, and says where it begins

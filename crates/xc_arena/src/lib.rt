@@ -4,8 +4,9 @@
 mod arena;
 mod limits;
 
-pub use arena::{key, key_bytes, move_op, op_bytes, put_op, reserve_ops, value_of};
-pub use limits::{ARENA_BYTES, OP_BYTES};
+pub use arena::{copy_op, key, key_bytes, move_op, op, op_bytes, put_op, reserve_ops, value_of};
+pub use limits::ARENA_BYTES;
+pub use xc_record::packed::OP_BYTES;
 
 #[cfg(test)]
 mod tests;

@@ -33,6 +33,8 @@ fn an_operation_is_read_where_it_begins(rt: HostRuntime) -> Result<(), Fail> {
         assert!(rt; arena::key(&bytes, at) == key);
         assert!(rt; value_of(&bytes, at) == value);
         assert!(rt; op_bytes(&bytes, at) == *packed);
+        let op = op(&bytes, at);
+        assert!(rt; op.key() == key && op.value() == value && op.bytes() == *packed);
     }
     Ok(())
 }
@@ -49,6 +51,10 @@ fn an_operation_moves_with_its_bytes(rt: HostRuntime) -> Result<(), Fail> {
         let mut to = Vec::with_capacity(alloc, long)?;
         assert_eq!(rt; move_op(&bytes, 0, &mut to), 0);
         assert!(rt; to.as_slice() == *packed);
+        let mut copy = Vec::new(alloc);
+        reserve_ops(&mut copy, 1)?;
+        copy_op(&mut copy, &op(&bytes, 0));
+        assert!(rt; copy.as_slice() == *packed);
     }
     Ok(())
 }

@@ -1,5 +1,5 @@
 -- Computed with the definitions: which of all bytes are of the alphabet, the words of bytes at its edges, and the exit statuses.
-use Rattle.std.proofs.Common.{◌≡◌, refl, List, ◌∷◌, [], map}
+use Rattle.std.proofs.Common.{◌≡◌, refl, ◌∷◌, [], map}
 use Rattle.std.specs.Prelude.{filter, codes}
 use Rattle.std.specs.List.{range_with_len}
 use Rattle.xc_base.specs.declared.status.Status.TheVariants as status

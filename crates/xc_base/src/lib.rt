@@ -29,6 +29,7 @@ pub use status::Status;
 pub use streams::{Failed, NoMemory, Sink, SinkFail, Source};
 pub use whole::{ReadAllFail, read_all, write_all};
 pub use word::{escape, read_key, read_value, what_is_read_is_the_word, words_are_read_back};
+pub use words::word_at;
 
 #[cfg(test)]
 mod tests {

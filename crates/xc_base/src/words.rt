@@ -1,5 +1,5 @@
 // The bytes of two keys compared eight at a time, as numbers.
-ghost use Rattle.std.specs.Prelude.{◌≡◌, ◌+◌, ◌≤◌};
+ghost use Rattle.std.specs.Prelude.{◌≡◌, ◌+◌, ◌≤◌, length};
 ghost use Rattle.std.specs.Cmp.Lexicographic.{slice_cmp};
 ghost use Rattle.std.specs.Ordering.{nat_cmp};
 ghost use Rattle.std.specs.Simd.Lanes.{chunk};
@@ -8,10 +8,10 @@ ghost use Rattle.std.specs.Slice.Scan.{big_endian};
 use crate::limits::KEY_BYTES;
 use std::cmp::Ordering;
 
-// The number that the eight bytes from i on spell, the greatest first.
+/// The number that the eight bytes from i on spell, the greatest first.
 #[inline]
-fn word_at(bytes: &[u8; KEY_BYTES], i: usize) -> u64
-    requires { i + 8 ≤ KEY_BYTES }
+pub fn word_at(bytes: &[u8], i: usize) -> u64
+    requires { i + 8 ≤ length bytes.now }
     ensures { result ≡ big_endian 0 (chunk i 8 bytes.now) }
 {
     u64::from_be_bytes([

@@ -4,7 +4,7 @@
 mod headers;
 mod key_hash;
 mod ops;
-mod packed;
+pub mod packed;
 mod record;
 mod session;
 mod subs;

@@ -1,15 +1,16 @@
 // Operations of a record, packed into bytes, which contracts see as a list.
-ghost use Rattle.std.specs.Prelude.{◌≡◌, true, bytes_eq, ◌++◌, ◌∷◌, ◌↔◌, ◌<◌, ◌^◌, [], length, is_ok, IsTrue, IfOk};
+ghost use Rattle.std.specs.Prelude.{◌≡◌, true, bytes_eq, ◌++◌, ◌∷◌, ◌↔◌, ◌<◌, ◌≤◌, ◌^◌, [], length, is_ok, IsTrue, IfOk, OnOk};
 ghost use Rattle.std.specs.Prelude.{if◌then◌else◌, slice_get};
 ghost use Rattle.std.specs.Cmp.{partial_equiv_from_equiv};
 ghost use Rattle.std.specs.Ordering.{on};
 ghost use Rattle.std.specs.Cmp.Lexicographic.{on_texts_equal};
-ghost use Rattle.xc_record.specs.Packed.{encode, is_op};
+ghost use Rattle.xc_record.specs.Packed.{encode, encode_op, is_op, op_of, IsAt};
+ghost use Rattle.xc_record.specs.declared.packed.TheConstants.{OP_BYTES};
 ghost use Rattle.std.specs.Iterator.{YieldsFirst, item_count};
 ghost use Rattle.std.specs.Option.{option_map_or, option_copied};
 ghost use Rattle.xc_base.specs.Names.{is_key, is_value};
 
-use crate::packed::{after_op, after_text, put_op, put_parts, text, value};
+use crate::packed::{OP_BYTES, after_op, after_text, op_bytes, put_op, put_parts, text, value};
 use crate::record::Op;
 use std::alloc::{AllocError, Global};
 use std::marker::Model;
@@ -33,6 +34,31 @@ impl Model for Ops {
     ghost invariant = { λ l. IsPacked l.bytes.items };
 }
 
+// Puts an operation last, or leaves the bytes as they are.
+fn push_op(bytes: &mut Vec<u8>, op: &Op) -> Result<(), AllocError>
+    ensures items { bytes.new.items ≡ (if is_ok result then bytes.old.items ++ encode_op op.now else bytes.old.items) }
+    ensures well { OnOk result (is_op op.now ≡ true) }
+{
+    bytes.reserve(OP_BYTES)?;
+    put_op(bytes, &op.key, &op.value);
+    Ok(())
+}
+
+// Puts the operation of a key and a value last, or of a key and None, or leaves the bytes as they are.
+#[inline]
+fn push_parts(bytes: &mut Vec<u8>, key: &[u8], value: Option<&[u8]>) -> Result<(), AllocError>
+    requires key { is_key key.now ≡ true }
+    requires value { option_map_or is_value (option_copied value) true ≡ true }
+    ensures items { bytes.new.items
+        ≡ (if is_ok result then bytes.old.items ++ encode_op
+        (record { key = key.now; value = option_copied value.entry }) else bytes.old.items) }
+    ensures well { OnOk result (is_op (record { key = key.now; value = option_copied value.entry }) ≡ true) }
+{
+    bytes.reserve(OP_BYTES)?;
+    put_parts(bytes, key, value);
+    Ok(())
+}
+
 impl Ops {
     /// No operations. It keeps the allocator for its growth.
     pub fn new(alloc: Global) -> Ops
@@ -47,7 +73,7 @@ impl Ops {
     pub fn push(&mut self, op: Op) -> Result<(), AllocError>
         ensures { self.new ≡ (if is_ok result then self.old ++ op ∷ [] else self.old) }
     {
-        put_op(&mut self.bytes, &op)
+        push_op(&mut self.bytes, &op)
     }
 
     /// Puts the operation of a key and a value last, or of a key and None, which removes it, given by their bytes.
@@ -60,7 +86,7 @@ impl Ops {
             ≡ (if is_ok result then self.old ++ record { key = key.now; value = option_copied value.entry } ∷ [] else
             self.old) }
     {
-        put_parts(&mut self.bytes, key, value)
+        push_parts(&mut self.bytes, key, value)
     }
 
     /// Removes them all, and keeps the memory.
@@ -138,6 +164,15 @@ impl<'a> Model for OpAt<'a> {
 }
 
 impl<'a> OpAt<'a> {
+    /// The operation in front of these bytes.
+    #[inline]
+    pub fn of(bytes: &'a [u8]) -> OpAt<'a>
+        requires { IsAt bytes.now }
+        ensures { result ≡ op_of bytes.now }
+    {
+        OpAt { bytes }
+    }
+
     /// The bytes of its key, without making one.
     #[inline]
     pub fn key_bytes(&self) -> &'a [u8]
@@ -160,6 +195,16 @@ impl<'a> OpAt<'a> {
         ensures { result ≡ self.now.value }
     {
         value(after_text(self.bytes))
+    }
+
+    /// Its bytes, as they lie.
+    #[inline]
+    pub fn bytes(&self) -> &'a [u8]
+        ensures bytes { result.now ≡ encode_op self.now }
+        ensures few { length result.now ≤ OP_BYTES }
+        ensures well { is_op self.now ≡ true }
+    {
+        op_bytes(self.bytes)
     }
 
     /// The operation by value.

@@ -1,13 +1,12 @@
 // The beginning of a key as two numbers, which tell most keys apart.
-ghost use Rattle.std.specs.Prelude.{◌≡◌, ℕ, List, ◌+◌, ◌≤◌, true, nat_lt, length, IfSome};
+ghost use Rattle.std.specs.Prelude.{◌≡◌, ℕ, List, true, nat_lt, length, IfSome};
 ghost use Rattle.std.specs.Cmp.Lexicographic.{slice_cmp};
 ghost use Rattle.std.specs.Ordering.{nat_cmp};
-ghost use Rattle.std.specs.Simd.Lanes.{chunk};
-ghost use Rattle.std.specs.Slice.Scan.{big_endian};
 ghost use Rattle.xc_base.specs.Names.{are_bytes};
 ghost use Rattle.xc_versions.specs.Heads.{beginning, head_of};
 
 use std::cmp::Ordering;
+use xc_base::word_at;
 
 /// The first bytes of a key that stand in its head.
 const HEAD_BYTES: usize = 15;
@@ -30,24 +29,6 @@ fn beginning(key: &[u8]) -> [u8; 16]
     bytes[..count].copy_from_slice(&key[..count]);
     bytes[HEAD_BYTES] = key.len().min(HEAD_BYTES + 1) as u8;
     bytes
-}
-
-// The number that the eight bytes from i on spell, the greatest first.
-#[inline]
-fn word_at(bytes: &[u8; 16], i: usize) -> u64
-    requires { i + 8 ≤ 16 }
-    ensures { result ≡ big_endian 0 (chunk i 8 bytes.now) }
-{
-    u64::from_be_bytes([
-        bytes[i],
-        bytes[i + 1],
-        bytes[i + 2],
-        bytes[i + 3],
-        bytes[i + 4],
-        bytes[i + 5],
-        bytes[i + 6],
-        bytes[i + 7],
-    ])
 }
 
 impl Head {

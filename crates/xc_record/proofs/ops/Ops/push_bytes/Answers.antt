@@ -3,8 +3,8 @@ use Rattle.xc_record.proofs.ops.Ops.push_bytes.Goals as goal
 
 pub invariant_of-self : goal.invariant_of-self
 invariant_of-self c =
-    packed_after _ _ c.put_parts.result c.put_parts.new.bytes.items c.self.invariant c.put_parts.ensures.well c.put_parts.ensures.items
+    packed_after _ _ c.push_parts.result c.push_parts.new.bytes.items c.self.invariant c.push_parts.ensures.well c.push_parts.ensures.items
 
 pub returns : goal.returns
 returns c = rw (← c.self.view_is)
-    (decode_after _ _ c.put_parts.result c.put_parts.new.bytes.items c.self.invariant c.put_parts.ensures.well c.put_parts.ensures.items)
+    (decode_after _ _ c.push_parts.result c.push_parts.new.bytes.items c.self.invariant c.push_parts.ensures.well c.push_parts.ensures.items)

@@ -1,5 +1,6 @@
 -- The operations that are held, and which of them a call takes.
---     HeldOps      the operations in the order held, for how many more there is room, and what a walk looks for
+--     HeldOps      the operations in the order held, for how many more there is room, what a walk looks for, and what was taken
+--         out last, as far as it is still known
 --     held_op txn sub op      an operation as it is held
 --     is_part txn lo hi w      w is of the transaction, and its key's hash is from lo to hi
 --     is_rest txn lo hi w      it is not
@@ -22,6 +23,7 @@ pub record HeldOps : Type 0 where
   pub held : List KeyWaiting
   pub spare : ℕ
   pub sought : Option Sought
+  pub taken : Option Held
 
 abbrev pub held_op : ℕ → ℕ → Op → KeyWaiting
 held_op txn sub op = record { key = op.key; txn = txn; sub = sub; value = op.value }

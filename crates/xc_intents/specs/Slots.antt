@@ -7,20 +7,24 @@
 --     Leads cs t m rest cur e      in the tree of the chains m steps lead from cur to e, for t of which `rest` is left
 --     IsTree cs n      the first n chains are in the tree, each where its transaction leads
 --     Linked xs cs n      so are all links and chains, and each of these slots has a chain
---     sought_by c      what the walk of the chain c looks for
+--     given_at b xs i      what is taken out of the slot i
+--     sought_by c, part_of c      what the walk of the chain c looks for
 --     Holds b xs      for each slot an operation lies in the arena, whose key's hash the slot knows
 --     IsChained b xs cs      so they do, and all are linked
 --     Carried b xs d ys      ys are the slots xs, whose operations were moved to the arena d
 use Rattle.std.specs.Prelude.{◌≡◌, ◌≢◌, ℕ, zero, suc, ◌+◌, ◌-◌, ◌≤◌, ◌<◌, ◌^◌, ◌*◌, ◌%◌, min, Bool, true, false, ◌&&◌, ◌==◌, List, []}
 use Rattle.std.specs.Prelude.{◌∷◌}
-use Rattle.std.specs.Prelude.{Option, Some, None}
+use Rattle.std.specs.Prelude.{Option, Some, None, IfSome}
 use Rattle.std.specs.Prelude.{length, map, filter, slice_index_or, slice_set, nat_le, is_some, if◌then◌else◌}
 use Rattle.std.specs.Option.{option_map_or}
 use Rattle.xc_record.specs.Hash.{hash_of}
 use Rattle.xc_record.specs.Kept.{KeyWaiting}
 use Rattle.xc_record.specs.Packed.{encode_op}
 use Rattle.xc_arena.specs.Arena.{key_at, op_at, Lies}
-use Rattle.xc_intents.specs.HeldOps.{Sought, held_op, in_range}
+use Rattle.std.specs.List.{find}
+use Rattle.std.specs.Option.{option_map}
+use Rattle.xc_intents.specs.declared.held.Held.{Held}
+use Rattle.xc_intents.specs.HeldOps.{Sought, held_op, in_range, is_part, given, without_first}
 use Rattle.xc_intents.specs.declared.limits.TheConstants.{MOST_LINKED}
 use Rattle.xc_intents.specs.declared.slots.Slot.{Slot}
 use Rattle.xc_intents.specs.declared.slots.Chain.{Chain}
@@ -49,6 +53,9 @@ blank = record { next = None; txn = 0; hash = 0; sub = 0; live = false; at = 0 }
 
 abbrev pub at : List Slot → ℕ → Slot
 at xs i = slice_index_or xs i blank
+
+abbrev pub given_at : List ℕ → List Slot → ℕ → Held
+given_at b xs i = given (slot_op b (at xs i))
 
 abbrev pub no_chain : ℕ → Chain
 no_chain t = record { txn = t; first = None; last = None; lo = 0; hi = 0; passed = None; left = None; right = None }
@@ -220,10 +227,11 @@ pub record IsChained (b : List ℕ) (xs : List Slot) (cs : List Chain) : Type 0 
   pub small : length xs ≤ MOST_LINKED
   pub few : length cs ≤ MOST_LINKED
 
--- and so many of them are dead
-pub record AreSlots (b : List ℕ) (xs : List Slot) (cs : List Chain) (dead : ℕ) : Type 0 where
+-- and so many of them are dead, and one of them is that of what was taken out last
+pub record AreSlots (b : List ℕ) (xs : List Slot) (cs : List Chain) (dead : ℕ) (taken : Option ℕ) : Type 0 where
   pub chained : IsChained b xs cs
   pub count : length (held_in b xs) + dead ≡ length xs
+  pub within : IfSome taken (λ i. i < length xs)
 
 -- a slot but for the place of its operation
 abbrev pub unplaced : Slot → Slot
@@ -259,6 +267,17 @@ IsFound xs c (Some i) = IsFirst xs c i
 -- a chain of which a walk looks for hashes of the transaction in this range
 abbrev pub walk_of : ℕ → ℕ → ℕ → Chain
 walk_of t lo hi = record (no_chain t) { lo = lo; hi = hi }
+
+abbrev pub part_of : Chain → KeyWaiting → Bool
+part_of c = is_part c.txn c.lo c.hi
+
+-- the next operation that the walk of the chain e looks for was taken out, that of the slot o, or there is none
+pub record TakesNext (b : List ℕ) (xs : List Slot) (cs : List Chain) (ys : List Slot) (ds : List Chain) (e : ℕ) (o : Option ℕ)
+    : Type 0 where
+  pub chained : IsChained b ys ds
+  pub within : IfSome o (λ i. i < length ys)
+  pub taken : option_map (given_at b ys) o ≡ option_map given (find (part_of (chain_at cs e)) (held_in b xs))
+  pub left : held_in b ys ≡ without_first (part_of (chain_at cs e)) (held_in b xs)
 
 abbrev pub sought_by : Chain → Sought
 sought_by c = record { txn = c.txn; lo = c.lo; hi = c.hi }

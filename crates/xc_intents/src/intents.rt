@@ -3,17 +3,17 @@
 // is live, all begins anew.
 ghost use Rattle.std.specs.Prelude.{◌≡◌, ◌≤◌, ◌+◌, ◌++◌, ◌∷◌, [], length, filter, OnOk, None, Some, true, false};
 ghost use Rattle.std.specs.List.{find};
-ghost use Rattle.std.specs.Option.{option_map};
+ghost use Rattle.std.specs.Option.{option_map, is_some};
 ghost use Rattle.xc_intents.specs.HeldOps.{held_op, is_part, is_rest, is_sought, without_first, given};
 ghost use Rattle.xc_intents.specs.Gifts.{WalksGiveAll};
 
 use crate::held::Held;
 use crate::limits::MOST_LINKED;
-use crate::slots::{Chain, Slot, append, gather, live_bytes, take_next, walk};
+use crate::slots::{Chain, Slot, append, gather, held_at, live_bytes, take_next, walk};
 use std::alloc::{AllocError, Global};
 use std::marker::Model;
 use xc_arena::{ARENA_BYTES, OP_BYTES, reserve_ops};
-use xc_record::Op;
+use xc_record::OpAt;
 
 /// The operations that wait, in the order in which they were held. Contracts see them as that list, beside for how many
 /// more there is room, and what a walk looks for.
@@ -27,6 +27,8 @@ pub struct Intents {
     dead: usize,
     // the chain that was asked for last, which is tried first, and whose walk `take_next` goes on
     recent: usize,
+    // the slot of the operation that was taken out last, until slots move
+    taken: Option<usize>,
     alloc: Global,
 }
 
@@ -39,16 +41,17 @@ impl Model for Intents {
     ghost use Rattle.std.specs.Prelude.{slice_get, min};
     ghost use Rattle.std.specs.Option.{option_map};
     ghost use Rattle.xc_arena.specs.Arena.{room_of};
-    ghost use Rattle.xc_intents.specs.Slots.{held_in, room_in, sought_by, AreSlots};
+    ghost use Rattle.xc_intents.specs.Slots.{held_in, room_in, sought_by, given_at, AreSlots};
 
     ghost view = { λ i. record {
       held = held_in i.arena.items i.slots.items;
       spare = min (room_in (vec_capacity i.slots) (vec_len i.slots)
           (vec_capacity i.chains) (vec_len i.chains)) (room_of i.arena);
       sought = option_map sought_by (slice_get i.chains.items i.recent);
+      taken = option_map (given_at i.arena.items i.slots.items) i.taken;
     } };
 
-    ghost invariant = { λ i. AreSlots i.arena.items i.slots.items i.chains.items i.dead };
+    ghost invariant = { λ i. AreSlots i.arena.items i.slots.items i.chains.items i.dead i.taken };
 }
 
 impl Intents {
@@ -62,6 +65,7 @@ impl Intents {
             chains: Vec::new(alloc),
             dead: 0,
             recent: 0,
+            taken: None,
             alloc,
         }
     }
@@ -114,6 +118,7 @@ impl Intents {
         gather(&self.arena, &mut arena, &mut self.slots, &mut self.chains);
         self.arena = arena;
         self.dead = 0;
+        self.taken = None;
     }
 
     // Takes memory for so many more.
@@ -133,9 +138,9 @@ impl Intents {
     }
 
     /// Holds the operation of an intent of the transaction, behind all others. It takes no memory.
-    pub fn hold(&mut self, txn: u32, sub: u8, op: Op)
+    pub fn hold(&mut self, txn: u32, sub: u8, op: &OpAt<'_>)
         requires { 1 ≤ self.old.spare }
-        ensures held { self.new.held ≡ self.old.held ++ held_op txn sub op ∷ [] }
+        ensures held { self.new.held ≡ self.old.held ++ held_op txn sub op.now ∷ [] }
         ensures room { self.old.spare ≤ self.new.spare + 1 }
     {
         self.start_over();
@@ -146,8 +151,7 @@ impl Intents {
             &mut self.recent,
             txn,
             sub,
-            op.key,
-            op.value,
+            op,
         );
     }
 
@@ -169,38 +173,53 @@ impl Intents {
         }
     }
 
-    /// Takes out the next operation of the walk: None exactly where none is left that it looks for. A walk passes once
-    /// over each of the transaction's operations, those out of the range too, and one for a range that the last walk's
-    /// holds goes on where that stood. Other calls than this one may end a walk.
-    pub fn take_next(&mut self) -> Option<Held>
-        ensures taken { result ≡ option_map given (find (is_sought self.old.sought) self.old.held) }
+    /// Takes out the next operation of the walk, which `taken` gives: False exactly where none is left that it looks
+    /// for. A walk passes once over each of the transaction's operations, those out of the range too, and one for a
+    /// range that the last walk's holds goes on where that stood. Other calls than this one may end a walk.
+    pub fn take_next(&mut self) -> bool
+        ensures taken { self.new.taken ≡ option_map given (find (is_sought self.old.sought) self.old.held) }
+        ensures some { result ≡ is_some self.new.taken }
         ensures left { self.new.held ≡ without_first (is_sought self.old.sought) self.old.held }
         ensures sought { self.new.sought ≡ self.old.sought }
         ensures room { self.old.spare ≤ self.new.spare }
     {
+        self.taken = None;
         if self.recent >= self.chains.len() {
-            return None;
+            return false;
         }
-        match take_next(&self.arena, &mut self.slots, &mut self.chains, self.recent) {
-            None => None,
-            Some(held) => {
+        match take_next(&mut self.slots, &mut self.chains, self.recent) {
+            None => false,
+            Some(i) => {
+                self.taken = Some(i);
                 self.dead += 1;
-                Some(held)
+                true
             }
         }
     }
 
-    /// Takes out the first operation of the transaction whose key's hash is from `lo` to `hi`: None exactly where there
-    /// is none. It is the first step of a walk.
-    pub fn take_first(&mut self, txn: u32, lo: u16, hi: u16) -> Option<Held>
-        ensures taken { result ≡ option_map given (find (is_part txn lo hi) self.old.held) }
+    /// The operation that the last call took out, where it was `take_next` or `take_first` and there was one.
+    pub fn taken(&self) -> Option<Held<'_>>
+        ensures { result ≡ self.now.taken }
+    {
+        match self.taken {
+            None => None,
+            Some(i) => Some(held_at(&self.arena, &self.slots, i)),
+        }
+    }
+
+    /// Takes out the first operation of the transaction whose key's hash is from `lo` to `hi`, which `taken` gives:
+    /// False exactly where there is none. It is the first step of a walk.
+    pub fn take_first(&mut self, txn: u32, lo: u16, hi: u16) -> bool
+        ensures taken { self.new.taken ≡ option_map given (find (is_part txn lo hi) self.old.held) }
+        ensures some { result ≡ is_some self.new.taken }
         ensures left { self.new.held ≡ without_first (is_part txn lo hi) self.old.held }
         ensures room { self.old.spare ≤ self.new.spare }
     {
         if self.begin(txn, lo, hi) {
             self.take_next()
         } else {
-            None
+            self.taken = None;
+            false
         }
     }
 
@@ -212,7 +231,7 @@ impl Intents {
         if !self.begin(txn, lo, hi) {
             return;
         }
-        while self.take_next().is_some() {}
+        while self.take_next() {}
     }
 
     /// Takes out all operations.
@@ -224,6 +243,7 @@ impl Intents {
         self.slots.clear();
         self.chains.clear();
         self.dead = 0;
+        self.taken = None;
     }
 
     /// How many operations are held.

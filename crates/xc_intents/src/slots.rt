@@ -8,10 +8,10 @@ ghost use Rattle.xc_intents.specs.declared.slots.Slot.{Slot};
 ghost use Rattle.xc_record.specs.Hash.{hash_of};
 ghost use Rattle.std.specs.List.{find};
 ghost use Rattle.std.specs.Option.{option_map};
-ghost use Rattle.xc_intents.specs.HeldOps.{in_range, is_part, without_first, given};
+ghost use Rattle.xc_intents.specs.HeldOps.{in_range, is_part, without_first, given, held_op};
 ghost use Rattle.xc_intents.specs.Slots.{Linked, IsTree, HasChain, NoChain, SameWalk, chain_at, at, in_walk, mine};
 ghost use Rattle.xc_intents.specs.Slots.{held_in, next_of, chain_to, slots_to, begun, Moves, IsFound, bare};
-ghost use Rattle.xc_intents.specs.Slots.{chain_and, slots_and, walk_of, IsChained, fresh, dead, slot_op, is_live, cut};
+ghost use Rattle.xc_intents.specs.Slots.{chain_and, slots_and, walk_of, IsChained, fresh, dead, is_live, cut, given_at, TakesNext};
 ghost use Rattle.xc_intents.specs.Slots.{Keeps, Holds, Carried, size_of};
 ghost use Rattle.xc_arena.specs.Arena.{room_of};
 ghost use Rattle.xc_arena.specs.declared.limits.TheConstants.{ARENA_BYTES};
@@ -20,9 +20,8 @@ ghost use Rattle.xc_intents.specs.declared.limits.TheConstants.{MOST_LINKED};
 use crate::held::Held;
 use crate::link::Link;
 use crate::tree::{drop_unused, find, open};
-use xc_arena::{key, move_op, op_bytes, put_op, value_of};
-use xc_base::{Key, Value};
-use xc_record::{Op, hash};
+use xc_arena::{copy_op, move_op, op, op_bytes};
+use xc_record::{OpAt, hash_bytes};
 
 /// Where an operation begins in the arena, the slot after it in its transaction's chain, and whether it is still held.
 #[derive(Drop, Debug, Clone, Copy)]
@@ -174,7 +173,7 @@ fn link(slots: &mut [Slot], chains: &mut [Chain], e: usize, i: u32)
 }
 
 // Puts behind all others a slot of the operation that begins at the place, which is in no chain yet.
-fn put_last(slots: &mut Vec<Slot>, txn: u32, sub: u8, key: &Key, at: u32)
+fn put_last(slots: &mut Vec<Slot>, txn: u32, sub: u8, key: &[u8], at: u32)
     requires { vec_len slots.old < vec_capacity slots.old }
     ensures slots { slots.new.items ≡ slots.old.items ++ fresh txn sub key.now at ∷ [] }
     ensures len { vec_len slots.new ≡ vec_len slots.old + 1 }
@@ -183,7 +182,7 @@ fn put_last(slots: &mut Vec<Slot>, txn: u32, sub: u8, key: &Key, at: u32)
     slots.push_reserved(Slot {
         next: Link::none(),
         txn,
-        hash: hash(key),
+        hash: hash_bytes(key),
         sub,
         live: true,
         at,
@@ -198,8 +197,7 @@ pub(crate) fn append(
     recent: &mut usize,
     txn: u32,
     sub: u8,
-    key: Key,
-    value: Option<Value>,
+    op: &OpAt<'_>,
 )
     requires chained { IsChained arena.old.items slots.old.items chains.old.items }
     requires op { 1 ≤ room_of arena.old }
@@ -209,7 +207,7 @@ pub(crate) fn append(
     requires few { vec_len chains.old < MOST_LINKED }
     ensures chained { IsChained arena.new.items slots.new.items chains.new.items }
     ensures held { held_in arena.new.items slots.new.items ≡ held_in arena.old.items slots.old.items
-        ++ record { key = key; txn = txn; sub = sub; value = value } ∷ [] }
+        ++ held_op txn sub op.now ∷ [] }
     ensures arena { room_of arena.old ≤ room_of arena.new + 1 }
     ensures slots { vec_len slots.new ≡ vec_len slots.old + 1 }
     ensures chains { vec_len chains.new ≤ vec_len chains.old + 1 }
@@ -217,9 +215,9 @@ pub(crate) fn append(
     ensures chains_capacity { vec_capacity chains.new ≡ vec_capacity chains.old }
 {
     let at = arena.len() as u32;
-    put_op(arena, &key, &value);
+    copy_op(arena, op);
     let i = slots.len();
-    put_last(slots, txn, sub, &key, at);
+    put_last(slots, txn, sub, op.key_bytes(), at);
     let e = open(chains, *recent, txn);
     *recent = e;
     link(slots, chains, e, i as u32);
@@ -243,43 +241,44 @@ pub(crate) fn walk(chains: &mut [Chain], recent: usize, txn: u32, lo: u16, hi: u
 }
 
 // Takes out the operation of the slot, which dies.
-fn take_out(bytes: &[u8], slots: &mut [Slot], i: usize) -> Held
-    requires within { i < length slots.old }
-    requires keeps { Keeps bytes.now (at slots.old i) }
-    ensures slots { slots.new ≡ slice_set slots.old i (dead (at slots.old i)) }
-    ensures held { result ≡ given (slot_op bytes.now (at slots.old i)) }
+fn take_out(slots: &mut [Slot], i: usize)
+    requires { i < length slots.old }
+    ensures { slots.new ≡ slice_set slots.old i (dead (at slots.old i)) }
 {
     let slot = &mut slots[i];
     slot.live = false;
+}
+
+/// The operation of the slot, where it lies.
+pub(crate) fn held_at<'a>(bytes: &'a [u8], slots: &[Slot], i: usize) -> Held<'a>
+    requires holds { Holds bytes.now slots.now }
+    requires within { i < length slots.now }
+    ensures { result ≡ given_at bytes.now slots.now i }
+{
+    let slot = &slots[i];
     Held {
         sub: slot.sub,
-        op: Op {
-            key: key(bytes, slot.at),
-            value: value_of(bytes, slot.at),
-        },
+        op: op(bytes, slot.at),
     }
 }
 
-/// Takes out the next operation that the walk of the chain looks for: its slot dies.
-pub(crate) fn take_next(
-    bytes: &[u8],
-    slots: &mut [Slot],
-    chains: &mut [Chain],
-    e: usize,
-) -> Option<Held>
-    requires chained { IsChained bytes.now slots.old chains.old }
+/// Takes out the next operation that the walk of the chain looks for, and gives its slot, which dies.
+pub(crate) fn take_next(slots: &mut [Slot], chains: &mut [Chain], e: usize) -> Option<usize>
+    requires linked { Linked slots.old chains.old (length slots.old) }
+    requires small { length slots.old ≤ MOST_LINKED }
     requires chain { e < length chains.old }
-    ensures chained { IsChained bytes.now slots.new chains.new }
     ensures chains { length chains.new ≡ length chains.old }
+    ensures slots { length slots.new ≡ length slots.old }
     ensures walk { SameWalk (chain_at chains.old e) (chain_at chains.new e) }
-    ensures taken { let c = chain_at chains.old e in
-        result ≡ option_map given (find (is_part c.txn c.lo c.hi) (held_in bytes.now slots.old)) }
-    ensures left { let c = chain_at chains.old e in
-        held_in bytes.now slots.new ≡ without_first (is_part c.txn c.lo c.hi) (held_in bytes.now slots.old) }
+    ensures taken { (b : List ℕ) → IsChained b slots.old chains.old
+        → TakesNext b slots.old chains.old slots.new chains.new e result }
 {
     match seek(slots, chains, e) {
         None => None,
-        Some(i) => Some(take_out(bytes, slots, i)),
+        Some(i) => {
+            take_out(slots, i);
+            Some(i)
+        }
     }
 }
 

@@ -1,29 +1,39 @@
 ghost use Rattle.std.specs.Prelude.{◌≤◌, ◌<◌};
 
 use super::*;
-use std::alloc::AllocError;
+use std::alloc::{AllocError, Global};
 use std::test::Fail;
 use xc_base::{Key, Value};
-use xc_record::{Op, hash};
+use xc_record::{Op, Ops, hash};
 
-// The hash of mmm is 42701, of aaa 30785, of ttt 49652.
-fn op(name: &str) -> Option<Op> {
-    Some(Op {
-        key: Key::new(name.as_bytes()).ok()?,
-        value: None,
-    })
-}
-
-fn hold(intents: &mut Intents, txn: u32, sub: u8, name: &str) -> Result<(), AllocError> {
-    intents.reserve(1)?;
-    if let Some(op) = op(name) {
-        intents.hold(txn, sub, op);
+// Holds an operation of a transaction.
+fn hold_op(
+    alloc: Global,
+    intents: &mut Intents,
+    txn: u32,
+    sub: u8,
+    op: Op,
+) -> Result<(), AllocError> {
+    let mut ops = Ops::new(alloc);
+    ops.push(op)?;
+    for op in ops.iter() {
+        intents.reserve(1)?;
+        intents.hold(txn, sub, &op);
     }
     Ok(())
 }
 
+// The hash of mmm is 42701, of aaa 30785, of ttt 49652.
+fn hold(alloc: Global, intents: &mut Intents, txn: u32, sub: u8, name: &str) -> Result<(), Fail> {
+    let op = Op {
+        key: Key::new(name.as_bytes())?,
+        value: None,
+    };
+    Ok(hold_op(alloc, intents, txn, sub, op)?)
+}
+
 // Three operations of transaction 7 between two of transaction 8.
-fn filled(rt: &HostRuntime) -> Result<Intents, AllocError> {
+fn filled(rt: &HostRuntime) -> Result<Intents, Fail> {
     let mut intents = Intents::new(rt.alloc());
     for (txn, sub, name) in [
         (8, 0, "aaa"),
@@ -32,18 +42,16 @@ fn filled(rt: &HostRuntime) -> Result<Intents, AllocError> {
         (7, 3, "mmm"),
         (8, 4, "mmm"),
     ] {
-        hold(&mut intents, txn, sub, name)?;
+        hold(rt.alloc(), &mut intents, txn, sub, name)?;
     }
     Ok(intents)
 }
 
 // The subtransaction of what is taken, or 99.
 fn taken(intents: &mut Intents, txn: u32, lo: u16, hi: u16) -> u8 {
-    match intents.take_first(txn, lo, hi) {
-        Some(Held { sub, op }) => {
-            let _value: Option<Value> = op.value;
-            sub
-        }
+    intents.take_first(txn, lo, hi);
+    match intents.taken() {
+        Some(held) => held.sub,
         None => 99,
     }
 }
@@ -74,7 +82,7 @@ fn what_is_forgotten_is_of_the_transaction_and_the_range(rt: HostRuntime) -> Res
     let mut intents = filled(&rt)?;
     intents.forget(7, 42000, 65535);
     assert!(rt; intents.len() == 3);
-    hold(&mut intents, 7, 5, "mmm")?;
+    hold(rt.alloc(), &mut intents, 7, 5, "mmm")?;
     assert!(rt; taken(&mut intents, 7, 0, 65535) == 2);
     assert!(rt; taken(&mut intents, 7, 0, 65535) == 5);
     intents.clear();
@@ -134,7 +142,12 @@ fn take_plain(plain: &mut Vec<Plain>, txn: u32, lo: u16, hi: u16) -> Option<Plai
 }
 
 // Holds a random operation in both.
-fn hold_both(intents: &mut Intents, plain: &mut Vec<Plain>, state: &mut u64) -> Option<()> {
+fn hold_both(
+    alloc: Global,
+    intents: &mut Intents,
+    plain: &mut Vec<Plain>,
+    state: &mut u64,
+) -> Option<()> {
     let txn = some_transaction(state);
     let sub = random(state, 65) as u8;
     let name = random(state, 200) as u8;
@@ -144,9 +157,7 @@ fn hold_both(intents: &mut Intents, plain: &mut Vec<Plain>, state: &mut u64) -> 
     } else {
         Value::new(key.bytes()).ok()
     };
-    let op = Op { key, value };
-    intents.reserve(1).ok()?;
-    intents.hold(txn, sub, op);
+    hold_op(alloc, intents, txn, sub, Op { key, value }).ok()?;
     let hash = hash(&key);
     plain
         .push(Plain {
@@ -159,13 +170,13 @@ fn hold_both(intents: &mut Intents, plain: &mut Vec<Plain>, state: &mut u64) -> 
 }
 
 // What both give is the same.
-fn same_taken(got: &Option<Held>, want: &Option<Plain>) -> bool {
-    match (got, want) {
+fn same_taken(intents: &Intents, want: &Option<Plain>) -> bool {
+    match (intents.taken(), want) {
         (None, None) => true,
         (Some(held), Some(item)) => {
             held.sub == item.sub
-                && held.op.key.bytes() == [97 + item.name % 20, 97 + item.name / 20].as_slice()
-                && held.op.value.is_none() == (item.name % 3 == 0)
+                && held.op.key_bytes() == [97 + item.name % 20, 97 + item.name / 20].as_slice()
+                && held.op.value().is_none() == (item.name % 3 == 0)
         }
         _ => false,
     }
@@ -177,11 +188,11 @@ fn walk_both(intents: &mut Intents, plain: &mut Vec<Plain>, txn: u32, lo: u16, h
         return take_plain(plain, txn, lo, hi).is_none();
     }
     for _ in 0..=plain.len() {
-        let got = intents.take_next();
-        if !same_taken(&got, &take_plain(plain, txn, lo, hi)) {
+        let more = intents.take_next();
+        if !same_taken(intents, &take_plain(plain, txn, lo, hi)) {
             return false;
         }
-        if got.is_none() {
+        if !more {
             return true;
         }
     }
@@ -189,15 +200,19 @@ fn walk_both(intents: &mut Intents, plain: &mut Vec<Plain>, txn: u32, lo: u16, h
 }
 
 // One random call of both: whether they answered the same.
-fn call_both(intents: &mut Intents, plain: &mut Vec<Plain>, state: &mut u64) -> Option<bool> {
+fn call_both(
+    alloc: Global,
+    intents: &mut Intents,
+    plain: &mut Vec<Plain>,
+    state: &mut u64,
+) -> Option<bool> {
     let txn = some_transaction(state);
     let (lo, hi) = some_range(state);
     match random(state, 400) {
-        0..=249 => hold_both(intents, plain, state)?,
+        0..=249 => hold_both(alloc, intents, plain, state)?,
         250..=364 => {
-            let got = intents.take_first(txn, lo, hi);
-            let want = take_plain(plain, txn, lo, hi);
-            if !same_taken(&got, &want) {
+            intents.take_first(txn, lo, hi);
+            if !same_taken(intents, &take_plain(plain, txn, lo, hi)) {
                 return Some(false);
             }
         }
@@ -224,7 +239,7 @@ fn random_calls_answer_as_those_of_a_plain_list(rt: HostRuntime) -> Result<(), F
     let mut plain = Vec::new(rt.alloc());
     let mut state = 1;
     for call in 0..50_000u32 {
-        let same = call_both(&mut intents, &mut plain, &mut state).ok_or("memory")?;
+        let same = call_both(rt.alloc(), &mut intents, &mut plain, &mut state).ok_or("memory")?;
         assert!(rt; same, "call {call}");
     }
     Ok(())

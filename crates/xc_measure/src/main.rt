@@ -7,7 +7,7 @@ use std::alloc::Global;
 use std::env;
 use xc_base::{Key, Value};
 use xc_intents::Intents;
-use xc_record::Op;
+use xc_record::{Op, Ops};
 use xc_versions::Versions;
 
 // The order in which commits come.
@@ -107,15 +107,26 @@ fn number_of(keys: Keys, commit: u64) -> u64 {
     }
 }
 
+// The write of the key of this number, alone.
+fn write(ops: &mut Ops, n: u64) -> Option<()> {
+    ops.clear();
+    let op = Op {
+        key: name(n)?,
+        value: written(),
+    };
+    ops.push(op).ok()
+}
+
 fn fill(alloc: Global, n: u64, keys: Keys, order: Order) -> Option<Versions> {
     let mut versions = Versions::new(alloc);
     versions.reserve(n as usize).ok()?;
+    let mut ops = Ops::new(alloc);
     for i in 0..n {
         let commit = commit_of(order, i, n);
         let number = number_of(keys, commit);
-        let key = name(number)?;
-        let value = written();
-        versions.add(key, commit, 0, i, value);
+        write(&mut ops, number)?;
+        let op = ops.iter().next()?;
+        versions.add(&op, commit, 0, i);
     }
     Some(versions)
 }
@@ -156,10 +167,11 @@ fn read(versions: &Versions, keys: Keys, n: u64) -> u64 {
 fn hold(alloc: Global, n: u64) -> Option<Intents> {
     let mut held = Intents::new(alloc);
     held.reserve(n as usize).ok()?;
+    let mut ops = Ops::new(alloc);
     for i in 0..n {
-        let key = name(i)?;
-        let value = written();
-        held.hold(1, 0, Op { key, value });
+        write(&mut ops, i)?;
+        let op = ops.iter().next()?;
+        held.hold(1, 0, &op);
     }
     Some(held)
 }

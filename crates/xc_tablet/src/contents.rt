@@ -71,7 +71,7 @@ impl Contents {
         ensures adds { Adds (count_in self.old.lo self.old.hi (op.now ∷ [])) 0 self.old self.new }
     {
         if self.has(header, op) {
-            self.versions.add(op.key(), time, 0, self.next, op.value());
+            self.versions.add(op, time, 0, self.next);
             self.next += 1;
         }
     }
@@ -99,7 +99,7 @@ impl Contents {
         ensures adds { Adds 0 (count_in self.old.lo self.old.hi (op.now ∷ [])) self.old self.new }
     {
         if self.has(header, op) {
-            self.held.hold(txn, sub, op.get());
+            self.held.hold(txn, sub, op);
         }
     }
 
@@ -129,14 +129,14 @@ impl Contents {
         ensures one { result ≡ true → length self.new.held.held < length self.old.held.held }
         ensures done { result ≡ false → find (is_sought self.new.held.sought) self.new.held.held ≡ None }
     {
-        let Some(held) = self.held.take_next() else {
+        self.held.take_next();
+        let Some(held) = self.held.taken() else {
             return false;
         };
         if without.contains(held.sub) {
             return true;
         }
-        self.versions
-            .add(held.op.key, commit, txn, self.next, held.op.value);
+        self.versions.add(&held.op, commit, txn, self.next);
         self.next += 1;
         true
     }

@@ -27,6 +27,7 @@ mod tests {
     use std::alloc::Global;
     use std::test::Fail;
     use xc_base::{Key, Value};
+    use xc_record::{Op, Ops};
 
     // Versions that commit at 1, 2 and so on, each with a key and a value, or a removal where the text is no value.
     fn rising(alloc: Global, list: &[(&str, &str)]) -> Result<Versions, Fail>
@@ -37,8 +38,13 @@ mod tests {
         let mut commit = 0;
         for (key, value) in list {
             commit += 1;
-            let key = Key::any(key.as_bytes())?;
-            versions.add(key, commit, 0, 0, Value::new(value.as_bytes()).ok());
+            let mut ops = Ops::new(alloc);
+            ops.push(Op {
+                key: Key::any(key.as_bytes())?,
+                value: Value::new(value.as_bytes()).ok(),
+            })?;
+            let op = ops.iter().next().ok_or("no operation")?;
+            versions.add(&op, commit, 0, 0);
         }
         Ok(versions)
     }

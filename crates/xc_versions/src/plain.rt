@@ -6,6 +6,7 @@ use super::*;
 use std::alloc::{AllocError, Global};
 use std::test::Fail;
 use xc_base::{Key, Value};
+use xc_record::{Op, Ops};
 
 // A version of the plain list, which has them in the order in which they came.
 #[derive(Clone, Copy, Debug)]
@@ -130,6 +131,7 @@ fn same_rows(alloc: Global, versions: &Versions, items: &[Plain], t: u64) -> Res
 
 // Adds a version to both.
 fn add(
+    alloc: Global,
     versions: &mut Versions,
     items: &mut Vec<Plain>,
     state: &mut u64,
@@ -145,8 +147,11 @@ fn add(
     let number = next(state, 3);
     let txn = number as u32;
     let value = some_value(state);
-    let written = text(value);
-    let key = Key::any(KEYS[i].as_bytes())?;
+    let mut ops = Ops::new(alloc);
+    ops.push(Op {
+        key: Key::any(KEYS[i].as_bytes())?,
+        value: text(value),
+    })?;
     versions.reserve(1)?;
     items.push(Plain {
         key: i,
@@ -155,7 +160,8 @@ fn add(
         place,
         value,
     })?;
-    versions.add(key, commit, txn, place, written);
+    let op = ops.iter().next().ok_or("no operation")?;
+    versions.add(&op, commit, txn, place);
     Ok(())
 }
 
@@ -207,7 +213,7 @@ fn run(alloc: Global, seed: u64, calls: u64, commits: u64, rare: u64) -> Result<
             rare,
             place,
         )?;
-        add(&mut versions, &mut items, &mut state, commits, place)?;
+        add(alloc, &mut versions, &mut items, &mut state, commits, place)?;
         let i = next(&mut state, 12) as usize;
         let t = next(&mut state, commits);
         let key = Key::any(KEYS[i].as_bytes())?;

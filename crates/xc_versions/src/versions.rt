@@ -12,8 +12,9 @@ use crate::stored::Slot;
 use std::alloc::Global;
 use std::collections::VecDeque;
 use std::marker::Model;
-use xc_arena::{ARENA_BYTES, key_bytes, put_op, reserve_ops, value_of};
+use xc_arena::{ARENA_BYTES, copy_op, key_bytes, reserve_ops, value_of};
 use xc_base::{Key, NoMemory, Value};
+use xc_record::OpAt;
 
 // An arena in which fewer bytes are of versions that are gone is left as it is.
 const KEPT_BYTES: usize = 4096;
@@ -102,22 +103,22 @@ impl Versions {
     /// Adds a version, for which there is room: what the transaction of this number left at the key when it committed.
     /// The place is the operation's among those that were taken in, so that it tells apart what one transaction did to
     /// a key.
-    pub fn add(&mut self, key: Key, commit: u64, txn: u32, place: u64, value: Option<Value>)
+    pub fn add(&mut self, op: &OpAt<'_>, commit: u64, txn: u32, place: u64)
         requires room { 1 ≤ self.old.spare }
-        requires fresh { IsNew (stored key commit txn place value) self.old.items }
-        ensures items { self.new.items ≡ with_version (stored key commit txn place value) self.old.items }
+        requires fresh { IsNew (stored op.now.key commit txn place op.now.value) self.old.items }
+        ensures items { self.new.items ≡ with_version (stored op.now.key commit txn place op.now.value) self.old.items }
         ensures spare { self.old.spare ≤ self.new.spare + 1 }
         ensures was_ordered { InOrder self.old.items }
         ensures ordered { InOrder self.new.items }
     {
         let slot = Slot {
-            head: Head::of(key.bytes()),
+            head: Head::of(op.key_bytes()),
             commit,
             place,
             txn,
             at: self.arena.len() as u32,
         };
-        put_op(&mut self.arena, &key, &value);
+        copy_op(&mut self.arena, op);
         add(
             &self.arena,
             &mut self.pages,

@@ -7,14 +7,14 @@ use Rattle.xc_measure.proofs.fill.Goals as goal
 
 pub add-requires-clause-fresh : goal.add-requires-clause-fresh
 add-requires-clause-fresh c =
-    let v : StoredVersion = stored c.in_ok-key.key c.commit_of-commit.result 0 c.loop-i.i c.written-value.result in
+    let v : StoredVersion = stored c.in_ok-op.op.key c.commit_of-commit.result 0 c.loop-i.i c.in_ok-op.op.value in
     new-last v c.loop-i.versions.items
     (Each-weaker (λ x. x.place < c.loop-i.i) (λ x. x.key ≡ v.key → x.commit ≡ v.commit → x.txn ≡ v.txn → x.place < v.place) (λ x h a b d. h)
     c.loop-i.versions.items c.loop-i.invariant.earlier)
 
 pub loop-i-preserved : goal.loop-i-preserved
 loop-i-preserved c =
-    let v : StoredVersion = stored c.in_ok-key.key c.commit_of-commit.result 0 c.loop-i.i c.written-value.result in
+    let v : StoredVersion = stored c.in_ok-op.op.key c.commit_of-commit.result 0 c.loop-i.i c.in_ok-op.op.value in
     let before = c.loop-i.invariant.room in
     let spare = c.add.ensures.spare in
     record {

@@ -17,19 +17,22 @@ pub link-requires-clause-linked : goal.link-requires-clause-linked
 link-requires-clause-linked c =
     let xs = c.args.slots.now.items in
     let n : c.len-i.result ≡ length xs = omega (arith, c.args.slots.now.ok.0) in
-    let ys : List Slot = xs ++ fresh c.args.txn c.args.sub c.args.key c.len-at.result ∷ [] in
+    let ys : List Slot = xs ++ fresh c.args.txn c.args.sub c.args.op.now.key c.len-at.result ∷ [] in
     let pushed = subst (Linked ys c.args.chains.now.items) (sym n)
     (Linked-push xs c.args.chains.now.items
-    (fresh c.args.txn c.args.sub c.args.key c.len-at.result) c.requires.chained.linked) in
-    let slots : c.deref_mut.result.now ≡ ys = c.deref_mut.ensures.value ∙ c.put_last.ensures.slots in
+    (fresh c.args.txn c.args.sub c.args.op.now.key c.len-at.result) c.requires.chained.linked) in
+    let slots : c.deref_mut.result.now ≡ ys =
+    c.deref_mut.ensures.value ∙ c.put_last.ensures.slots ∙ ap (λ k. xs ++ fresh c.args.txn c.args.sub k c.len-at.result ∷ []) c.key_bytes.ensures.bytes in
     subst (λ z. Linked z c.deref_mut-2.result.now c.len-i.result) (sym slots)
     (subst (λ z. Linked ys z c.len-i.result) (sym c.deref_mut-2.ensures.value) (c.open-e.ensures.linked ys c.len-i.result pushed))
 
 -- the slots, but for their links, are those before and one more
 pushed : (c : After-link)
     → map bare c.link.new.slots ≡ map bare
-    (c.args.slots.now.items ++ fresh c.args.txn c.args.sub c.args.key c.len-at.result ∷ [])
-pushed c = c.link.ensures.same ∙ ap (map bare) (c.deref_mut.ensures.value ∙ c.put_last.ensures.slots)
+    (c.args.slots.now.items ++ fresh c.args.txn c.args.sub c.args.op.now.key c.len-at.result ∷ [])
+pushed c = c.link.ensures.same ∙ ap (map bare)
+    (c.deref_mut.ensures.value ∙ c.put_last.ensures.slots
+    ∙ ap (λ k. c.args.slots.now.items ++ fresh c.args.txn c.args.sub k c.len-at.result ∷ []) c.key_bytes.ensures.bytes)
 
 slots_are : (c : After-link) → (with_items c.put_last.new.slots c.link.new.slots).items ≡ c.link.new.slots
 slots_are c =
@@ -44,14 +47,14 @@ place : (c : After-link) → c.len-at.result ≡ length c.args.arena.now.items
 place c = omega (arith, c.args.arena.now.ok.0)
 
 abbrev slot : After-link → Slot
-slot c = fresh c.args.txn c.args.sub c.args.key c.len-at.result
+slot c = fresh c.args.txn c.args.sub c.args.op.now.key c.len-at.result
 
-op : (c : After-link) → op_at c.put_op.new.bytes.items c.len-at.result ≡ record { key = c.args.key; value = c.args.value }
-op c = ap (op_at c.put_op.new.bytes.items) (place c) ∙ c.put_op.ensures.op
+op : (c : After-link) → op_at c.copy_op.new.bytes.items c.len-at.result ≡ c.args.op.now
+op c = ap (op_at c.copy_op.new.bytes.items) (place c) ∙ c.copy_op.ensures.op
 
-keeps : (c : After-link) → Keeps c.put_op.new.bytes.items (slot c)
+keeps : (c : After-link) → Keeps c.copy_op.new.bytes.items (slot c)
 keeps c = record {
-  lies = subst (Lies c.put_op.new.bytes.items) (sym (place c)) c.put_op.ensures.lies;
+  lies = subst (Lies c.copy_op.new.bytes.items) (sym (place c)) c.copy_op.ensures.lies;
   hashed = ap (λ (o : Op). hash_of o.key) (sym (op c));
 }
 
@@ -59,12 +62,12 @@ pub returns-clause-chained : goal.returns-clause-chained
 returns-clause-chained c =
     let xs = c.args.slots.now.items in
     let b = c.args.arena.now.items in
-    let d = c.put_op.new.bytes.items in
+    let d = c.copy_op.new.bytes.items in
     let a = (goal.at.returns-clause-chained c).After-link in
     let long = length-bare _ c.link.new.slots (pushed a) in
     let one = length_push xs (slot a) in
     let n : c.len-i.result + 1 ≡ length c.link.new.slots = omega (arith, c.args.slots.now.ok.0) in
-    let old : Holds d xs = subst (λ w. Holds w xs) (sym c.put_op.ensures.items) (holds-more b _ xs c.requires.chained.holds) in
+    let old : Holds d xs = subst (λ w. Holds w xs) (sym c.copy_op.ensures.items) (holds-more b _ xs c.requires.chained.holds) in
     let chained : IsChained d c.link.new.slots c.link.new.chains = record {
       linked = subst (Linked c.link.new.slots c.link.new.chains) n c.link.ensures.linked;
       holds = holds-same d _ c.link.new.slots (pushed a) (holds-push d xs (slot a) (keeps a) old);
@@ -78,8 +81,8 @@ pub returns-clause-held : goal.returns-clause-held
 returns-clause-held c =
     let xs = c.args.slots.now.items in
     let b = c.args.arena.now.items in
-    let d = c.put_op.new.bytes.items in
+    let d = c.copy_op.new.bytes.items in
     let a = (goal.at.returns-clause-held c).After-link in
     ap (held_in d) (slots_are a) ∙ held-same d _ c.link.new.slots (pushed a) ∙ held-push d xs (slot a) refl
-    ∙ ap (λ ws. ws ++ slot_op d (slot a) ∷ []) (ap (λ w. held_in w xs) c.put_op.ensures.items ∙ held-more b _ xs c.requires.chained.holds)
+    ∙ ap (λ ws. ws ++ slot_op d (slot a) ∷ []) (ap (λ w. held_in w xs) c.copy_op.ensures.items ∙ held-more b _ xs c.requires.chained.holds)
     ∙ ap (λ o. held_in b xs ++ held_op c.args.txn c.args.sub o ∷ []) (op a)

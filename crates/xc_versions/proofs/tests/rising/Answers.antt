@@ -7,7 +7,7 @@ use Rattle.xc_versions.proofs.tests.rising.Goals as goal
 
 pub add-requires-clause-fresh : goal.add-requires-clause-fresh
 add-requires-clause-fresh c =
-    let v : StoredVersion = stored c.in_ok-key.key (c.loop-key.commit + 1) 0 0 c.ok.result in
+    let v : StoredVersion = stored c.in_ok-op.op.key (c.loop-key.commit + 1) 0 0 c.in_ok-op.op.value in
     let i = c.loop-key.key-index in
     let count : c.loop-key.commit ≡ i = c.loop-key.invariant.count in
     new-later v c.loop-key.versions.items
@@ -16,7 +16,7 @@ add-requires-clause-fresh c =
 
 pub loop-key-preserved : goal.loop-key-preserved
 loop-key-preserved c =
-    let v : StoredVersion = stored c.in_ok-key.key (c.loop-key.commit + 1) 0 0 c.ok.result in
+    let v : StoredVersion = stored c.in_ok-op.op.key (c.loop-key.commit + 1) 0 0 c.in_ok-op.op.value in
     let i = c.loop-key.key-index in
     let count : c.loop-key.commit ≡ i = c.loop-key.invariant.count in
     let before = c.loop-key.invariant.room in

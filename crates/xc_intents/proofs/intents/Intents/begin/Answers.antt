@@ -15,7 +15,7 @@ chains_are c = with_items_is c.self.inside.chains c.walk.new.chains (omega (arit
 
 kept : (c : After-walk)
     → AreSlots c.self.inside.arena.items c.self.inside.slots.items (with_items c.self.inside.chains c.walk.new.chains).items
-    c.self.inside.dead
+    c.self.inside.dead c.self.inside.taken
 kept c =
     let xs = c.self.inside.slots.items in
     let is = c.self.invariant.chained in
@@ -28,6 +28,7 @@ kept c =
         few = omega (arith, c.walk.ensures.chains, ap length c.deref_mut.ensures.value, is.few);
       });
       count = c.self.invariant.count;
+      within = c.self.invariant.within;
     }
 
 pub invariant_of-self : goal.invariant_of-self

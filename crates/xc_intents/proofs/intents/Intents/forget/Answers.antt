@@ -9,7 +9,7 @@ pub loop-smaller : goal.loop-smaller
 loop-smaller c =
     let hs = c.loop.self.held in
     let part = is_sought c.loop.self.sought in
-    let w = find-by_some part given c.take_next.result hs c.take_next.ensures.taken (sym c.is_some.ensures ∙ c.loop-test.true) in
+    let w = find-by_some part given c.take_next.new.self.taken hs c.take_next.ensures.taken (sym c.take_next.ensures.some ∙ c.loop-test.true) in
     omega (arith, length-without_first part hs w.0 w.1, ap length c.take_next.ensures.left)
 
 pub loop-preserved : goal.loop-preserved
@@ -26,8 +26,8 @@ returns-clause-left c =
     let hs = c.loop.self.held in
     let part = is_part c.args.txn c.args.lo c.args.hi in
     let none = ap (λ s. find (is_sought s) hs) (sym c.loop.invariant.sought)
-    ∙ find-by_none (is_sought c.loop.self.sought) given c.take_next.result hs c.take_next.ensures.taken
-    (sym c.is_some.ensures ∙ c.loop-test.false) in
+    ∙ find-by_none (is_sought c.loop.self.sought) given c.take_next.new.self.taken hs c.take_next.ensures.taken
+    (sym c.take_next.ensures.some ∙ c.loop-test.false) in
     c.take_next.ensures.left ∙ ap (λ s. without_first (is_sought s) hs) c.loop.invariant.sought
     ∙ without_first-none part hs none ∙ sym (filter_others-none part hs none) ∙ c.loop.invariant.others
     ∙ ap (filter (is_rest c.args.txn c.args.lo c.args.hi)) c.begin.ensures.same

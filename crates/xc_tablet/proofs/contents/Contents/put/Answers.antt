@@ -1,14 +1,14 @@
-use Rattle.std.proofs.Common.{refl, ap, sym, ◌∙◌, List, ℕ}
+use Rattle.std.proofs.Common.{refl, sym, ◌∙◌}
 use Rattle.xc_tablet.proofs.ContentsLaws.{put-inside, outside, last-of_counted}
 use Rattle.xc_versions.proofs.VersionLaws.{new-last}
-use Rattle.xc_versions.specs.Stored.{stored, with_version}
-use Rattle.xc_record.specs.Path.{Put, Written}
+use Rattle.xc_versions.specs.Stored.{stored}
+use Rattle.xc_record.specs.Path.{Put}
 use Rattle.xc_tablet.proofs.contents.Contents.put.Goals as goal
 
 pub add-requires-clause-fresh : goal.add-requires-clause-fresh
 add-requires-clause-fresh c =
     let s = c.args.self.now in
-    let v = stored c.key.result c.args.time 0 s.next c.value.result in
+    let v = stored c.args.op.now.key c.args.time 0 s.next c.args.op.now.value in
     new-last v s.versions.items (last-of_counted v s.versions.items c.requires.is.counted)
 
 pub returns-then-has-clause-changes : goal.returns-then-has-clause-changes
@@ -18,9 +18,7 @@ returns-then-has-clause-changes c =
       range = (refl, refl);
       inside = sym c.has.ensures ∙ c.if-has.true;
       at = refl;
-      items = c.add.ensures.items
-          ∙ ap (λ (key : List ℕ). with_version (stored key c.args.time 0 s.next c.value.result) s.versions.items) c.key.ensures
-          ∙ ap (λ (value : Written). with_version (stored c.args.op.now.key c.args.time 0 s.next value) s.versions.items) c.value.ensures;
+      items = c.add.ensures.items;
       next = refl;
     }) refl
 

@@ -160,18 +160,24 @@ pub(crate) fn take_empty(pool: &mut Vec<Page>) -> Page
 }
 
 impl Page {
-    /// No versions yet, and room for 65.
-    pub(crate) fn empty(alloc: Global) -> Result<Page, AllocError>
-        ensures { IfOk result IsEmptyPage }
-    {
+    /// No versions, and no room for one yet: only the page's box takes memory.
+    pub(crate) fn bare(alloc: Global) -> Result<Page, AllocError> {
         let body = PageBody {
-            items: VecDeque::with_capacity(alloc, PAGE + 1)?,
+            items: VecDeque::new(alloc),
             due: 0,
             first: Slot::default(),
         };
         Ok(Page {
             body: Box::new(alloc, body)?,
         })
+    }
+
+    /// No versions, and room for 65.
+    pub(crate) fn with_room(mut self, alloc: Global) -> Result<Page, AllocError>
+        ensures { IfOk result IsEmptyPage }
+    {
+        self.body.items = VecDeque::with_capacity(alloc, PAGE + 1)?;
+        Ok(self)
     }
 
     /// Whether it has no version.

@@ -1,6 +1,6 @@
 // Pages of versions beside a pool of empty ones.
 ghost use Rattle.std.specs.Prelude.{◌≡◌, ◌<◌, ◌≤◌, ◌+◌, [], ◌∷◌, length, min, ◌/◌, vec_capacity};
-ghost use Rattle.std.specs.Prelude.{OnOk, filter, option_map, IfSome};
+ghost use Rattle.std.specs.Prelude.{IfOk, OnOk, filter, option_map, IfSome};
 ghost use Rattle.std.specs.List.{AllByRecursion};
 ghost use Rattle.std.specs.Option.{option_to_list};
 ghost use Rattle.std.specs.Ordering.{is_gt};
@@ -146,7 +146,19 @@ pub(crate) fn put_pages(
     Ok(())
 }
 
-// Puts so many empty pages into the pool, or some of them.
+// So many pages that have no room yet, whose boxes lie near one another.
+fn bare_pages(alloc: Global, count: usize) -> Result<Vec<Page>, AllocError>
+    ensures { IfOk result (λ pages. length pages.items ≡ count) }
+{
+    let mut pages = Vec::with_capacity(alloc, count)?;
+    for _made in 0..count {
+        pages.push_reserved(Page::bare(alloc)?);
+    }
+    Ok(pages)
+}
+
+// Puts so many empty pages into the pool, or some of them. A search reads the boxes of pages and little else, so they
+// are made before the room for versions and lie near one another.
 fn add_empty(alloc: Global, pool: &mut Vec<Page>, more: usize) -> Result<(), AllocError>
     requires empty { AllByRecursion IsEmptyPage pool.old.items }
     requires room { length pool.old.items + more ≤ vec_capacity pool.old }
@@ -156,8 +168,8 @@ fn add_empty(alloc: Global, pool: &mut Vec<Page>, more: usize) -> Result<(), All
     ensures all { OnOk result (length pool.new.items ≡ length pool.old.items + more) }
     ensures capacity { vec_capacity pool.new ≡ vec_capacity pool.old }
 {
-    for _made in 0..more {
-        pool.push_reserved(Page::empty(alloc)?);
+    for page in bare_pages(alloc, more)? {
+        pool.push_reserved(page.with_room(alloc)?);
     }
     Ok(())
 }
@@ -167,6 +179,17 @@ fn pages_for(n: usize, pages: usize) -> usize
     ensures { result ≡ min n (pages + (n / 32 + 1)) }
 {
     n.min(pages.saturating_add(n / 32 + 1))
+}
+
+// How many pages are made where so many are wanted: a thirty-second of those that there are, or more.
+fn at_once(wanted: usize, pages: usize) -> usize
+    ensures { wanted ≤ result }
+{
+    if wanted == 0 {
+        0
+    } else {
+        wanted.max(pages / 32)
+    }
 }
 
 /// Makes room for at least n more versions: n additions split at most as many pages as there are, and one more for each
@@ -185,7 +208,7 @@ pub(crate) fn grow(
     ensures room { OnOk result (n ≤ spare_of pages.new.items (length pool.new.items)) }
 {
     let most = pages_for(n, pages.len());
-    let more = most.saturating_sub(pool.len());
+    let more = at_once(most.saturating_sub(pool.len()), pages.len());
     let vectors = pool.len().saturating_add(more);
     pages.reserve(vectors)?;
     pool.reserve(pages.len().saturating_add(more))?;

@@ -204,15 +204,15 @@ pub record IsHead (f u : ℕ) (k : List ℕ) : Type 0 where
   pub back_is : u ≡ back k
   pub small : u < 18446744073709551616
 
+-- the numbers of a head make up its mark
+marked : (f u : ℕ) (k : List ℕ) → IsHead f u k → mark 0 0 15 k ≡ f * 18446744073709551616 + u
+marked f u k h = let is = mark-words k in let a = h.front_is in let b = h.back_is in omega arith
+
 heads-less : (f u g v : ℕ) (k q : List ℕ) → IsHead f u k → IsHead g v q
     → f * 18446744073709551616 + u < g * 18446744073709551616 + v → slice_cmp nat_cmp k q ≡ Less
 heads-less f u g v k q h i l =
-    let mine = mark-words k in
-    let other = mark-words q in
-    let a = h.front_is in
-    let b = h.back_is in
-    let c = i.front_is in
-    let d = i.back_is in
+    let mine = marked f u k h in
+    let other = marked g v q i in
     marks-less 15 0 0 k q (omega arith) h.bytes i.bytes (omega arith)
 
 heads-more : (f u g v : ℕ) (k q : List ℕ) → IsHead f u k → IsHead g v q
@@ -250,12 +250,8 @@ backs-tell f u g v k q h i e n = told f u g v k q h i (nat_cmp u v) (backs-rank 
 
 pub heads-same : (f u g v : ℕ) (k q : List ℕ) → IsHead f u k → IsHead g v q → f ≡ g → u ≡ v → length k ≤ 15 → Equal ≡ slice_cmp nat_cmp k q
 heads-same f u g v k q h i e n l =
-    let mine = mark-words k in
-    let other = mark-words q in
-    let a = h.front_is in
-    let b = h.back_is in
-    let c = i.front_is in
-    let d = i.back_is in
+    let mine = marked f u k h in
+    let other = marked g v q i in
     let same : k ≡ q = marks-same 15 0 0 k q (omega arith) h.bytes i.bytes (omega arith) l in
     sym (ap (slice_cmp nat_cmp k) (sym same) ∙ tied_itself nat_list_cmp_total k)
 

@@ -1,5 +1,5 @@
 -- A prune of a page, from its last version to its first.
-use Rattle.std.proofs.Common.{◌≡◌, ℕ, suc, ◌+◌, ◌<◌, ◌≤◌, true, false, cond, List, [], ◌∷◌, ◌++◌, length, get_or, take, drop, Option, Some}
+use Rattle.std.proofs.Common.{◌≡◌, ℕ, suc, ◌+◌, ◌<◌, ◌≤◌, Bool, true, false, cond, List, [], ◌∷◌, ◌++◌, length, get_or, take, drop, Option, Some}
 use Rattle.std.proofs.Common.{refl, ap, sym, ◌∙◌, subst, arith, add-one, length-append}
 use Rattle.std.specs.Prelude.{remove, slice_get}
 use Rattle.std.specs.Option.{option_to_list}
@@ -44,6 +44,25 @@ read-old old items i x h k e f =
 shorter : (xs ys : List StoredVersion) (i : ℕ) → take (i + 1) xs ≡ take (i + 1) ys → take i xs ≡ take i ys
 shorter xs ys i e = sym (take-take i (i + 1) xs (omega arith)) ∙ ap (take i) e ∙ take-take i (i + 1) ys (omega arith)
 
+-- what stands behind the version tells whether it is replaced
+told : (u : ℕ) (next : Option StoredVersion) (old items : List StoredVersion) (behind : Option StoredVersion) (due i : ℕ) (x : StoredVersion)
+    → Going u next old items behind due i → (w : ℕ) (rest : List StoredVersion) → slice_get rest 0 ≡ next
+    → next_replaces w x (drop i items ++ rest) ≡ is_due w (next_commit x (option_to_list behind))
+told u next old items behind due i x g w rest r =
+    ap (is_due w) (sym (by-head x (drop i items ++ rest)) ∙ ap (λ o. next_commit x (option_to_list o)) (g.head rest r))
+
+-- a version more of what is pruned
+pruned-more : (u : ℕ) (next : Option StoredVersion) (old items : List StoredVersion) (behind : Option StoredVersion) (due i : ℕ)
+    (x : StoredVersion) (is : Bool) → Going u next old items behind due (i + 1) → drop i old ≡ x ∷ drop (i + 1) old
+    → is_due u (next_commit x (option_to_list behind)) ≡ is → (rest : List StoredVersion) → slice_get rest 0 ≡ next
+    → pruned_before u (drop i old) rest ≡ cond is (drop (i + 1) items ++ rest) (x ∷ (drop (i + 1) items ++ rest))
+pruned-more u next old items behind due i x is g split n rest r =
+    let below = g.tail rest r in
+    let test : next_replaces u x (drop (i + 1) items ++ rest) ≡ is = told u next old items behind due (i + 1) x g u rest r ∙ n in
+    ap (λ ys. pruned_before u ys rest) split
+    ∙ ap (λ ys. cond (next_replaces u x ys) ys (x ∷ ys)) (sym below)
+    ∙ ap (λ b. cond b (drop (i + 1) items ++ rest) (x ∷ (drop (i + 1) items ++ rest))) test
+
 -- the version stays
 pub going-kept : (u : ℕ) (next : Option StoredVersion) (old items : List StoredVersion) (behind : Option StoredVersion) (due later i : ℕ)
     (x : StoredVersion) → Going u next old items behind due (i + 1) → x ≡ get_or items i x
@@ -61,22 +80,11 @@ going-kept u next old items behind due later i x g e n l =
       long = g.long;
       short = omega arith;
       front = shorter items old i g.front;
-      tail = λ rest r.
-          let below = g.tail rest r in
-          let test : next_replaces u x (pruned_before u (drop (i + 1) old) rest) ≡ false =
-          ap (λ ys. is_due u (next_commit x ys)) (sym below)
-          ∙ ap (is_due u) (sym (by-head x (drop (i + 1) items ++ rest)) ∙ ap (λ o. next_commit x (option_to_list o)) (g.head rest r))
-          ∙ n
-          in
-          ap (λ ys. ys ++ rest) split ∙ ap (λ ys. x ∷ ys) below
-          ∙ sym (ap (λ ys. pruned_before u ys rest) split_old
-          ∙ ap (λ b. cond b (pruned_before u (drop (i + 1) old) rest) (x ∷ pruned_before u (drop (i + 1) old) rest)) test);
+      tail = λ rest r. ap (λ ys. ys ++ rest) split ∙ sym (pruned-more u next old items behind due i x false g split_old n rest r);
       head = λ rest r. ap (λ ys. slice_get (ys ++ rest) 0) split;
       idle = λ v rest r k.
           let later = l v k in
-          let test : next_replaces v x (drop (i + 1) items ++ rest) ≡ false =
-          ap (is_due v) (sym (by-head x (drop (i + 1) items ++ rest)) ∙ ap (λ o. next_commit x (option_to_list o)) (g.head rest r))
-          ∙ later.1 in
+          let test = told u next old items behind due (i + 1) x g v rest r ∙ later.1 in
           subst (λ (ys : List StoredVersion). IdleNext v ys rest) (sym split) (test, g.idle v rest r later.0);
     }
 
@@ -101,16 +109,7 @@ going-removed u next old items behind due i x g e n =
       long = omega arith;
       short = omega arith;
       front = before ∙ shorter items old i g.front;
-      tail = λ rest r.
-          let below = g.tail rest r in
-          let test : next_replaces u x (pruned_before u (drop (i + 1) old) rest) ≡ true =
-          ap (λ ys. is_due u (next_commit x ys)) (sym below)
-          ∙ ap (is_due u) (sym (by-head x (drop (i + 1) items ++ rest)) ∙ ap (λ o. next_commit x (option_to_list o)) (g.head rest r))
-          ∙ n
-          in
-          ap (λ ys. ys ++ rest) after ∙ below
-          ∙ sym (ap (λ ys. pruned_before u ys rest) split_old
-          ∙ ap (λ b. cond b (pruned_before u (drop (i + 1) old) rest) (x ∷ pruned_before u (drop (i + 1) old) rest)) test);
+      tail = λ rest r. ap (λ ys. ys ++ rest) after ∙ sym (pruned-more u next old items behind due i x true g split_old n rest r);
       head = λ rest r. ap (λ ys. slice_get (ys ++ rest) 0) after ∙ g.head rest r;
       idle = λ v rest r k. subst (λ (ys : List StoredVersion). IdleNext v ys rest) (sym after) (g.idle v rest r k);
     }

@@ -82,22 +82,23 @@ over-at : (old : List Page) (i : ℕ) (q : Page) → i < length old → q ≡ ge
 over-at old i q h e = load-some old (omega arith) ∙ ap over (cut-at old i q h e) ∙ over-append (take i old) (q ∷ drop (i + 1) old)
 
 pub spare-shrunk : (old : List Page) (i : ℕ) (q r : Page) (n : ℕ) → i < length old → q ≡ get_or old i q
-    → length (slots_of r) ≤ length (slots_of q) → spare_of old n ≤ spare_of (take i old ++ (r ∷ drop (i + 1) old)) n
+    → length (slots_of r) ≤ length (slots_of q) → spare_of old n ≤ spare_of (set old i r) n
 spare-shrunk old i q r n h e l =
     let a = over-at old i q h e in
     let long = length-append (take i old) (r ∷ drop (i + 1) old) in
     let b = load-some (take i old ++ (r ∷ drop (i + 1) old)) (omega arith) in
     let c = over-append (take i old) (r ∷ drop (i + 1) old) in
-    spare-less (load old) (load (take i old ++ (r ∷ drop (i + 1) old))) n (omega arith)
+    subst (λ (ps : List Page). spare_of old n ≤ spare_of ps n) (sym (set-cut old i r h))
+    (spare-less (load old) (load (take i old ++ (r ∷ drop (i + 1) old))) n (omega arith))
 
-pub spare-gone : (old : List Page) (i : ℕ) (q : Page) (n m : ℕ) → i < length old → q ≡ get_or old i q → m ≡ n + 1
-    → spare_of old n ≤ spare_of (take i old ++ drop (i + 1) old) m
-spare-gone old i q n m h e k =
+pub spare-gone : (old new : List Page) (i : ℕ) (q : Page) (n m : ℕ) → i < length old → q ≡ get_or old i q
+    → new ≡ take i old ++ drop (i + 1) old → m ≡ n + 1 → spare_of old n ≤ spare_of new m
+spare-gone old new i q n m h e is k =
     let a = over-at old i q h e in
     let b = load-most (take i old ++ drop (i + 1) old) in
     let c = over-append (take i old) (drop (i + 1) old) in
-    subst (λ (z : ℕ). spare_of old n ≤ spare_of (take i old ++ drop (i + 1) old) z) (sym k)
-    (spare-freed (load old) (load (take i old ++ drop (i + 1) old)) n (omega arith))
+    let d = ap load is in
+    subst (λ (z : ℕ). spare_of old n ≤ spare_of new z) (sym k) (spare-freed (load old) (load new) n (omega arith))
 
 -- ---- a loop from the last page to the first
 
@@ -162,8 +163,16 @@ length-removed old i h =
     let c = length-drop (i + 1) old in
     omega arith
 
-pub behind-removed : (old : List Page) (i : ℕ) → i < length old → drop i (take i old ++ drop (i + 1) old) ≡ drop (i + 1) old
+behind-removed : (old : List Page) (i : ℕ) → i < length old → drop i (take i old ++ drop (i + 1) old) ≡ drop (i + 1) old
 behind-removed old i h = drop_at (take i old) (drop (i + 1) old) i (length-take-le i old (omega arith))
+
+-- where the page i went, and f of it is what stands behind it
+pub tail-gone : (b : List ℕ) (old new : List Page) (i : ℕ) (p q : Page) (f : Page → List StoredVersion) → i < length old
+    → p ≡ get_or old i p → q ≡ get_or old i q → new ≡ take i old ++ drop (i + 1) old → f q ≡ items_of b (drop (i + 1) old)
+    → items_of b (drop i new) ≡ f p
+tail-gone b old new i p q f h e k is g =
+    ap (λ ps. items_of b (drop i ps)) is ∙ ap (items_of b) (behind-removed old i h) ∙ sym g
+    ∙ ap f (k ∙ get_or_default old i q p h ∙ sym e)
 
 -- what a page is due for is idle below it
 pub idle-at : (b : List ℕ) (old : List Page) (i : ℕ) (q : Page) → IsPaged b old [] → i < length old → q ≡ get_or old i q → (u : ℕ)

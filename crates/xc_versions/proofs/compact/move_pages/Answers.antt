@@ -8,8 +8,10 @@ use Rattle.xc_versions.specs.Pages.{live_of, IsPage, held, slots_of, capacity_of
 use Rattle.xc_versions.proofs.AddLaws.{page-at, vec-long}
 use Rattle.xc_versions.proofs.SplitLaws.{deque-long}
 use Rattle.xc_versions.proofs.MoveLaws.{alike-items, alike-paged}
-use Rattle.xc_versions.proofs.CompactLaws.{MovingPages, MovesPage, moving_pages-more, moving_pages-done, still-old, live-within, spare-same}
+use Rattle.xc_versions.proofs.CompactLaws.{MovingPages, MovedPages, MovesPage, moving_pages-more, moving_pages-done, still-old, live-within}
+use Rattle.xc_versions.proofs.CompactLaws.{spare-same}
 use Rattle.xc_versions.proofs.compact.move_pages.Goals as goal
+use Rattle.xc_versions.proofs.compact.move_pages.Goals.{After-loop-i}
 
 -- the next page is one of the old ones, and its bytes fit
 record Next (b : List ℕ) (old : List Page) (to : List ℕ) (p : Page) : Type 0 where
@@ -94,13 +96,18 @@ loop-i-preserved c =
       capacity = c.loop-i.invariant.capacity;
     }
 
-pub returns-clause-store : goal.returns-clause-store
-returns-clause-store c =
+-- all pages are moved
+all-moved : (c : After-loop-i) → MovedPages c.args.bytes.now c.args.pages.now.items c.loop-i.to.items c.loop-i.pages.items
+all-moved c =
     let count = deque-long c.args.pages.now in
     let end = c.len-i-end.ensures in
     let past = c.loop-i-test.false in
-    let done = moving_pages-done c.args.bytes.now c.args.pages.now.items c.loop-i.to.items c.loop-i.pages.items c.loop-i.i
-    c.loop-i.invariant.moving (omega arith) in
+    moving_pages-done c.args.bytes.now c.args.pages.now.items c.loop-i.to.items c.loop-i.pages.items c.loop-i.i c.loop-i.invariant.moving
+    (omega arith)
+
+pub returns-clause-store : goal.returns-clause-store
+returns-clause-store c =
+    let done = all-moved c in
     let long = done.long in
     let capacity = c.loop-i.invariant.capacity in
     let pages_room = c.requires.store.room.pages_room in
@@ -114,26 +121,11 @@ returns-clause-store c =
 
 pub returns-clause-items : goal.returns-clause-items
 returns-clause-items c =
-    let count = deque-long c.args.pages.now in
-    let end = c.len-i-end.ensures in
-    let past = c.loop-i-test.false in
-    let done = moving_pages-done c.args.bytes.now c.args.pages.now.items c.loop-i.to.items c.loop-i.pages.items c.loop-i.i
-    c.loop-i.invariant.moving (omega arith) in
-    alike-items c.args.bytes.now c.args.pages.now.items c.loop-i.to.items c.loop-i.pages.items done.alike
+    alike-items c.args.bytes.now c.args.pages.now.items c.loop-i.to.items c.loop-i.pages.items (all-moved c).alike
 
 pub returns-clause-spare : goal.returns-clause-spare
 returns-clause-spare c =
-    let count = deque-long c.args.pages.now in
-    let end = c.len-i-end.ensures in
-    let past = c.loop-i-test.false in
-    let done = moving_pages-done c.args.bytes.now c.args.pages.now.items c.loop-i.to.items c.loop-i.pages.items c.loop-i.i
-    c.loop-i.invariant.moving (omega arith) in
-    spare-same c.args.pages.now.items c.loop-i.pages.items (length c.args.pool.now.items) done.load
+    spare-same c.args.pages.now.items c.loop-i.pages.items (length c.args.pool.now.items) (all-moved c).load
 
 pub returns-clause-dues : goal.returns-clause-dues
-returns-clause-dues c =
-    let count = deque-long c.args.pages.now in
-    let end = c.len-i-end.ensures in
-    let past = c.loop-i-test.false in
-    (moving_pages-done c.args.bytes.now c.args.pages.now.items c.loop-i.to.items c.loop-i.pages.items c.loop-i.i
-    c.loop-i.invariant.moving (omega arith)).dues
+returns-clause-dues c = (all-moved c).dues

@@ -11,10 +11,10 @@ use Rattle.xc_versions.specs.declared.stored.Slot.{Slot}
 use Rattle.xc_versions.specs.Slots.{seen}
 use Rattle.xc_versions.specs.Heads.{IsSlot}
 use Rattle.xc_versions.proofs.SlotLaws.{map-filter, each-filtered}
-use Rattle.xc_versions.specs.Pages.{held, items_of, IsPage, Idle, spare_of, slots_of, capacity_of}
+use Rattle.xc_versions.specs.Pages.{held, items_of, IsPage, Idle, slots_of, capacity_of}
 use Rattle.xc_versions.proofs.AddLaws.{set-cut, page-at}
 use Rattle.xc_versions.proofs.SubLaws.{Sub, sub-filter, sub-behind, idle-sub}
-use Rattle.xc_versions.proofs.ShrinkLaws.{store-gone, store-kept, remove-cut, behind-removed, idle-at, spare-shrunk}
+use Rattle.xc_versions.proofs.ShrinkLaws.{store-gone, store-kept, remove-cut, tail-gone, idle-at, spare-shrunk}
 use Rattle.xc_versions.proofs.ShrinkLaws.{spare-gone, length-kept}
 use Rattle.xc_versions.proofs.DueLaws.{shrunk-gone, shrunk-set}
 use Rattle.xc_versions.proofs.shrink.drop_at.Goals as goal
@@ -49,21 +49,15 @@ returns-then-is_empty-clause-store c =
 pub returns-then-is_empty-clause-tail : goal.returns-then-is_empty-clause-tail
 returns-then-is_empty-clause-tail c p e =
     let b = c.args.bytes.now in
-    let old = c.args.pages.now.items in
-    let i = c.args.i in
-    let q = c.index_mut-page.result.now in
-    let rest = items_of b (drop (i + 1) old) in
-    let same : p ≡ q = e ∙ get_or_default old i p q c.requires.within ∙ sym c.index_mut-page.ensures.value in
-    ap (λ ps. items_of b (drop i ps)) (new-pages c) ∙ ap (items_of b) (behind-removed old i c.requires.within)
-    ∙ sym (ap (λ w. w ++ rest) (none-left c)) ∙ ap (λ (x : Page). up_to c.args.t (held b x) ++ rest) (sym same)
+    let rest = items_of b (drop (c.args.i + 1) c.args.pages.now.items) in
+    tail-gone b c.args.pages.now.items c.free.new.pages.items c.args.i p c.index_mut-page.result.now
+    (λ x. up_to c.args.t (held b x) ++ rest) c.requires.within e c.index_mut-page.ensures.value (new-pages c)
+    (ap (λ w. w ++ rest) (none-left c))
 
 pub returns-then-is_empty-clause-spare : goal.returns-then-is_empty-clause-spare
 returns-then-is_empty-clause-spare c =
-    let old = c.args.pages.now.items in
-    let n = length c.args.pool.now.items in
-    let m = length c.free.new.pool.items in
-    subst (λ (ps : List Page). spare_of old n ≤ spare_of ps m) (sym (new-pages c))
-    (spare-gone old c.args.i c.index_mut-page.result.now n m c.requires.within c.index_mut-page.ensures.value c.free.ensures.len)
+    spare-gone c.args.pages.now.items c.free.new.pages.items c.args.i c.index_mut-page.result.now (length c.args.pool.now.items)
+    (length c.free.new.pool.items) c.requires.within c.index_mut-page.ensures.value (new-pages c) c.free.ensures.len
 
 pub returns-else-is_empty-clause-store : goal.returns-else-is_empty-clause-store
 returns-else-is_empty-clause-store c =
@@ -97,13 +91,9 @@ returns-else-is_empty-clause-store c =
 
 pub returns-else-is_empty-clause-spare : goal.returns-else-is_empty-clause-spare
 returns-else-is_empty-clause-spare c =
-    let old = c.args.pages.now.items in
-    let n = length c.args.pool.now.items in
-    let q = c.index_mut-page.result.now in
-    let r = c.drop_later.new.self in
-    subst (λ (ps : List Page). spare_of old n ≤ spare_of ps n) (sym (set-cut old c.args.i r c.requires.within))
-    (spare-shrunk old c.args.i q r n c.requires.within c.index_mut-page.ensures.value
-    (rw c.drop_later.ensures.items (length-kept (λ (x : Slot). nat_le x.commit c.args.t) (slots_of q))))
+    spare-shrunk c.args.pages.now.items c.args.i c.index_mut-page.result.now c.drop_later.new.self (length c.args.pool.now.items)
+    c.requires.within c.index_mut-page.ensures.value
+    (rw c.drop_later.ensures.items (length-kept (λ (x : Slot). nat_le x.commit c.args.t) (slots_of c.index_mut-page.result.now)))
 
 pub returns-then-is_empty-clause-dues : goal.returns-then-is_empty-clause-dues
 returns-then-is_empty-clause-dues c =

@@ -2,16 +2,15 @@ use Rattle.std.proofs.Common.{◌≡◌, ◌+◌, ◌<◌, ◌≤◌, List, [], 
 use Rattle.std.proofs.Common.{refl}
 use Rattle.std.proofs.lemmas.Grind.{common_steps}
 use Rattle.std.proofs.lemmas.Bool.{ltb-true}
-use Rattle.std.proofs.lemmas.List.{nil_from_length, get_or_default}
+use Rattle.std.proofs.lemmas.List.{nil_from_length}
 use Rattle.xc_versions.specs.declared.stored.StoredVersion.{StoredVersion}
-use Rattle.xc_versions.specs.declared.page.Page.{Page}
 use Rattle.xc_versions.specs.Stored.{pruned_before}
 use Rattle.xc_versions.specs.Slots.{seen}
-use Rattle.xc_versions.specs.Pages.{held, items_of, IsPage, spare_of, slots_of, due_of, capacity_of}
-use Rattle.xc_versions.proofs.AddLaws.{set-cut, page-at}
+use Rattle.xc_versions.specs.Pages.{held, items_of, IsPage, slots_of, due_of, capacity_of}
+use Rattle.xc_versions.proofs.AddLaws.{page-at}
 use Rattle.xc_versions.proofs.PageLaws.{items-from}
 use Rattle.xc_versions.proofs.SubLaws.{Sub, sub-pruned}
-use Rattle.xc_versions.proofs.ShrinkLaws.{store-gone, store-kept, remove-cut, behind-removed, idle-at, order-at, pruned-idle}
+use Rattle.xc_versions.proofs.ShrinkLaws.{store-gone, store-kept, remove-cut, tail-gone, idle-at, order-at, pruned-idle}
 use Rattle.xc_versions.proofs.ShrinkLaws.{idle-from-next, spare-shrunk, spare-gone}
 use Rattle.xc_versions.proofs.DueLaws.{shrunk-gone, shrunk-set}
 use Rattle.xc_versions.proofs.shrink.prune_at.Goals as goal
@@ -32,45 +31,40 @@ new-pages : (c : After-free) → c.free.new.pages.items ≡ take c.args.i c.args
 new-pages c =
     c.free.ensures.pages ∙ remove-cut c.args.pages.now.items c.args.i c.prune-dead.new.self c.requires.within
 
+-- none is left of the page
+gone : (c : After-free) → pruned_before c.args.cutoff (held c.args.bytes.now c.index_mut-page.result.now)
+    (items_of c.args.bytes.now (drop (c.args.i + 1) c.args.pages.now.items))
+    ≡ items_of c.args.bytes.now (drop (c.args.i + 1) c.args.pages.now.items)
+gone c =
+    let b = c.args.bytes.now in
+    let r = c.prune-dead.new.self in
+    let rest = items_of b (drop (c.args.i + 1) c.args.pages.now.items) in
+    let empty : length (slots_of r) ≡ 0 = grind (arith, common_steps) in
+    let none : held b r ≡ [] = ap (map (seen b)) (nil_from_length (slots_of r) empty) in
+    sym (c.prune-dead.ensures.items rest (sym c.first_from-next.ensures.version)) ∙ ap (λ w. w ++ rest) none
+
 pub returns-then-is_empty-clause-store : goal.returns-then-is_empty-clause-store
 returns-then-is_empty-clause-store c =
     let b = c.args.bytes.now in
-    let old = c.args.pages.now.items in
     let i = c.args.i in
     let q = c.index_mut-page.result.now in
-    let r = c.prune-dead.new.self in
-    let rest = items_of b (drop (i + 1) old) in
-    let empty : length (slots_of r) ≡ 0 = grind (arith, common_steps) in
-    let none : held b r ≡ [] = ap (map (seen b)) (nil_from_length (slots_of r) empty) in
-    let all_left = c.prune-dead.ensures.items rest (sym c.first_from-next.ensures.version) in
-    let gone : pruned_before c.args.cutoff (held b q) rest ≡ rest = sym all_left ∙ ap (λ w. w ++ rest) none in
+    let rest = items_of b (drop (i + 1) c.args.pages.now.items) in
     let sub : Sub rest (held b q ++ rest) =
-    subst (λ (w : List StoredVersion). Sub w (held b q ++ rest)) gone (sub-pruned c.args.cutoff (held b q) rest) in
+    subst (λ (w : List StoredVersion). Sub w (held b q ++ rest)) (gone c) (sub-pruned c.args.cutoff (held b q) rest) in
     store-gone b c.args.pages.now _ c.args.pool.now _ i q c.requires.store c.requires.within c.index_mut-page.ensures.value sub
     (new-pages c) c.free.ensures.empty c.free.ensures.len c.free.ensures.pages_capacity c.free.ensures.pool_capacity
 
 pub returns-then-is_empty-clause-tail : goal.returns-then-is_empty-clause-tail
 returns-then-is_empty-clause-tail c p e =
     let b = c.args.bytes.now in
-    let old = c.args.pages.now.items in
-    let i = c.args.i in
-    let q = c.index_mut-page.result.now in
-    let r = c.prune-dead.new.self in
-    let rest = items_of b (drop (i + 1) old) in
-    let empty : length (slots_of r) ≡ 0 = grind (arith, common_steps) in
-    let none : held b r ≡ [] = ap (map (seen b)) (nil_from_length (slots_of r) empty) in
-    let same : p ≡ q = e ∙ get_or_default old i p q c.requires.within ∙ sym c.index_mut-page.ensures.value in
-    let all_left = c.prune-dead.ensures.items rest (sym c.first_from-next.ensures.version) in
-    ap (λ ps. items_of b (drop i ps)) (new-pages c) ∙ ap (items_of b) (behind-removed old i c.requires.within)
-    ∙ sym (ap (λ w. w ++ rest) none) ∙ all_left ∙ ap (λ (x : Page). pruned_before c.args.cutoff (held b x) rest) (sym same)
+    let rest = items_of b (drop (c.args.i + 1) c.args.pages.now.items) in
+    tail-gone b c.args.pages.now.items c.free.new.pages.items c.args.i p c.index_mut-page.result.now
+    (λ x. pruned_before c.args.cutoff (held b x) rest) c.requires.within e c.index_mut-page.ensures.value (new-pages c) (gone c)
 
 pub returns-then-is_empty-clause-spare : goal.returns-then-is_empty-clause-spare
 returns-then-is_empty-clause-spare c =
-    let old = c.args.pages.now.items in
-    let n = length c.args.pool.now.items in
-    let m = length c.free.new.pool.items in
-    subst (λ (ps : List Page). spare_of old n ≤ spare_of ps m) (sym (new-pages c))
-    (spare-gone old c.args.i c.index_mut-page.result.now n m c.requires.within c.index_mut-page.ensures.value c.free.ensures.len)
+    spare-gone c.args.pages.now.items c.free.new.pages.items c.args.i c.index_mut-page.result.now (length c.args.pool.now.items)
+    (length c.free.new.pool.items) c.requires.within c.index_mut-page.ensures.value (new-pages c) c.free.ensures.len
 
 pub returns-else-is_empty-clause-store : goal.returns-else-is_empty-clause-store
 returns-else-is_empty-clause-store c =
@@ -103,11 +97,8 @@ returns-else-is_empty-clause-store c =
 
 pub returns-else-is_empty-clause-spare : goal.returns-else-is_empty-clause-spare
 returns-else-is_empty-clause-spare c =
-    let old = c.args.pages.now.items in
-    let n = length c.args.pool.now.items in
-    subst (λ (ps : List Page). spare_of old n ≤ spare_of ps n) (sym (set-cut old c.args.i c.prune-dead.new.self c.requires.within))
-    (spare-shrunk old c.args.i c.index_mut-page.result.now c.prune-dead.new.self n c.requires.within c.index_mut-page.ensures.value
-    c.prune-dead.ensures.len)
+    spare-shrunk c.args.pages.now.items c.args.i c.index_mut-page.result.now c.prune-dead.new.self (length c.args.pool.now.items)
+    c.requires.within c.index_mut-page.ensures.value c.prune-dead.ensures.len
 
 pub returns-then-is_empty-clause-dues : goal.returns-then-is_empty-clause-dues
 returns-then-is_empty-clause-dues c =

@@ -1,15 +1,31 @@
-use Rattle.std.proofs.Common.{◌≡◌, ℕ, ◌++◌, List, ap, sym, subst, ◌∙◌}
+use Rattle.std.proofs.Common.{◌≡◌, ℕ, ◌++◌, List, true, length, ap, sym, subst, ◌∙◌}
+use Rattle.xc_record.proofs.ListLaws.{Each}
+use Rattle.xc_record.specs.Packed.{is_op}
+use Rattle.xc_versions.specs.declared.page.Page.{Page}
+use Rattle.xc_record.specs.declared.record.Op.{Op}
 use Rattle.xc_record.specs.Packed.{encode_op}
 use Rattle.xc_versions.specs.declared.stored.StoredVersion.{StoredVersion}
 use Rattle.xc_versions.specs.declared.stored.Slot.{Slot}
 use Rattle.xc_versions.specs.Stored.{IsNew, stored, with_version}
 use Rattle.xc_versions.specs.Slots.{seen}
 use Rattle.xc_versions.specs.Heads.{head_of, IsSlot}
-use Rattle.xc_versions.specs.Pages.{items_of}
+use Rattle.xc_versions.specs.Pages.{items_of, IsPage}
 use Rattle.xc_versions.specs.Pool.{IsStore}
 use Rattle.xc_versions.proofs.AddLaws.{vec-long}
 use Rattle.xc_versions.proofs.MoveLaws.{items-more, store-more, seen-last, slot-last}
 use Rattle.xc_versions.proofs.versions.Versions.add.Goals as goal
+
+-- what is seen once the operation is put at the end of the arena b, which d is then
+record Put (b d : List ℕ) (ps : List Page) (s : Slot) (op : Op) : Type 0 where
+  new : seen d s ≡ stored op.key s.commit s.txn s.place op.value
+  old : items_of d ps ≡ items_of b ps
+
+put : (b d : List ℕ) (ps : List Page) (s : Slot) (op : Op) → d ≡ b ++ encode_op op → is_op op ≡ true → s.at ≡ length b
+    → Each (IsPage b) ps → Put b d ps s op
+put b d ps s op e w h g = record {
+  new = ap (λ x. seen x s) e ∙ seen-last b s op w h;
+  old = ap (λ x. items_of x ps) e ∙ items-more b (encode_op op) ps g;
+}
 
 pub add-requires-clause-store : goal.add-requires-clause-store
 add-requires-clause-store c =
@@ -19,19 +35,14 @@ add-requires-clause-store c =
 
 pub add-requires-clause-fresh : goal.add-requires-clause-fresh
 add-requires-clause-fresh c =
-    let b = c.self.inside.arena.items in
-    let ps = c.self.inside.pages.items in
     let op = c.args.op.now in
     let slot : Slot = record { head = c.of.result; commit = c.args.commit; place = c.args.place; txn = c.args.txn; at = c.len.result } in
     let v = stored op.key c.args.commit c.args.txn c.args.place op.value in
-    let is : c.deref.result.now ≡ b ++ encode_op op = c.deref.ensures.value ∙ c.copy_op.ensures.items in
-    let here : seen (b ++ encode_op op) slot ≡ v =
-    seen-last b slot op c.copy_op.ensures.well (c.len.ensures ∙ vec-long c.self.inside.arena) in
-    let same : items_of (b ++ encode_op op) ps ≡ c.args.self.now.items =
-    items-more b (encode_op op) ps c.self.invariant.store.paged.pages ∙ ap (λ s. s.items) c.self.view_is in
-    subst (λ (w : List ℕ). IsNew (seen w slot) (items_of w ps)) (sym is)
-    (subst (λ (x : StoredVersion). IsNew x (items_of (b ++ encode_op op) ps)) (sym here)
-    (subst (λ (xs : List StoredVersion). IsNew v xs) (sym same) c.requires.fresh))
+    let d = c.deref.result.now in
+    let p = put c.self.inside.arena.items d c.self.inside.pages.items slot op (c.deref.ensures.value ∙ c.copy_op.ensures.items)
+    c.copy_op.ensures.well (c.len.ensures ∙ vec-long c.self.inside.arena) c.self.invariant.store.paged.pages in
+    subst (λ (x : StoredVersion). IsNew x (items_of d c.self.inside.pages.items)) (sym p.new)
+    (subst (λ (xs : List StoredVersion). IsNew v xs) (sym (p.old ∙ ap (λ s. s.items) c.self.view_is)) c.requires.fresh)
 
 pub add-requires-clause-slot : goal.add-requires-clause-slot
 add-requires-clause-slot c =
@@ -45,16 +56,11 @@ add-requires-clause-slot c =
 
 pub returns-clause-items : goal.returns-clause-items
 returns-clause-items c =
-    let b = c.self.inside.arena.items in
-    let ps = c.self.inside.pages.items in
     let op = c.args.op.now in
     let slot : Slot = record { head = c.of.result; commit = c.args.commit; place = c.args.place; txn = c.args.txn; at = c.len.result } in
-    let v = stored op.key c.args.commit c.args.txn c.args.place op.value in
-    let is : c.deref.result.now ≡ b ++ encode_op op = c.deref.ensures.value ∙ c.copy_op.ensures.items in
-    let here : seen (b ++ encode_op op) slot ≡ v =
-    seen-last b slot op c.copy_op.ensures.well (c.len.ensures ∙ vec-long c.self.inside.arena) in
-    let same : items_of (b ++ encode_op op) ps ≡ c.args.self.now.items =
-    items-more b (encode_op op) ps c.self.invariant.store.paged.pages ∙ ap (λ s. s.items) c.self.view_is in
+    let ps = c.self.inside.pages.items in
+    let d = c.deref.result.now in
+    let p = put c.self.inside.arena.items d ps slot op (c.deref.ensures.value ∙ c.copy_op.ensures.items)
+    c.copy_op.ensures.well (c.len.ensures ∙ vec-long c.self.inside.arena) c.self.invariant.store.paged.pages in
     ap (λ w. items_of w c.add.new.pages.items) (sym c.deref.ensures.value) ∙ c.add.ensures.items
-    ∙ ap (λ w. with_version (seen w slot) (items_of w ps)) is ∙ ap (λ x. with_version x (items_of (b ++ encode_op op) ps)) here
-    ∙ ap (with_version v) same
+    ∙ ap (λ x. with_version x (items_of d ps)) p.new ∙ ap (with_version _) (p.old ∙ ap (λ s. s.items) c.self.view_is)

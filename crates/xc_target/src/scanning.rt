@@ -19,7 +19,8 @@ pub(crate) fn rows_of_all(alloc: Global, tablets: &[TargetTablet], t: u64) -> Re
         let mut shown = tablet.rows(alloc, t)?.into_vec();
         rows.append(&mut shown)?;
     }
-    // One sort serves all tablets: their ranges are of hashes, so the keys of two tablets stand in no order.
-    rows.sort_unstable_by(|a, b| a.0.cmp(&b.0));
+    // The rows of each tablet are in order, and the ranges are of hashes, so that the keys of two tablets stand in no
+    // order. This sort merges what is in order already.
+    rows.sort_by(|a, b| a.0.cmp(&b.0))?;
     Ok(Rows::from_vec(rows))
 }

@@ -19,7 +19,7 @@ use Rattle.xc_record.specs.Rows.{put_row, rows_after}
 use Rattle.xc_record.specs.Kept.{written_by}
 use Rattle.xc_versions.specs.declared.stored.StoredVersion.{StoredVersion}
 use Rattle.xc_versions.specs.Stored.{IsBefore, InOrder, key_versions, without_place}
-use Rattle.xc_versions.specs.RowsSeen.{row_of, is_row_of, Below, Under, ops_to}
+use Rattle.xc_versions.specs.RowsSeen.{row_of, is_row_of, Below, Under, MayPass, ops_to}
 use Rattle.xc_versions.proofs.ShownLaws.{keys-rise, above-key}
 use Rattle.xc_versions.proofs.StoredOrder.{in_order-right}
 
@@ -106,6 +106,45 @@ rows-first t x xs rows =
     ∙ sym (ap (λ b. rows_after (ops_to t xs) (cond b (put_row x.key x.value rows) rows)) e))
     (cases_Bool (nat_le x.commit t))
 
+-- ---- a version that is passed
+
+put_row-twice : (k : List ℕ) (v w : Written) (rows : List (List ℕ × List ℕ)) → Under rows k
+    → put_row k w (put_row k v rows) ≡ put_row k w rows
+put_row-twice k v w rows u =
+    ap (put_row k w) (put_row-under k v rows u) ∙ put_row-over k w v u.lesser u.below ∙ sym (put_row-under k w rows u)
+
+-- a later version of the key takes the place of what this one puts
+pub pass-hidden : (t : ℕ) (x y : StoredVersion) (xs : List StoredVersion) (rows : List (List ℕ × List ℕ)) → Under rows x.key
+    → x.key ≡ y.key → nat_le y.commit t ≡ true → rows_after (ops_to t (x ∷ y ∷ xs)) rows ≡ rows_after (ops_to t (y ∷ xs)) rows
+pass-hidden t x y xs rows u k e =
+    let twice : put_row y.key y.value (put_row x.key x.value rows) ≡ put_row y.key y.value rows =
+    subst (λ (q : List ℕ). put_row q y.value (put_row x.key x.value rows) ≡ put_row q y.value rows) k
+    (put_row-twice x.key x.value y.value rows u) in
+    let put : put_row y.key y.value (cond (nat_le x.commit t) (put_row x.key x.value rows) rows) ≡ put_row y.key y.value rows =
+    elim (nat_le x.commit t) as (λ b. put_row y.key y.value (cond b (put_row x.key x.value rows) rows) ≡ put_row y.key y.value rows)
+    [ true ↦ twice | false ↦ refl ] in
+    rows-first t x (y ∷ xs) rows ∙ ap (λ ops. rows_after ops (cond (nat_le x.commit t) (put_row x.key x.value rows) rows)) (ops_to-in t y xs e)
+    ∙ ap (rows_after (ops_to t xs)) put ∙ sym (ap (λ ops. rows_after ops rows) (ops_to-in t y xs e))
+
+-- the version i of a list, and those behind it
+pub split-at : (xs : List StoredVersion) (i : ℕ) (x : StoredVersion) → i < length xs → x ≡ get_or xs i x → drop i xs ≡ x ∷ drop (i + 1) xs
+split-at xs i x h e = drop_more xs i x h ∙ ap (λ y. y ∷ drop (i + 1) xs) (sym e)
+
+pub may-pass_later : (t : ℕ) (xs : List StoredVersion) (i : ℕ) (x : StoredVersion) → i < length xs → x ≡ get_or xs i x
+    → nat_le x.commit t ≡ false → MayPass t xs i
+may-pass_later t xs i x h e f = λ rows _.
+    ap (λ ys. rows_after (ops_to t ys) rows) (split-at xs i x h e) ∙ ap (λ ops. rows_after ops rows) (ops_to-out t x (drop (i + 1) xs) f)
+
+pub may-pass_hidden : (t : ℕ) (xs : List StoredVersion) (i : ℕ) (x y : StoredVersion) → i + 1 < length xs → x ≡ get_or xs i x
+    → y ≡ get_or xs (i + 1) y → x.key ≡ y.key → nat_le y.commit t ≡ true → MayPass t xs i
+may-pass_hidden t xs i x y h e f k c = λ rows under.
+    let rest = drop (i + 1 + 1) xs in
+    let behind = split-at xs (i + 1) y h f in
+    let whole : drop i xs ≡ x ∷ y ∷ rest = split-at xs i x (omega arith) e ∙ ap (λ ys. x ∷ ys) behind in
+    let first = subst (λ (ys : List StoredVersion). Each (λ x. Under rows x.key) ys) whole under in
+    ap (λ ys. rows_after (ops_to t ys) rows) whole ∙ pass-hidden t x y rest rows first.0 k c
+    ∙ sym (ap (λ ys. rows_after (ops_to t ys) rows) behind)
+
 -- ---- the last row
 
 no-at : (k : List ℕ) (rows : List (List ℕ × List ℕ)) (i : ℕ) → Below rows k → is_row_of k (slice_get rows i) ≡ false
@@ -154,7 +193,7 @@ under-after t x xs rows u b e =
 pub seen-more : (t : ℕ) (first rows : List (List ℕ × List ℕ)) (xs : List StoredVersion) (i : ℕ) (x : StoredVersion)
     → Seen t first rows xs i → i < length xs → x ≡ get_or xs i x → Seen t first (after_version t x rows) xs (i + 1)
 seen-more t first rows xs i x s h e =
-    let split : drop i xs ≡ x ∷ drop (i + 1) xs = drop_more xs i x h ∙ ap (λ y. y ∷ drop (i + 1) xs) (sym e) in
+    let split = split-at xs i x h e in
     let under = subst (λ (ys : List StoredVersion). Each (λ y. Under rows y.key) ys) split s.under in
     let ordered = subst (λ (ys : List StoredVersion). InOrder ys) split s.ordered in
     record {
@@ -163,10 +202,20 @@ seen-more t first rows xs i x s h e =
       ordered = ordered.1;
     }
 
+pub seen-pass : (t : ℕ) (first rows : List (List ℕ × List ℕ)) (xs : List StoredVersion) (i : ℕ) (x : StoredVersion)
+    → Seen t first rows xs i → i < length xs → x ≡ get_or xs i x → MayPass t xs i → Seen t first rows xs (i + 1)
+seen-pass t first rows xs i x s h e p =
+    let split = split-at xs i x h e in
+    record {
+      whole = sym (p rows s.under) ∙ s.whole;
+      under = (subst (λ (ys : List StoredVersion). Each (λ y. Under rows y.key) ys) split s.under).1;
+      ordered = (subst (λ (ys : List StoredVersion). InOrder ys) split s.ordered).1;
+    }
+
 pub seen-under : (t : ℕ) (first rows : List (List ℕ × List ℕ)) (xs : List StoredVersion) (i : ℕ) (x : StoredVersion)
     → Seen t first rows xs i → i < length xs → x ≡ get_or xs i x → Under rows x.key
 seen-under t first rows xs i x s h e =
-    let split : drop i xs ≡ x ∷ drop (i + 1) xs = drop_more xs i x h ∙ ap (λ y. y ∷ drop (i + 1) xs) (sym e) in
+    let split = split-at xs i x h e in
     let under = subst (λ (ys : List StoredVersion). Each (λ y. Under rows y.key) ys) split s.under in
     under.0
 

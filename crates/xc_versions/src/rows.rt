@@ -1,5 +1,5 @@
 // Rows in byte order of keys, and how they come about while versions are gone over in order.
-ghost use Rattle.std.specs.Prelude.{◌≡◌, ℕ, List, ◌++◌, ◌-◌, [], length, map, slice_get, OnOk};
+ghost use Rattle.std.specs.Prelude.{◌≡◌, ◌≤◌, ◌<◌, ℕ, List, ◌++◌, ◌-◌, [], true, false, length, map, slice_get, slice_index_or, OnOk};
 ghost use Rattle.std.specs.List.{AllByRecursion};
 ghost use Rattle.xc_record.specs.Path.{Written};
 ghost use Rattle.xc_record.specs.Rows.{put_row, rows_after};
@@ -7,7 +7,8 @@ ghost use Rattle.xc_versions.specs.Stored.{InOrder};
 ghost use Rattle.xc_arena.specs.Arena.{key_at, value_at, Lies};
 ghost use Rattle.xc_versions.specs.Slots.{seen};
 ghost use Rattle.xc_versions.specs.Heads.{IsSlot};
-ghost use Rattle.xc_versions.specs.RowsSeen.{row_of, is_row_of, Below, Under, ops_to};
+ghost use Rattle.xc_versions.specs.RowsSeen.{row_of, is_row_of, Below, Under, MayPass, ops_to};
+ghost use Rattle.xc_versions.specs.declared.stored.StoredVersion.{StoredVersion};
 
 use crate::stored::Slot;
 use std::alloc::{AllocError, Global};
@@ -102,6 +103,26 @@ fn put_version(rows: &mut Vec<(Key, Value)>, bytes: &[u8], at: u32) -> Result<()
     Ok(())
 }
 
+// Whether this version is put into the rows at t. It is passed where it is later, and where the next one is of the same
+// key and isn't: of many versions of a key in a row the arena's bytes are read once.
+fn is_shown(bytes: &[u8], slots: &VecDeque<Slot>, i: usize, t: u64) -> bool
+    requires slots { AllByRecursion (IsSlot bytes.now) slots.now.items }
+    requires within { i < length slots.now.items }
+    ensures put { result ≡ true → (x : StoredVersion) → x ≡ slice_index_or (map (seen bytes.now) slots.now.items) i x
+        → x.commit ≤ t }
+    ensures passed { result ≡ false → MayPass t (map (seen bytes.now) slots.now.items) i }
+{
+    let slot = &slots[i];
+    if slot.commit > t {
+        return false;
+    }
+    if i + 1 >= slots.len() {
+        return true;
+    }
+    let next = &slots[i + 1];
+    next.commit > t || !slot.is_of_key(bytes, next)
+}
+
 /// Puts what the versions with commit at most t leave at their keys, which are at least the rows' keys.
 pub(crate) fn put_versions(
     rows: &mut Vec<(Key, Value)>,
@@ -117,7 +138,7 @@ pub(crate) fn put_versions(
 {
     for i in 0..slots.len() {
         let slot = slots[i];
-        if slot.commit <= t {
+        if is_shown(bytes, slots, i, t) {
             put_version(rows, bytes, slot.at)?;
         }
     }

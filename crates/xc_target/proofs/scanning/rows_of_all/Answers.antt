@@ -13,5 +13,5 @@ Row = List ℕ × List ℕ
 pub returns-clause-order : goal.returns-clause-order
 returns-clause-order c =
     subst (IsSortedByKey (λ (r : Row). r.0) (slice_cmp nat_cmp)) (sym c.from_vec.ensures)
-    (c.sort_unstable_by.ensures.sorted (λ (r s : Row). is_lt (slice_cmp nat_cmp r.0 s.0))
+    (c.in_ok-sort_by.ensures.sorted (λ (r s : Row). is_lt (slice_cmp nat_cmp r.0 s.0))
     (ranks_by nat_list_cmp_total (λ (r : Row). r.0)) (answers_always _ _ _ (λ f b r g h. search rules)))

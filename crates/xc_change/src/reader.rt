@@ -2,8 +2,8 @@ ghost use Rattle.std.specs.Prelude.{◌≡◌, ◌≤◌, ◌+◌, ◌^◌, IfOk
 ghost use Rattle.xc_record.specs.Accepted.{halt_from};
 ghost use Rattle.xc_order.specs.Walks.{halt_at};
 ghost use Rattle.xc_change.specs.Taken.{looked, new_ones, unchecked, IsTaken, IsStopped};
-ghost use Rattle.xc_base.specs.Causes.{Rose};
 ghost use Rattle.xc_record.specs.Accepted.{AcceptedTablet};
+ghost use Rattle.xc_logs.specs.Feed.{SameFeed, CountsFault};
 ghost use Rattle.xc_change.specs.Reader.{FitsFeed, IsNext, IsNextOf, ReadsLogs, Stays};
 ghost use Rattle.xc_base.specs.declared.limits.TheConstants.{MOST_RECORDS};
 
@@ -111,14 +111,10 @@ impl Reader {
 
         // A failure changes nothing, and has its cause in the feed.
         ensures failed { OnErr result (self.new ≡ self.old) }
-        ensures read_fault { IsErrOf result NextFail.ReadFault → Rose (F.faults feed.old) (F.faults feed.new) }
-        ensures quiet { ¬ IsErrOf result NextFail.ReadFault → F.faults feed.new ≡ F.faults feed.old }
+        ensures fault { CountsFault (IsErrOf result NextFail.ReadFault) (F.faults feed.old) (F.faults feed.new) }
 
         // What each call of a feed keeps.
-        ensures same_headers { F.headers feed.new ≡ F.headers feed.old }
-        ensures same_counts { F.counts feed.new ≡ F.counts feed.old }
-        ensures same_logs { F.logs feed.new ≡ F.logs feed.old }
-        ensures later { F.faults feed.old ≤ F.faults feed.new }
+        ensures feed { SameFeed F.headers F.counts F.logs F.faults feed.old feed.new }
     {
         let from = self.cursor + 1;
         let records = feed.fetch(alloc, self.id, from, max)?;

@@ -1,4 +1,4 @@
--- Well-formed logs make a feed, and their records keep their headers.
+-- Well-formed logs make a feed, and their records keep their headers. A feed stays the one that it is, call after call.
 use Rattle.std.proofs.Common.{◌≡◌, ℕ, zero, suc, ◌+◌, ◌-◌, ◌<◌, ◌≤◌, Bool, true, false, List, [], ◌∷◌, length, get_or, inl, inr, take, drop}
 use Rattle.std.proofs.Common.{map, refl, sym, ap, ◌∙◌, subst, add-zero, zero-add, arith}
 use Rattle.std.specs.Prelude.{Option, Some, None, ◌⊎◌, IsTrue, IsSome, is_some, slice_get, slice_index, sum_by, ◌&&◌, ◌==◌, nat_le}
@@ -24,7 +24,7 @@ use Rattle.xc_record.specs.Order.{is_split}
 use Rattle.xc_record.specs.Headers.{children, are_headers}
 use Rattle.xc_record.specs.Valid.{is_valid, headers_of, tablet_fits, record_fits, kind_fits, op_fits, ops_fit, ops_keep, keeps_header}
 use Rattle.xc_record.specs.Valid.{ends_fit, is_time, is_txn}
-use Rattle.xc_logs.specs.Feed.{IsFeed, KeepHeader, counts_of, fetched, kind_keeps, keep_from}
+use Rattle.xc_logs.specs.Feed.{IsFeed, KeepHeader, SameFeed, counts_of, fetched, kind_keeps, keep_from}
 use Rattle.xc_logs.proofs.ValidFacts.{valid_parts, headers_parts}
 use Rattle.xc_record.proofs.ListLaws.{all-at}
 use Rattle.xc_record.proofs.HeaderLaws.{Numbered-at, headers_fit-all}
@@ -220,3 +220,18 @@ kept_at logs id from max valid within first = go (slice_get_cases logs.tablets i
         subst (λ rs. KeepHeader (headers_of logs.tablets) (counts_of logs) id from (fetched rs from max)) (sym same)
         (kept logs id t from max valid there first)
     go (inr (past, none)) = absurd (omega arith)
+
+-- ---- the same feed
+
+pub same-feed : {Of : Type 0} {headers : Of → List Header} {counts : Of → List ℕ} {logs : Of → Option Logs} {faults : Of → ℕ} (x : Of)
+    → SameFeed headers counts logs faults x x
+same-feed x = record { same_headers = refl; same_counts = refl; same_logs = refl; later = omega arith }
+
+pub same-on : {Of : Type 0} {headers : Of → List Header} {counts : Of → List ℕ} {logs : Of → Option Logs} {faults : Of → ℕ} (x y z : Of)
+    → SameFeed headers counts logs faults x y → SameFeed headers counts logs faults y z → SameFeed headers counts logs faults x z
+same-on x y z first second = record {
+  same_headers = second.same_headers ∙ first.same_headers;
+  same_counts = second.same_counts ∙ first.same_counts;
+  same_logs = second.same_logs ∙ first.same_logs;
+  later = let a = first.later in let b = second.later in omega arith;
+}

@@ -5,6 +5,8 @@
 --                       children, which are `pair`
 --     KeepHeader headers counts id from records      the records from the number `from` on keep the header of the tablet
 --     IsFeed headers counts logs      what holds of each feed's headers, of its numbers of records, and of its logs where it tells them
+--     SameFeed headers counts logs faults before after      a feed, as these show it, is the one that it was before a call
+--     CountsFault failed before after      the count of faults rose where the call failed for the feed, and there alone
 use Rattle.std.specs.Prelude.{◌≡◌, ℕ, ◌+◌, ◌-◌, ◌<◌, ◌≤◌, ◌==◌, ◌&&◌, Bool, true, min, List, [], ◌∷◌, length, map, take, drop}
 use Rattle.std.specs.Prelude.{slice_get, slice_index, Option, is_some, IsSome, IfSome, IsTrue}
 use Rattle.std.specs.Bool.{beq}
@@ -15,6 +17,7 @@ use Rattle.xc_record.specs.declared.record.Logs.{Logs}
 use Rattle.xc_record.specs.Order.{is_split}
 use Rattle.xc_record.specs.Headers.{are_headers, children}
 use Rattle.xc_record.specs.Valid.{is_valid, headers_of, keeps_header}
+use Rattle.xc_base.specs.Causes.{Rose}
 use Rattle.xc_base.specs.declared.limits.TheConstants.{MOST_RECORDS}
 
 abbrev pub fetched : List Record → ℕ → ℕ → List Record
@@ -51,3 +54,16 @@ pub record IsFeed (headers : List Header) (counts : List ℕ) (logs : Option Log
   pub small : (id : ℕ) → slice_index counts id ≤ MOST_RECORDS
   pub parents : (id : ℕ) → id < length headers → IsSome (children headers id) → 1 ≤ slice_index counts id
   pub told : IfSome logs (λ logs. AreOf logs headers counts)
+
+-- it tells what it told before, and its count of faults didn't fall
+pub record SameFeed {Of : Type 0} (headers : Of → List Header) (counts : Of → List ℕ) (logs : Of → Option Logs) (faults : Of → ℕ)
+    (before after : Of) : Type 0 where
+  pub same_headers : headers after ≡ headers before
+  pub same_counts : counts after ≡ counts before
+  pub same_logs : logs after ≡ logs before
+  pub later : faults before ≤ faults after
+
+-- a failure of the feed has its cause there, and with any other answer the count is as before
+pub record CountsFault (failed : Type 0) (before after : ℕ) : Type 0 where
+  pub rose : failed → Rose before after
+  pub quiet : ¬ failed → after ≡ before

@@ -1,6 +1,5 @@
 ghost use Rattle.std.specs.Prelude.{◌≡◌, ◌≤◌, ◌<◌, List, ℕ, length, slice_index, Option, IfSome, IfOk, IsErrOf};
-ghost use Rattle.xc_base.specs.Causes.{Rose};
-ghost use Rattle.xc_logs.specs.Feed.{fetched, fetched_count, KeepHeader, IsFeed};
+ghost use Rattle.xc_logs.specs.Feed.{fetched, fetched_count, KeepHeader, IsFeed, SameFeed, CountsFault};
 ghost use Rattle.xc_record.specs.Accepted.{records};
 ghost use Rattle.xc_record.specs.declared.record.Header.{Header};
 ghost use Rattle.xc_record.specs.declared.record.Logs.{Logs};
@@ -53,12 +52,8 @@ pub trait Feed {
         ensures keep { IfOk result (λ given. KeepHeader (headers self.old) (counts self.old) id from given) }
         ensures told { IfOk result (λ given. IfSome (logs self.old) (λ logs. given
             ≡ fetched (records logs id) from max)) }
-        ensures same_headers { headers self.new ≡ headers self.old }
-        ensures same_counts { counts self.new ≡ counts self.old }
-        ensures same_logs { logs self.new ≡ logs self.old }
-        ensures later { faults self.old ≤ faults self.new }
-        ensures failed { IsErrOf result FeedFail.Failed → Rose (faults self.old) (faults self.new) }
-        ensures quiet { ¬ IsErrOf result FeedFail.Failed → faults self.new ≡ faults self.old };
+        ensures feed { SameFeed headers counts logs faults self.old self.new }
+        ensures fault { CountsFault (IsErrOf result FeedFail.Failed) (faults self.old) (faults self.new) };
 
     /// There are at most 64 headers, which fit, a tablet has at most 2^20 records, one with children has some, and the
     /// logs agree with both.

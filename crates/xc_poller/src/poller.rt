@@ -1,7 +1,6 @@
 // A poller.
 ghost use Rattle.std.specs.Prelude.{◌≡◌, ◌≤◌, ◌<◌, ◌+◌, ℕ, true, false, Some, None, List, length, take, drop};
 ghost use Rattle.std.specs.Prelude.{Option, All, IfOk, IfSome, OnErr, IsErrOf};
-ghost use Rattle.xc_base.specs.Causes.{Rose};
 ghost use Rattle.xc_record.specs.declared.record.Header.{Header as HeaderOf};
 ghost use Rattle.xc_record.specs.declared.record.Logs.{Logs};
 ghost use Rattle.xc_record.specs.Accepted.{AcceptedTablet, accepted_tablet, records};
@@ -9,7 +8,7 @@ ghost use Rattle.xc_record.specs.SafeTime.{is_closed_at};
 ghost use Rattle.xc_record.specs.Session.{IsInOrder};
 ghost use Rattle.xc_record.specs.Step.{answer_from};
 ghost use Rattle.xc_record.specs.Valid.{is_valid};
-ghost use Rattle.xc_logs.specs.Feed.{IsFeed};
+ghost use Rattle.xc_logs.specs.Feed.{IsFeed, SameFeed, CountsFault};
 ghost use Rattle.xc_change.specs.Reader.{FitsFeed};
 ghost use Rattle.xc_poller.specs.Poller.{position_of, is_closed, new_poller, opened, done, confirmed, restarted};
 ghost use Rattle.xc_poller.specs.Poller.{StandsFor, HasNotBegun, KeepsFeeds, Rises};
@@ -203,14 +202,10 @@ impl Poller {
 
         // A failure changes nothing, and has its cause in the feed.
         ensures failed { OnErr result (self.new ≡ self.old) }
-        ensures read_fault { IsErrOf result NextFail.ReadFault → Rose (F.faults feed.old) (F.faults feed.new) }
-        ensures quiet { ¬ IsErrOf result NextFail.ReadFault → F.faults feed.new ≡ F.faults feed.old }
+        ensures fault { CountsFault (IsErrOf result NextFail.ReadFault) (F.faults feed.old) (F.faults feed.new) }
 
         // What each call of a feed keeps.
-        ensures same_headers { F.headers feed.new ≡ F.headers feed.old }
-        ensures same_counts { F.counts feed.new ≡ F.counts feed.old }
-        ensures same_logs { F.logs feed.new ≡ F.logs feed.old }
-        ensures later { F.faults feed.old ≤ F.faults feed.new }
+        ensures feed { SameFeed F.headers F.counts F.logs F.faults feed.old feed.new }
     {
         if !self.is_open {
             if let Some(parent) = self.header.parent {
@@ -300,14 +295,10 @@ impl Poller {
             → KeepStanding logs tablets.old tablets.new) }
 
         // A read fault has its cause in the feed.
-        ensures read_fault { IsErrOf result NextFail.ReadFault → Rose (F.faults feed.old) (F.faults feed.new) }
-        ensures quiet { ¬ IsErrOf result NextFail.ReadFault → F.faults feed.new ≡ F.faults feed.old }
+        ensures fault { CountsFault (IsErrOf result NextFail.ReadFault) (F.faults feed.old) (F.faults feed.new) }
 
         // What each call of a feed keeps.
-        ensures same_headers { F.headers feed.new ≡ F.headers feed.old }
-        ensures same_counts { F.counts feed.new ≡ F.counts feed.old }
-        ensures same_logs { F.logs feed.new ≡ F.logs feed.old }
-        ensures later { F.faults feed.old ≤ F.faults feed.new }
+        ensures feed { SameFeed F.headers F.counts F.logs F.faults feed.old feed.new }
     {
         // The check knows the poller's invariant in a function that reads a field.
         let _ = &self.header;
@@ -348,14 +339,10 @@ impl Poller {
             → KeepStanding logs tablets.old tablets.new) }
 
         // A read fault has its cause in the feed.
-        ensures read_fault { IsErrOf result NextFail.ReadFault → Rose (F.faults feed.old) (F.faults feed.new) }
-        ensures quiet { ¬ IsErrOf result NextFail.ReadFault → F.faults feed.new ≡ F.faults feed.old }
+        ensures fault { CountsFault (IsErrOf result NextFail.ReadFault) (F.faults feed.old) (F.faults feed.new) }
 
         // What each call of a feed keeps.
-        ensures same_headers { F.headers feed.new ≡ F.headers feed.old }
-        ensures same_counts { F.counts feed.new ≡ F.counts feed.old }
-        ensures same_logs { F.logs feed.new ≡ F.logs feed.old }
-        ensures later { F.faults feed.old ≤ F.faults feed.new }
+        ensures feed { SameFeed F.headers F.counts F.logs F.faults feed.old feed.new }
     {
         // The check knows the poller's invariant in a function that reads a field.
         let _ = &self.header;

@@ -1,6 +1,6 @@
 -- What each call of a target makes of the session that it stands for, and what it answers.
 use Rattle.std.specs.Prelude.{◌≡◌, ℕ, ◌+◌, ◌<◌, ◌≤◌, max, true, false, List, [], ◌∷◌, Option, None, Some, Result, Ok, Err, slice_get}
-use Rattle.std.specs.Prelude.{slice_index, length}
+use Rattle.std.specs.Prelude.{slice_index, length, IsErrOf}
 use Rattle.std.specs.List.{filter_map}
 use Rattle.std.specs.Option.{option_map, option_map_or}
 use Rattle.xc_record.specs.declared.record.Break.{Break}
@@ -26,6 +26,11 @@ use Rattle.xc_target.specs.declared.answers.TargetFail.{TargetFail}
 use Rattle.xc_target.specs.declared.answers.TargetFail.TheVariants as fail
 use Rattle.xc_target.specs.Target.{TargetState}
 use Rattle.xc_target.specs.Stands.{StandsForSession}
+
+-- a call is refused exactly where the session is closed, and leaves the target as it is
+pub record RefusesClosed {A : Type 0} (old new : TargetState) (result : Result A TargetFail) : Type 0 where
+  pub refused : (t : ℕ) → old.closed ≡ Some t → IsErrOf result (fail.Closed t) × (new ≡ old)
+  pub refusal : (t : ℕ) → IsErrOf result (fail.Closed t) → old.closed ≡ Some t
 
 -- a closed session stays as it is
 pub record Refused (logs : Logs) (m : Session) (t : ℕ) (new : TargetState) : Type 0 where

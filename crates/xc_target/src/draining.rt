@@ -1,8 +1,8 @@
 // How one source tablet is drained.
-ghost use Rattle.std.specs.Prelude.{◌≡◌, ◌<◌, ◌≤◌, ℕ, Some, length, map, IfOk, IfErr, IfSome, IsErrOf};
-ghost use Rattle.xc_base.specs.Causes.{Rose};
+ghost use Rattle.std.specs.Prelude.{◌≡◌, ◌<◌, ℕ, Some, length, map, IfOk, IfErr, IfSome, IsErrOf};
 ghost use Rattle.xc_record.specs.Accepted.{AcceptedTablet, accepted_tablet};
 ghost use Rattle.xc_record.specs.Session.{Session, IsSession};
+ghost use Rattle.xc_logs.specs.Feed.{SameFeed, CountsFault};
 ghost use Rattle.xc_model.specs.Rows.{range_of};
 ghost use Rattle.xc_target.specs.Target.{FitsFeed};
 ghost use Rattle.xc_target.specs.Stands.{StandsForSession};
@@ -50,14 +50,10 @@ pub(crate) fn drain_tablet<F: Feed>(
     ensures same_closed { target.new.closed ≡ target.old.closed }
 
     // A read fault has its cause in the feed.
-    ensures read_fault { IsErrOf result TargetFail.ReadFault → Rose (F.faults feed.old) (F.faults feed.new) }
-    ensures quiet { ¬ IsErrOf result TargetFail.ReadFault → F.faults feed.new ≡ F.faults feed.old }
+    ensures fault { CountsFault (IsErrOf result TargetFail.ReadFault) (F.faults feed.old) (F.faults feed.new) }
 
     // What each call of a feed keeps.
-    ensures same_headers { F.headers feed.new ≡ F.headers feed.old }
-    ensures same_counts { F.counts feed.new ≡ F.counts feed.old }
-    ensures same_logs { F.logs feed.new ≡ F.logs feed.old }
-    ensures later { F.faults feed.old ≤ F.faults feed.new }
+    ensures feed { SameFeed F.headers F.counts F.logs F.faults feed.old feed.new }
 {
     'polls: loop {
         let answer = target.poll(alloc, feed, id, BATCH)?;

@@ -1,11 +1,10 @@
 // The target of a replication session.
-ghost use Rattle.std.specs.Prelude.{◌≡◌, ◌<◌, ◌≤◌, ◌+◌, ℕ, true, map, drop, Option, None, Some, Err, length, List};
+ghost use Rattle.std.specs.Prelude.{◌≡◌, ◌<◌, ◌≤◌, ◌+◌, ℕ, true, map, drop, Option, None, Some, length, List};
 ghost use Rattle.std.specs.Prelude.{IfOk, IfErr, IfSome, IsErrOf};
-ghost use Rattle.xc_base.specs.Causes.{Rose};
 ghost use Rattle.xc_record.specs.Bounds.{are_bounds};
 ghost use Rattle.xc_record.specs.Headers.{are_headers};
 ghost use Rattle.xc_record.specs.Valid.{is_valid, headers_of};
-ghost use Rattle.xc_logs.specs.Feed.{IsFeed};
+ghost use Rattle.xc_logs.specs.Feed.{IsFeed, SameFeed, CountsFault};
 ghost use Rattle.xc_record.specs.declared.record.Logs.{Logs};
 ghost use Rattle.xc_record.specs.declared.record.Header.{Header as HeaderOf};
 ghost use Rattle.xc_model.specs.Rows.{range_of};
@@ -16,7 +15,7 @@ ghost use Rattle.xc_record.specs.Step.{drained};
 ghost use Rattle.xc_target.specs.Target.{new_target, of_parts, IsTarget, FitsFeed};
 ghost use Rattle.xc_target.specs.Stands.{StandsForSession};
 ghost use Rattle.xc_target.specs.Answers.{Made, IsAcknowledged, IsRestarted, IsNotReadable, IsPruned, IsClosed};
-ghost use Rattle.xc_target.specs.Answers.{IsPolled, IsStopped, GaveFirst, MovesOn, halts, IsDrainFail};
+ghost use Rattle.xc_target.specs.Answers.{RefusesClosed, IsPolled, IsStopped, GaveFirst, MovesOn, halts, IsDrainFail};
 
 use crate::answers::{Closed, Halt, PruneFail, SessionLine, TargetFail};
 use crate::draining::drain_tablet;
@@ -138,19 +137,13 @@ impl Target {
         ensures same_closed { self.new.closed ≡ self.old.closed }
 
         // Closed exactly where the session is.
-        ensures refused { (t : ℕ) → self.old.closed ≡ Some t
-            → (result ≡ Err (TargetFail.Closed t)) × (self.new ≡ self.old) }
-        ensures refusal { (t : ℕ) → IsErrOf result (TargetFail.Closed t) → self.old.closed ≡ Some t }
+        ensures refuses { RefusesClosed self.old self.new result }
 
         // A read fault has its cause in the feed.
-        ensures read_fault { IsErrOf result TargetFail.ReadFault → Rose (F.faults feed.old) (F.faults feed.new) }
-        ensures quiet { ¬ IsErrOf result TargetFail.ReadFault → F.faults feed.new ≡ F.faults feed.old }
+        ensures fault { CountsFault (IsErrOf result TargetFail.ReadFault) (F.faults feed.old) (F.faults feed.new) }
 
         // What each call of a feed keeps.
-        ensures same_headers { F.headers feed.new ≡ F.headers feed.old }
-        ensures same_counts { F.counts feed.new ≡ F.counts feed.old }
-        ensures same_logs { F.logs feed.new ≡ F.logs feed.old }
-        ensures later { F.faults feed.old ≤ F.faults feed.new }
+        ensures feed { SameFeed F.headers F.counts F.logs F.faults feed.old feed.new }
     {
         if let Some(t) = self.closed {
             return Err(TargetFail::Closed(t));
@@ -194,19 +187,13 @@ impl Target {
         ensures same_closed { self.new.closed ≡ self.old.closed }
 
         // Closed exactly where the session is.
-        ensures refused { (t : ℕ) → self.old.closed ≡ Some t
-            → (result ≡ Err (TargetFail.Closed t)) × (self.new ≡ self.old) }
-        ensures refusal { (t : ℕ) → IsErrOf result (TargetFail.Closed t) → self.old.closed ≡ Some t }
+        ensures refuses { RefusesClosed self.old self.new result }
 
         // A read fault has its cause in the feed.
-        ensures read_fault { IsErrOf result TargetFail.ReadFault → Rose (F.faults feed.old) (F.faults feed.new) }
-        ensures quiet { ¬ IsErrOf result TargetFail.ReadFault → F.faults feed.new ≡ F.faults feed.old }
+        ensures fault { CountsFault (IsErrOf result TargetFail.ReadFault) (F.faults feed.old) (F.faults feed.new) }
 
         // What each call of a feed keeps.
-        ensures same_headers { F.headers feed.new ≡ F.headers feed.old }
-        ensures same_counts { F.counts feed.new ≡ F.counts feed.old }
-        ensures same_logs { F.logs feed.new ≡ F.logs feed.old }
-        ensures later { F.faults feed.old ≤ F.faults feed.new }
+        ensures feed { SameFeed F.headers F.counts F.logs F.faults feed.old feed.new }
     {
         if let Some(t) = self.closed {
             return Err(TargetFail::Closed(t));
@@ -232,19 +219,13 @@ impl Target {
             → StandsForSession logs m self.old → IfErr result (IsDrainFail logs m self.new)) }
 
         // Closed exactly where the session is.
-        ensures refused { (t : ℕ) → self.old.closed ≡ Some t
-            → IsErrOf result (TargetFail.Closed t) × (self.new ≡ self.old) }
-        ensures refusal { (t : ℕ) → IsErrOf result (TargetFail.Closed t) → self.old.closed ≡ Some t }
+        ensures refuses { RefusesClosed self.old self.new result }
 
         // A read fault has its cause in the feed.
-        ensures read_fault { IsErrOf result TargetFail.ReadFault → Rose (F.faults feed.old) (F.faults feed.new) }
-        ensures quiet { ¬ IsErrOf result TargetFail.ReadFault → F.faults feed.new ≡ F.faults feed.old }
+        ensures fault { CountsFault (IsErrOf result TargetFail.ReadFault) (F.faults feed.old) (F.faults feed.new) }
 
         // What each call of a feed keeps.
-        ensures same_headers { F.headers feed.new ≡ F.headers feed.old }
-        ensures same_counts { F.counts feed.new ≡ F.counts feed.old }
-        ensures same_logs { F.logs feed.new ≡ F.logs feed.old }
-        ensures later { F.faults feed.old ≤ F.faults feed.new }
+        ensures feed { SameFeed F.headers F.counts F.logs F.faults feed.old feed.new }
     {
         if let Some(t) = self.closed {
             return Err(TargetFail::Closed(t));

@@ -24,7 +24,7 @@ use Rattle.xc_target.specs.Stands.{StandsForSession}
 use Rattle.xc_target.specs.Target.{TargetState, FitsFeed, new_target}
 use Rattle.xc_model.specs.Stands.{new_tablet}
 use Rattle.xc_record.specs.Bounds.{ranges_from}
-use Rattle.xc_tool.specs.Answers.{IsAnswer, Kept}
+use Rattle.xc_tool.specs.Answers.{IsAnswer}
 use Rattle.xc_tool.specs.Outcome.{lines_output}
 
 -- all lines of the commands
@@ -94,16 +94,6 @@ on-next (Some logs) now all rest cs c went text said halted met base t new e spl
 pub if-some : {A : Type 0} {P : A → Type 0} (o : Option A) → ((x : A) → P x) → IfSome o P
 if-some None f = tt
 if-some (Some x) f = f x
-
-pub kept-on : (h h1 h2 : List Header) (c c1 c2 : List ℕ) (o o1 o2 : Option Logs) (t t1 t2 : TargetState) → Kept h h1 c c1 o o1 t t1
-    → Kept h1 h2 c1 c2 o1 o2 t1 t2 → Kept h h2 c c2 o o2 t t2
-kept-on h h1 h2 c c1 c2 o o1 o2 t t1 t2 first second = record {
-  fits = second.fits;
-  headers_stay = second.headers_stay ∙ first.headers_stay;
-  counts_stay = second.counts_stay ∙ first.counts_stay;
-  told_stays = second.told_stays ∙ first.told_stays;
-  targets = second.targets ∙ first.targets;
-}
 
 pub next-item : {X : Type 0} (xs : List X) (i : ℕ) (x : X) → i < length xs → x ≡ get_or xs i x → drop i xs ≡ x ∷ drop (i + 1) xs
 next-item xs i x within is = rw add-one (drop-cons xs i x within ∙ ap (λ y. y ∷ drop (suc i) xs) (sym is))

@@ -348,10 +348,9 @@ told-answers logs m c l t text halted is (other, (e, (spelled, h))) =
     line-answers logs m c l t text halted is (spelled ∙ ap line_text same) (h ∙ ap is_halt same)
 
 -- a command that takes no records leaves the feed
-pub kept-alone : (headers : List Header) (counts : List ℕ) (told : Option Logs) (old new : TargetState) → FitsFeed headers counts old
-    → KeptAlone old new → Kept headers headers counts counts told told old new
-kept-alone headers counts told old new fits kept =
-    record { fits = kept.fits headers counts fits; headers_stay = refl; counts_stay = refl; told_stays = refl; targets = kept.targets }
+pub kept-alone : (headers : List Header) (counts : List ℕ) (old new : TargetState) → FitsFeed headers counts old → KeptAlone old new
+    → Kept headers counts old new
+kept-alone headers counts old new fits kept = record { fits = kept.fits headers counts fits; targets = kept.targets }
 
 pub drain-closed : (logs : Logs) (m : Session) (t : ℕ) (e : TargetFail) (new : TargetState) → e ≡ fail.Closed t → IsDrainFail logs m new e
     → IsLine logs m command.Drain (line.Closed t) new

@@ -1,12 +1,12 @@
 -- What answers a command of a script.
---     Kept headers headers' counts counts' told told' old new      what each command leaves of a feed and of a target that fits it
+--     Kept headers counts old new      what each command leaves of a target, which fits a feed of these headers and numbers of records
 --     KeptAlone old new      the same of a command that takes no records
 --     IsLine logs m c l t      the command c of the session m is answered by the line l alone, and leaves the target t
 --     IsAnswer logs m c text halted t      it is answered by the lines of this text
 -- The rest is what single functions answer; what answers a command doesn't rest on it.
 --     IsTold line text halted      the text is that of the line
 --     IsRestored logs m t text halted      the text is that of a failover at t, which shows the rows at the safe time of m
-use Rattle.std.specs.Prelude.{◌≡◌, ℕ, Bool, false, List, [], ◌∷◌, Option, Result, Ok, length}
+use Rattle.std.specs.Prelude.{◌≡◌, ℕ, Bool, false, List, [], ◌∷◌, Result, Ok, length}
 use Rattle.std.specs.List.{list_any}
 use Rattle.xc_record.specs.declared.record.Header.{Header}
 use Rattle.xc_record.specs.declared.record.Logs.{Logs}
@@ -22,11 +22,8 @@ use Rattle.xc_target.specs.Target.{TargetState, FitsFeed}
 use Rattle.xc_target.specs.declared.answers.Halt.{Halt}
 use Rattle.xc_tool.specs.declared.answer.Unanswered.{Unanswered}
 
-pub record Kept (headers headers' : List Header) (counts counts' : List ℕ) (told told' : Option Logs) (old new : TargetState) : Type 0 where
-  pub fits : FitsFeed headers' counts' new
-  pub headers_stay : headers' ≡ headers
-  pub counts_stay : counts' ≡ counts
-  pub told_stays : told' ≡ told
+pub record Kept (headers : List Header) (counts : List ℕ) (old new : TargetState) : Type 0 where
+  pub fits : FitsFeed headers counts new
   pub targets : length new.tablets ≡ length old.tablets
 
 pub record KeptAlone (old new : TargetState) : Type 0 where

@@ -4,6 +4,7 @@ ghost use Rattle.xc_base.specs.Causes.{Rose};
 ghost use Rattle.xc_record.specs.declared.record.Logs.{Logs};
 ghost use Rattle.xc_record.specs.Agreement.{disagreement};
 ghost use Rattle.xc_record.specs.Session.{Session, IsSession};
+ghost use Rattle.xc_logs.specs.Feed.{SameFeed};
 ghost use Rattle.xc_script.specs.Allowed.{IsAllowed};
 ghost use Rattle.xc_target.specs.Stands.{StandsForSession};
 ghost use Rattle.xc_target.specs.Target.{FitsFeed};
@@ -28,13 +29,12 @@ pub(crate) fn answer<F: Feed>(
     requires sources { sources ≡ length target.old.pollers }
     requires allowed { IsAllowed sources (length target.old.tablets) command.now }
     requires fits { FitsFeed (F.headers feed.old) (F.counts feed.old) target.old }
-    ensures kept { Kept (F.headers feed.old) (F.headers feed.new) (F.counts feed.old) (F.counts feed.new)
-        (F.logs feed.old) (F.logs feed.new) target.old target.new }
+    ensures kept { Kept (F.headers feed.new) (F.counts feed.new) target.old target.new }
+    ensures feed { SameFeed F.headers F.counts F.logs F.faults feed.old feed.new }
     ensures step { IfSome (F.logs feed.old) (λ logs. (m : Session) → IsSession logs m
         → StandsForSession logs m target.old → disagreement logs ≡ None
         → IfOk result (λ a. IsAnswer logs m command.now a.text a.halted target.new)) }
     ensures read_fault { IsErrOf result Unanswered.ReadFault → Rose (F.faults feed.old) (F.faults feed.new) }
-    ensures later { F.faults feed.old ≤ F.faults feed.new }
 {
     match command {
         Command::Poll { id, n } => line_answer(alloc, poll(alloc, target, feed, *id, *n)),
@@ -64,12 +64,11 @@ fn poll<F: Feed>(
     requires known { id < length target.old.pollers }
     requires some { 1 ≤ n }
     requires fits { FitsFeed (F.headers feed.old) (F.counts feed.old) target.old }
-    ensures kept { Kept (F.headers feed.old) (F.headers feed.new) (F.counts feed.old) (F.counts feed.new)
-        (F.logs feed.old) (F.logs feed.new) target.old target.new }
+    ensures kept { Kept (F.headers feed.new) (F.counts feed.new) target.old target.new }
+    ensures feed { SameFeed F.headers F.counts F.logs F.faults feed.old feed.new }
     ensures step { IfSome (F.logs feed.old) (λ logs. (m : Session) → IsSession logs m
         → StandsForSession logs m target.old → IfOk result (λ l. IsLine logs m (Command.Poll id n) l target.new)) }
     ensures read_fault { IsErrOf result Unanswered.ReadFault → Rose (F.faults feed.old) (F.faults feed.new) }
-    ensures later { F.faults feed.old ≤ F.faults feed.new }
 {
     match target.poll(alloc, feed, id, n) {
         Ok(PollAnswer::Polled(count)) => Ok(Line::Polled { id, count }),
@@ -94,13 +93,12 @@ fn stop<F: Feed>(
     requires some { 1 ≤ n }
     requires last { last < length target.old.tablets }
     requires fits { FitsFeed (F.headers feed.old) (F.counts feed.old) target.old }
-    ensures kept { Kept (F.headers feed.old) (F.headers feed.new) (F.counts feed.old) (F.counts feed.new)
-        (F.logs feed.old) (F.logs feed.new) target.old target.new }
+    ensures kept { Kept (F.headers feed.new) (F.counts feed.new) target.old target.new }
+    ensures feed { SameFeed F.headers F.counts F.logs F.faults feed.old feed.new }
     ensures step { IfSome (F.logs feed.old) (λ logs. (m : Session) → IsSession logs m
         → StandsForSession logs m target.old
         → IfOk result (λ l. IsLine logs m (Command.Stop id n last) l target.new)) }
     ensures read_fault { IsErrOf result Unanswered.ReadFault → Rose (F.faults feed.old) (F.faults feed.new) }
-    ensures later { F.faults feed.old ≤ F.faults feed.new }
 {
     match target.stopped_poll(alloc, feed, id, n, last) {
         Ok(PollAnswer::Polled(count)) => Ok(Line::Stopped { id, count }),
@@ -139,13 +137,12 @@ fn restart(target: &mut Target, id: u32) -> Line
 
 fn drain<F: Feed>(alloc: Global, target: &mut Target, feed: &mut F) -> Result<Answer, Unanswered>
     requires fits { FitsFeed (F.headers feed.old) (F.counts feed.old) target.old }
-    ensures kept { Kept (F.headers feed.old) (F.headers feed.new) (F.counts feed.old) (F.counts feed.new)
-        (F.logs feed.old) (F.logs feed.new) target.old target.new }
+    ensures kept { Kept (F.headers feed.new) (F.counts feed.new) target.old target.new }
+    ensures feed { SameFeed F.headers F.counts F.logs F.faults feed.old feed.new }
     ensures step { IfSome (F.logs feed.old) (λ logs. (m : Session) → IsSession logs m
         → StandsForSession logs m target.old
         → IfOk result (λ a. IsAnswer logs m Command.Drain a.text a.halted target.new)) }
     ensures read_fault { IsErrOf result Unanswered.ReadFault → Rose (F.faults feed.old) (F.faults feed.new) }
-    ensures later { F.faults feed.old ≤ F.faults feed.new }
 {
     match target.drain(alloc, feed) {
         Ok(halts) => halts_answer(alloc, target.safe(), &halts),

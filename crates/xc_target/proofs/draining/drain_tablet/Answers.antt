@@ -1,8 +1,9 @@
-use Rattle.std.proofs.Common.{◌≡◌, ◌∙◌, refl, arith, subst, sym, Some}
+use Rattle.std.proofs.Common.{◌≡◌, ◌∙◌, refl, subst, sym, Some}
 use Rattle.std.specs.Prelude.{IfSome}
 use Rattle.std.proofs.lemmas.Option.{IfSome_then}
 use Rattle.xc_record.specs.Accepted.{AcceptedTablet, accepted_tablet}
 use Rattle.xc_record.specs.Session.{Session, IsSession}
+use Rattle.xc_logs.proofs.FeedFacts.{same-feed, same-on}
 use Rattle.xc_target.specs.Stands.{StandsForSession}
 use Rattle.xc_target.specs.Answers.{IsDrainedOne}
 use Rattle.xc_target.proofs.DrainLaws.{idle-answer, polling-starts, polling-goes-on, polling-ends, polls-end, known-still}
@@ -14,9 +15,7 @@ polls-init g c = record {
   fits = c.requires.fits;
   closed = refl;
   ranges = refl;
-  headers = refl;
-  counts = refl;
-  logs = refl;
+  feed = same-feed _;
   faults = refl;
   polled = polling-starts (g.F.Feed.logs c.args.feed.now) c.args.id c.args.target.now c.requires.known;
 }
@@ -26,16 +25,14 @@ polls-preserved g c =
     let so = c.polls.invariant in
     let k = c.in_ok-answer.ensures in
     record {
-      known = known-still _ _ _ _ c.polls.target c.poll.new.self c.args.id k.same_headers so.fits k.fits so.known;
+      known = known-still _ _ _ _ c.polls.target c.poll.new.self c.args.id k.feed.same_headers so.fits k.fits so.known;
       fits = k.fits;
       closed = k.same_closed ∙ so.closed;
       ranges = k.ranges ∙ so.ranges;
-      headers = k.same_headers ∙ so.headers;
-      counts = k.same_counts ∙ so.counts;
-      logs = k.same_logs ∙ so.logs;
-      faults = k.quiet (λ e. cc) ∙ so.faults;
+      feed = same-on _ _ _ so.feed k.feed;
+      faults = k.fault.quiet (λ e. cc) ∙ so.faults;
       polled = polling-goes-on (g.F.Feed.logs c.args.feed.now) (g.F.Feed.logs c.polls.feed) c.args.id c.in-Polled.field-0
-          c.in_ok-answer.answer c.args.target.now c.polls.target c.poll.new.self so.logs c.in-Polled.is so.polled k.step;
+          c.in_ok-answer.answer c.args.target.now c.polls.target c.poll.new.self so.feed.same_logs c.in-Polled.is so.polled k.step;
     }
 
 pub returns-in_default : goal.returns-in_default
@@ -48,22 +45,18 @@ returns-in_default g c =
     let old = c.args.target.now in
     let new = c.poll.new.self in
     let idle = idle-answer a c.in_default.not-Polled in
-    let quiet = k.quiet (λ e. cc) ∙ so.faults in
-    let polls = polls-end o (g.F.Feed.logs c.polls.feed) s a old c.polls.target new so.logs idle so.polled k.step in
+    let quiet = k.fault.quiet (λ e. cc) ∙ so.faults in
+    let polls = polls-end o (g.F.Feed.logs c.polls.feed) s a old c.polls.target new so.feed.same_logs idle so.polled k.step in
     record {
       fits = k.fits;
       ranges = k.ranges ∙ so.ranges;
       drained = subst (λ found. IfSome o (λ logs. (m : Session) (b : AcceptedTablet) → IsSession logs m → StandsForSession logs m old
           → accepted_tablet logs s ≡ Some b → IsDrainedOne logs m s b new found)) (sym c.halt_of.ensures)
-          (polling-ends o (g.F.Feed.logs c.polls.feed) s a old c.polls.target new so.logs idle so.polled k.step);
+          (polling-ends o (g.F.Feed.logs c.polls.feed) s a old c.polls.target new so.feed.same_logs idle so.polled k.step);
       polls = polls;
       failed = IfSome_then o polls (λ logs f m is st. tt);
       refusal = λ t e. absurd (cc);
       same_closed = k.same_closed ∙ so.closed;
-      read_fault = λ e. absurd (cc);
-      quiet = λ e. quiet;
-      same_headers = k.same_headers ∙ so.headers;
-      same_counts = k.same_counts ∙ so.counts;
-      same_logs = k.same_logs ∙ so.logs;
-      later = omega arith;
+      fault = record { rose = λ e. absurd (cc); quiet = λ e. quiet };
+      feed = same-on _ _ _ so.feed k.feed;
     }

@@ -1,5 +1,6 @@
 use Rattle.std.proofs.Common.{◌≡◌, ◌<◌, ◌-◌, length, map}
 use Rattle.std.specs.Prelude.{IfSome, slice_index}
+use Rattle.xc_logs.specs.Feed.{SameFeed}
 use Rattle.xc_model.specs.Rows.{range_of}
 use Rattle.xc_target.specs.Target.{FitsFeed}
 use Rattle.xc_target.specs.Answers.{cursor_at}
@@ -12,9 +13,7 @@ invariant-polls g l = record {
   fits : FitsFeed (g.F.Feed.headers l.feed) (g.F.Feed.counts l.feed) l.target;
   closed : l.target.closed ≡ l.fn.target.closed;
   ranges : map range_of l.target.tablets ≡ map range_of l.fn.target.tablets;
-  headers : g.F.Feed.headers l.feed ≡ g.F.Feed.headers l.fn.feed;
-  counts : g.F.Feed.counts l.feed ≡ g.F.Feed.counts l.fn.feed;
-  logs : g.F.Feed.logs l.feed ≡ g.F.Feed.logs l.fn.feed;
+  feed : SameFeed g.F.Feed.headers g.F.Feed.counts g.F.Feed.logs g.F.Feed.faults l.fn.feed l.feed;
   faults : g.F.Feed.faults l.feed ≡ g.F.Feed.faults l.fn.feed;
   polled : IfSome (g.F.Feed.logs l.fn.feed) (Polling l.id l.fn.target l.target);
 }

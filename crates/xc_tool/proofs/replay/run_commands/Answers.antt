@@ -1,7 +1,8 @@
-use Rattle.std.proofs.Common.{refl, ◌<◌, ◌+◌, ◌∙◌, [], drop, length, sym, arith}
+use Rattle.std.proofs.Common.{refl, ◌<◌, ◌+◌, ◌∙◌, [], drop, length, sym}
 use Rattle.std.proofs.KnownBytes.{Appends-nil, Appends-trans}
 use Rattle.std.proofs.lemmas.Option.{IfSome_then}
-use Rattle.xc_tool.proofs.CommandRuns.{goes-first, on-next, next-item, if-some, kept-on, same-sources, stopped-memory, stopped-writing}
+use Rattle.xc_logs.proofs.FeedFacts.{same-feed, same-on}
+use Rattle.xc_tool.proofs.CommandRuns.{goes-first, on-next, next-item, if-some, same-sources, stopped-memory, stopped-writing}
 use Rattle.xc_tool.proofs.replay.run_commands.Goals as goal
 
 pub loop-command-init : goal.loop-command-init
@@ -9,12 +10,12 @@ loop-command-init g c =
     record {
       went = [];
       out = Appends-nil _;
-      kept = record { fits = c.requires.fits; headers_stay = refl; counts_stay = refl; told_stays = refl; targets = refl };
+      kept = record { fits = c.requires.fits; targets = refl };
+      feed = same-feed _;
       sources = c.requires.sources;
       goes = if-some (g.F.Feed.logs c.args.feed.now) (λ logs st agree. goes-first logs _ _ st);
       quiet = refl;
       tells = refl;
-      later = omega arith;
     }
 
 pub loop-command-preserved : goal.loop-command-preserved
@@ -27,19 +28,19 @@ loop-command-preserved g c =
     let goes =
     on-next o (g.F.Feed.logs c.loop-command.feed) commands (drop (i + 1) commands) (drop i commands) c.command-item.result kept.went
     c.as_slice.result.now c.in-Ok.answer.text c.loop-command.halted c.in-Ok.answer.halted c.args.target.now
-    c.loop-command.target c.answer.new.target kept.kept.told_stays (next-item commands i c.command-item.result within c.command-item.is)
+    c.loop-command.target c.answer.new.target kept.feed.same_logs (next-item commands i c.command-item.result within c.command-item.is)
     c.as_slice.ensures kept.goes c.in-Ok.ensures.step in
     record {
       went = _;
       out = Appends-trans _ _ _ _ _ kept.out c.in-Ok-write_all.ensures.ok;
-      kept = kept-on _ _ _ _ _ _ _ _ _ _ _ _ kept.kept c.answer.ensures.kept;
+      kept = record { fits = c.answer.ensures.kept.fits; targets = c.answer.ensures.kept.targets ∙ kept.kept.targets };
+      feed = same-on _ _ _ kept.feed c.answer.ensures.feed;
       sources = kept.sources
           ∙ sym (same-sources _ _ _ _ c.loop-command.target c.answer.new.target kept.kept.fits c.answer.ensures.kept.fits
-          c.answer.ensures.kept.headers_stay);
+          c.answer.ensures.feed.same_headers);
       goes = goes;
       quiet = c.write_all.ensures.quiet (λ e. cc) ∙ kept.quiet;
       tells = c.write_all.ensures.told ∙ kept.tells;
-      later = let a = kept.later in let b = c.answer.ensures.later in omega arith;
     }
 
 pub returns-in-Err-Failed : goal.returns-in-Err-Failed
@@ -52,7 +53,7 @@ returns-in-Err-Failed g c =
     let goes =
     on-next o (g.F.Feed.logs c.loop-command.feed) commands (drop (i + 1) commands) (drop i commands) c.command-item.result kept.went
     c.as_slice.result.now c.in-Ok.answer.text c.loop-command.halted c.in-Ok.answer.halted c.args.target.now
-    c.loop-command.target c.answer.new.target kept.kept.told_stays (next-item commands i c.command-item.result within c.command-item.is)
+    c.loop-command.target c.answer.new.target kept.feed.same_logs (next-item commands i c.command-item.result within c.command-item.is)
     c.as_slice.ensures kept.goes c.in-Ok.ensures.step in
     let rose = c.write_all.ensures.failed (cc) in
     IfSome_then o goes
@@ -70,7 +71,7 @@ returns-in-Err-NoMemory-write_all g c =
     let goes =
     on-next o (g.F.Feed.logs c.loop-command.feed) commands (drop (i + 1) commands) (drop i commands) c.command-item.result kept.went
     c.as_slice.result.now c.in-Ok.answer.text c.loop-command.halted c.in-Ok.answer.halted c.args.target.now
-    c.loop-command.target c.answer.new.target kept.kept.told_stays (next-item commands i c.command-item.result within c.command-item.is)
+    c.loop-command.target c.answer.new.target kept.feed.same_logs (next-item commands i c.command-item.result within c.command-item.is)
     c.as_slice.ensures kept.goes c.in-Ok.ensures.step in
     IfSome_then o goes
     (λ logs f st agree. stopped-memory _ _ logs commands (drop (i + 1) commands) kept.went _ c.answer.new.target _ c.as_slice.result.now

@@ -23,7 +23,7 @@ gave g c =
 
 pub returns-clause-fits : goal.returns-clause-fits
 returns-clause-fits g c =
-    rw (c.fetch.ensures.same_headers, c.fetch.ensures.same_counts, c.take.ensures.looked)
+    rw (c.fetch.ensures.feed.same_headers, c.fetch.ensures.feed.same_counts, c.take.ensures.looked)
     (fits-looked _ _ _ _ _ (gave g (goal.at.returns-clause-fits g c).In_ok-records))
 
 pub returns-clause-next : goal.returns-clause-next

@@ -15,7 +15,7 @@ ready : (g : Over) (c : In_ok-step g)
 ready g c =
     let k = c.next_batch.ensures in
     ready-of _ _ _ _ _ _ _ _ _ _ (g.met.F.Feed.shape c.args.feed.now) (subst IsPoller c.self.view_is c.self.invariant)
-    k.same_headers k.same_counts k.looked k.fits c.in_ok-step.ensures.step c.requires.tablets
+    k.feed.same_headers k.feed.same_counts k.looked k.fits c.in_ok-step.ensures.step c.requires.tablets
 
 came : (g : Over) (c : After-give g)
     → Came c.next_batch.new.self c.give.new.self c.args.tablets.now c.give.new.tablets c.in_ok-step.step
@@ -32,7 +32,7 @@ give-requires g c = record { can = can-give _ _ _ _ _ _ _ (ready g (goal.at.give
 pub returns-clause-tablets : goal.returns-clause-tablets
 returns-clause-tablets g c =
     let a = goal.at.returns-clause-tablets g c in
-    still-at _ _ _ _ c.give.new.self c.give.new.tablets c.next_batch.ensures.same_headers c.next_batch.ensures.same_counts
+    still-at _ _ _ _ c.give.new.self c.give.new.tablets c.next_batch.ensures.feed.same_headers c.next_batch.ensures.feed.same_counts
     (tablets-still _ _ _ _ _ _ _ _ _ (ready g a.In_ok-step) (came g a.After-give))
 
 pub returns-clause-keep_standing : goal.returns-clause-keep_standing

@@ -12,7 +12,7 @@ ready : (g : Over) (c : In_ok-step g)
 ready g c =
     let k = c.next_batch.ensures in
     ready-of _ _ _ _ _ _ _ _ _ _ (g.met.F.Feed.shape c.args.feed.now) (subst IsPoller c.self.view_is c.self.invariant)
-    k.same_headers k.same_counts k.looked k.fits c.in_ok-step.ensures.step c.requires.tablets
+    k.feed.same_headers k.feed.same_counts k.looked k.fits c.in_ok-step.ensures.step c.requires.tablets
 
 came : (g : Over) (c : After-cut_off g)
     → Came c.next_batch.new.self c.cut_off.new.self c.args.tablets.now c.cut_off.new.tablets c.in_ok-step.step
@@ -29,7 +29,7 @@ cut_off-requires-clause-can g c = can-give _ _ _ _ _ _ _ (ready g (goal.at.cut_o
 pub returns-clause-tablets : goal.returns-clause-tablets
 returns-clause-tablets g c =
     let a = goal.at.returns-clause-tablets g c in
-    still-at _ _ _ _ c.cut_off.new.self c.cut_off.new.tablets c.next_batch.ensures.same_headers c.next_batch.ensures.same_counts
+    still-at _ _ _ _ c.cut_off.new.self c.cut_off.new.tablets c.next_batch.ensures.feed.same_headers c.next_batch.ensures.feed.same_counts
     (tablets-still _ _ _ _ _ _ _ _ _ (ready g a.In_ok-step) (came g a.After-cut_off))
 
 pub returns-clause-keep_standing : goal.returns-clause-keep_standing

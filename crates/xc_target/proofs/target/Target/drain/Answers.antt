@@ -3,6 +3,7 @@ use Rattle.std.specs.Prelude.{IfSome}
 use Rattle.std.specs.List.{cons_option}
 use Rattle.std.proofs.lemmas.Grind.{common_steps}
 use Rattle.std.proofs.lemmas.List.{append-nil}
+use Rattle.xc_logs.proofs.FeedFacts.{same-on}
 use Rattle.xc_target.specs.Target.{TargetState}
 use Rattle.xc_target.proofs.DrainLaws.{count-still}
 use Rattle.xc_target.proofs.PassLaws.{Draining, draining-goes-on, draining-fails, draining-stops, draining-ends, few-pollers}
@@ -22,7 +23,7 @@ returns-in_err-halt-clause-failed g c =
     let so = c.loop-id.invariant in
     let e = c.in_err-halt.field-0.0 in
     let fails = draining-fails (g.F.Feed.logs c.args.feed.now) (g.F.Feed.logs c.loop-id.feed) c.loop-id.id c.args.self.now c.loop-id.self
-    c.drain_tablet.new.target c.loop-id.halts.items e so.logs so.was_open so.drained c.in_err-halt.ensures.failed in
+    c.drain_tablet.new.target c.loop-id.halts.items e so.feed.same_logs so.was_open so.drained c.in_err-halt.ensures.failed in
     let is : c.from_residual.result ≡ Err e = grind (arith, common_steps) in
     rw is fails
 
@@ -30,7 +31,7 @@ pub returns-then-is_err-clause-failed : goal.returns-then-is_err-clause-failed
 returns-then-is_err-clause-failed g c =
     let so = c.loop-id.invariant in
     draining-stops (g.F.Feed.logs c.args.feed.now) (g.F.Feed.logs c.loop-id.feed) c.loop-id.id c.args.self.now c.loop-id.self
-    c.drain_tablet.new.target c.loop-id.halts.items so.logs so.drained c.in_ok-halt.ensures.polls
+    c.drain_tablet.new.target c.loop-id.halts.items so.feed.same_logs so.drained c.in_ok-halt.ensures.polls
 
 pub loop-id-preserved : goal.loop-id-preserved
 loop-id-preserved g c =
@@ -42,9 +43,9 @@ loop-id-preserved g c =
     let found = c.in_ok-halt.field-0 in
     let hs = g.F.Feed.headers c.loop-id.feed in
     let cs = g.F.Feed.counts c.loop-id.feed in
-    let count = count-still hs _ cs _ c.loop-id.self new k.same_headers so.fits k.fits in
+    let count = count-still hs _ cs _ c.loop-id.self new k.feed.same_headers so.fits k.fits in
     let known = so.known in
-    let quiet = k.quiet (λ e. cc) in
+    let quiet = k.fault.quiet (λ e. cc) in
     let more : c.match-branch-2.halts.items ≡ c.loop-id.halts.items ++ cons_option found [] =
     elim c.match-branch-2.branch [
       | in-Some-2+else-is_err w ↦
@@ -60,13 +61,11 @@ loop-id-preserved g c =
       was_open = so.was_open;
       is_open = k.same_closed ∙ so.is_open;
       ranges = k.ranges ∙ so.ranges;
-      headers = k.same_headers ∙ so.headers;
-      counts = k.same_counts ∙ so.counts;
-      logs = k.same_logs ∙ so.logs;
+      feed = same-on _ _ _ so.feed k.feed;
       faults = quiet ∙ so.faults;
       drained = subst (λ items. IfSome o (Draining (c.loop-id.id + 1) old new items)) (sym more)
-          (draining-goes-on o (g.F.Feed.logs c.loop-id.feed) c.loop-id.id old c.loop-id.self new c.loop-id.halts.items found so.logs
-          (omega (arith, c.loop-id-test.true)) so.drained k.drained k.polls);
+          (draining-goes-on o (g.F.Feed.logs c.loop-id.feed) c.loop-id.id old c.loop-id.self new c.loop-id.halts.items found
+          so.feed.same_logs (omega (arith, c.loop-id-test.true)) so.drained k.drained k.polls);
     }
 
 pub returns-clause-drained : goal.returns-clause-drained

@@ -40,7 +40,7 @@ called : (g : Over) (c : After-poll-polled g)
 called g c =
     let k = c.poll-polled.ensures in
     make-called _ _ _ _ _ _ _ (before g c) c.args.self.now _ _ c.deref_mut.result.now _ _ c.self.view_is c.in_default.is
-    c.requires.known c.index_mut-poller.ensures.value c.deref_mut.ensures.value k.same_headers k.same_counts k.fits k.tablets
+    c.requires.known c.index_mut-poller.ensures.value c.deref_mut.ensures.value k.feed.same_headers k.feed.same_counts k.fits k.tablets
     (polled-ended _ _ _ _ _ _ _ _ k.polled) k.answer k.stands k.keep_standing
 
 -- the tablets after it
@@ -78,7 +78,7 @@ fits-after : (g : Over) (c : After-poll-polled g) (ps : List PollerState)
     (with_pollers (before g c) (tablets g c) ps)
 fits-after g c ps f =
     let k = c.poll-polled.ensures in
-    fits-now _ _ _ _ _ k.same_headers k.same_counts
+    fits-now _ _ _ _ _ k.feed.same_headers k.feed.same_counts
     (subst (λ (w : List TargetTablet). FitsFeed (g.F.Feed.headers c.args.feed.now) (g.F.Feed.counts c.args.feed.now)
     (with_pollers (before g c) w ps)) (sym (tablets-are g c)) f)
 

@@ -29,7 +29,7 @@ called : (g : Over) (c : After-stopped_poll-stopped g)
 called g c =
     let k = c.stopped_poll-stopped.ensures in
     make-called _ _ _ _ _ _ _ (before g c) c.args.self.now _ _ c.deref_mut.result.now _ _ c.self.view_is c.in_default.is
-    c.requires.known c.index_mut-poller.ensures.value c.deref_mut.ensures.value k.same_headers k.same_counts k.fits k.tablets
+    c.requires.known c.index_mut-poller.ensures.value c.deref_mut.ensures.value k.feed.same_headers k.feed.same_counts k.fits k.tablets
     (stopped-ended _ _ _ _ _ _ _ _ _ k.stopped) k.answer k.stands k.keep_standing
 
 -- the tablets after it
@@ -55,7 +55,7 @@ returns-clause-fits g c =
     (sym a.self.view_is) a.requires.fits in
     subst (λ (w : List TargetTablet). FitsFeed (g.F.Feed.headers a.stopped_poll-stopped.new.feed)
     (g.F.Feed.counts a.stopped_poll-stopped.new.feed) (put_in (before g a) a.args.id q w)) (sym (tablets-are g a))
-    (fits-now _ _ _ _ _ k.same_headers k.same_counts
+    (fits-now _ _ _ _ _ k.feed.same_headers k.feed.same_counts
     (fits-called _ _ _ _ _ _ _ _ _ _ (g.met.F.Feed.shape a.args.feed.now) (called g a) fitted))
 
 pub returns-clause-step : goal.returns-clause-step

@@ -1,6 +1,6 @@
 // Operations of a record, packed into bytes, which contracts see as a list.
-ghost use Rattle.std.specs.Prelude.{◌≡◌, true, bytes_eq, ◌++◌, ◌∷◌, ◌↔◌, ◌<◌, ◌≤◌, ◌^◌, [], length, is_ok, IsTrue, IfOk, OnOk};
-ghost use Rattle.std.specs.Prelude.{if◌then◌else◌, slice_get};
+ghost use Rattle.std.specs.Prelude.{◌≡◌, true, bytes_eq, ◌++◌, ◌∷◌, ◌↔◌, ◌<◌, ◌≤◌, ◌^◌, [], length, is_ok, IsTrue};
+ghost use Rattle.std.specs.Prelude.{IfOk, OnOk, if◌then◌else◌, slice_get};
 ghost use Rattle.std.specs.Cmp.{partial_equiv_from_equiv};
 ghost use Rattle.std.specs.Ordering.{on};
 ghost use Rattle.std.specs.Cmp.Lexicographic.{on_texts_equal};

@@ -7,4 +7,5 @@ invariant_of-self c =
 
 pub returns : goal.returns
 returns c = rw (← c.self.view_is)
-    (decode_after _ _ c.push_parts.result c.push_parts.new.bytes.items c.self.invariant c.push_parts.ensures.well c.push_parts.ensures.items)
+    (decode_after _ _ c.push_parts.result c.push_parts.new.bytes.items c.self.invariant c.push_parts.ensures.well
+    c.push_parts.ensures.items)

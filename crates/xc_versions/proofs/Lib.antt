@@ -13,3 +13,4 @@ pub mod PruneLaws
 pub mod SubLaws
 pub mod ShrinkLaws
 pub mod DueLaws
+pub mod LossLaws

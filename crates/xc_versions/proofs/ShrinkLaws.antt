@@ -1,18 +1,14 @@
 -- Pages of which one loses versions.
 use Rattle.std.proofs.Common.{◌≡◌, ℕ, suc, ◌+◌, ◌-◌, ◌*◌, ◌<◌, ◌≤◌, Bool, true, false, cond, List, [], ◌∷◌, ◌++◌, length, get_or, take}
-use Rattle.std.proofs.Common.{Vec, vec_capacity, deque_capacity}
 use Rattle.std.proofs.Common.{drop, max, refl, ap, sym, ◌∙◌, subst, arith, append-nil, set, add-one, length-append}
 use Rattle.std.specs.Prelude.{remove, filter}
-use Rattle.std.specs.declared.collections.VecDeque.{VecDeque}
-use Rattle.std.specs.declared.alloc.Global.{Global}
-use Rattle.xc_versions.specs.Pool.{IsStore}
 use Rattle.std.proofs.lemmas.List.{length-take, drop_all, length-take-le, drop_at, length-drop, get_or_default, get_or-take, take-take}
-use Rattle.std.proofs.lemmas.List.{take-set, drop-set-lt, length-set}
+use Rattle.std.proofs.lemmas.List.{take-set, drop-set-lt}
 use Rattle.xc_record.proofs.ListLaws.{Each, Each-append}
 use Rattle.xc_versions.specs.declared.stored.StoredVersion.{StoredVersion}
 use Rattle.xc_versions.specs.declared.page.Page.{Page}
 use Rattle.xc_versions.specs.Stored.{InOrder, is_replaced, next_replaces, pruned_before}
-use Rattle.xc_versions.specs.Pages.{held, items_of, IsPage, IsEmptyPage, IsPaged, Idle, IdleNext, Dues}
+use Rattle.xc_versions.specs.Pages.{held, items_of, IsPage, IsPaged, Idle, IdleNext, Dues}
 use Rattle.xc_versions.specs.Pages.{over, load, spare_of, slots_of, due_of}
 use Rattle.xc_versions.proofs.StoredOrder.{in_order-right}
 use Rattle.xc_versions.proofs.VersionLaws.{replaced-first}
@@ -225,48 +221,3 @@ length-kept p [] = omega arith
 length-kept p (x ∷ xs) =
     let rest = length-kept p xs in
     elim (p x) as (λ b. length (cond b (x ∷ filter p xs) (filter p xs)) ≤ length (x ∷ xs)) [ true ↦ omega arith | false ↦ omega arith ]
-
--- ---- the store after a page lost versions
-
--- all of its versions, and the page went to the pool
-pub store-gone : (b : List ℕ) (pages pages2 : VecDeque Page Global) (pool pool2 : Vec Page Global) (i : ℕ) (q : Page) → IsStore b pages pool
-    → i < length pages.items → q ≡ get_or pages.items i q
-    → Sub (items_of b (drop (i + 1) pages.items)) (held b q ++ items_of b (drop (i + 1) pages.items))
-    → pages2.items ≡ take i pages.items ++ drop (i + 1) pages.items → Each IsEmptyPage pool2.items
-    → length pool2.items ≡ length pool.items + 1 → deque_capacity pages2 ≡ deque_capacity pages → vec_capacity pool2 ≡ vec_capacity pool
-    → IsStore b pages2 pool2
-store-gone b pages pages2 pool pool2 i q s h e sub is empty more pages_capacity pool_capacity =
-    let old = pages.items in
-    let long = length-removed old i h in
-    let count : length pages2.items ≡ length (take i old ++ drop (i + 1) old) = ap length is in
-    let pages_room = s.room.pages_room in
-    let pool_room = s.room.pool_room in
-    record {
-      paged = subst (λ (ps : List Page). IsPaged b ps []) (sym is) (shrunk-at b old i q [] s.paged h e sub tt (λ o. tt));
-      empty = empty;
-      room = record { pages_room = omega arith; pool_room = omega arith };
-    }
-
--- some of them, and the page r stands in its place
-pub store-kept : (b : List ℕ) (pages pages2 : VecDeque Page Global) (pool : Vec Page Global) (i : ℕ) (q r : Page) → IsStore b pages pool
-    → i < length pages.items → q ≡ get_or pages.items i q
-    → Sub (held b r ++ items_of b (drop (i + 1) pages.items)) (held b q ++ items_of b (drop (i + 1) pages.items)) → IsPage b r
-    → (InOrder (held b r ++ items_of b (drop (i + 1) pages.items)) → (u : ℕ) → u < due_of r
-    → Idle u (held b r) (items_of b (drop (i + 1) pages.items)))
-    → pages2.items ≡ set pages.items i r → deque_capacity pages2 ≡ deque_capacity pages → IsStore b pages2 pool
-store-kept b pages pages2 pool i q r s h e sub is_page idle is pages_capacity =
-    let old = pages.items in
-    let rest = items_of b (drop (i + 1) old) in
-    let flat : items_of b (r ∷ []) ++ rest ≡ held b r ++ rest = ap (λ w. w ++ rest) (append-nil (held b r)) in
-    let paged : IsPaged b (take i old ++ ((r ∷ []) ++ drop (i + 1) old)) [] =
-    shrunk-at b old i q (r ∷ []) s.paged h e (subst (λ (w : List StoredVersion). Sub w (held b q ++ rest)) (sym flat) sub) (is_page, tt)
-    (λ o. dues-one b r rest (idle (subst InOrder flat o))) in
-    let long = length-set old i r in
-    let count = ap length is in
-    let pages_room = s.room.pages_room in
-    let pool_room = s.room.pool_room in
-    record {
-      paged = subst (λ (ps : List Page). IsPaged b ps []) (sym (is ∙ set-cut old i r h)) paged;
-      empty = s.empty;
-      room = record { pages_room = omega arith; pool_room = omega arith };
-    }

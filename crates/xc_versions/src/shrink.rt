@@ -8,7 +8,7 @@ ghost use Rattle.xc_versions.specs.Slots.{seen};
 ghost use Rattle.xc_versions.specs.Heads.{IsSlot};
 ghost use Rattle.xc_versions.specs.Pages.{held, due_of, IsPage, IsEmptyPage, items_of, spare_of};
 ghost use Rattle.xc_versions.specs.declared.page.Page.{Page};
-ghost use Rattle.xc_versions.specs.Pool.{IsStore};
+ghost use Rattle.xc_versions.specs.Pool.{IsStore, Loses};
 ghost use Rattle.xc_versions.specs.Dues.{dues_of, Covers, Shrunk};
 
 use crate::least::{GROUP, fill, least_of, raise_at, settle};
@@ -59,15 +59,7 @@ fn prune_at(
 ) -> usize
     requires store { IsStore bytes.now pages.old pool.old }
     requires within { i < length pages.old.items }
-    ensures store { IsStore bytes.now pages.new pool.new }
-    ensures front { take i pages.new.items ≡ take i pages.old.items }
-    ensures tail { (q : Page) → q ≡ slice_index_or pages.old.items i q
-        → items_of bytes.now (drop i pages.new.items)
-        ≡ pruned_before cutoff (held bytes.now q) (items_of bytes.now (drop (i + 1) pages.old.items)) }
-    ensures spare { spare_of pages.old.items (length pool.old.items) ≤ spare_of pages.new.items
-        (length pool.new.items) }
-    ensures dues { Shrunk i (dues_of pages.old.items) (dues_of pages.new.items) }
-    ensures len { i ≤ length pages.new.items }
+    ensures { Loses bytes.now pages.old pages.new pool.old pool.new i (pruned_before cutoff) }
 {
     if is_idle(pages, i, cutoff) {
         return 0;
@@ -103,13 +95,7 @@ fn prune_page(
     requires store { IsStore bytes.now pages.old pool.old }
     requires within { i < length pages.old.items }
     requires least { Covers (dues_of pages.old.items) least.old.items }
-    ensures store { IsStore bytes.now pages.new pool.new }
-    ensures front { take i pages.new.items ≡ take i pages.old.items }
-    ensures tail { (q : Page) → q ≡ slice_index_or pages.old.items i q
-        → items_of bytes.now (drop i pages.new.items)
-        ≡ pruned_before cutoff (held bytes.now q) (items_of bytes.now (drop (i + 1) pages.old.items)) }
-    ensures spare { spare_of pages.old.items (length pool.old.items) ≤ spare_of pages.new.items
-        (length pool.new.items) }
+    ensures loses { Loses bytes.now pages.old pages.new pool.old pool.new i (pruned_before cutoff) }
     ensures least { Covers (dues_of pages.new.items) least.new.items }
 {
     let count = pages.len();
@@ -155,15 +141,7 @@ pub(crate) fn prune(
 fn drop_at(bytes: &[u8], pages: &mut VecDeque<Page>, pool: &mut Vec<Page>, i: usize, t: u64)
     requires store { IsStore bytes.now pages.old pool.old }
     requires within { i < length pages.old.items }
-    ensures store { IsStore bytes.now pages.new pool.new }
-    ensures front { take i pages.new.items ≡ take i pages.old.items }
-    ensures tail { (q : Page) → q ≡ slice_index_or pages.old.items i q
-        → items_of bytes.now (drop i pages.new.items)
-        ≡ up_to t (held bytes.now q) ++ items_of bytes.now (drop (i + 1) pages.old.items) }
-    ensures spare { spare_of pages.old.items (length pool.old.items) ≤ spare_of pages.new.items
-        (length pool.new.items) }
-    ensures dues { Shrunk i (dues_of pages.old.items) (dues_of pages.new.items) }
-    ensures len { i ≤ length pages.new.items }
+    ensures { Loses bytes.now pages.old pages.new pool.old pool.new i (λ xs rest. up_to t xs ++ rest) }
 {
     let page = &mut pages[i];
     page.drop_later(t);

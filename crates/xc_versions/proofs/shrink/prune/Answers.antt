@@ -48,11 +48,11 @@ loop-i-preserved c =
     let before = subst (λ (k : ℕ). Walked b (kept u) old c.loop-i.pages.items k) same c.loop-i.invariant.walked in
     let within = before.within in
     record {
-      store = c.prune_page.ensures.store;
+      store = c.prune_page.ensures.loses.store;
       least = c.prune_page.ensures.least;
       walked = walked-some b (kept u) (pruned_before u) old c.loop-i.pages.items c.prune_page.new.pages.items i before
-          c.prune_page.ensures.front c.prune_page.ensures.tail
+          c.prune_page.ensures.loses.front c.prune_page.ensures.loses.tail
           (λ q e. sym (kept-before u (held b q) (items_of b (drop (i + 1) old))
           (order-at b old i q c.requires.store.paged (omega arith) e)));
-      spare = (let a = c.loop-i.invariant.spare in let b = c.prune_page.ensures.spare in both a b);
+      spare = (let a = c.loop-i.invariant.spare in let b = c.prune_page.ensures.loses.spare in both a b);
     }

@@ -1,6 +1,7 @@
 -- Pages of versions, whose keys and values lie in the bytes b, beside empty pages.
 --     HasRoom pages pool      both can hold all pages and all empty pages
 --     IsStored b pages pool least      and what is said of each 64 pages holds
+--     Gains b v pages pages2 pool pool2      the version v was put at its place, and room for one less may be left
 --     Loses b pages pages2 pool pool2 i left      the page i lost versions: of it and what stands behind it, `left` is there now
 use Rattle.std.specs.Prelude.{◌≡◌, ℕ, ◌+◌, ◌≤◌, List, [], length, take, drop, slice_index_or, vec_capacity, Vec}
 use Rattle.std.specs.VecDeque.{deque_capacity}
@@ -9,6 +10,7 @@ use Rattle.std.specs.List.{AllByRecursion}
 use Rattle.std.specs.declared.alloc.Global.{Global}
 use Rattle.xc_versions.specs.declared.stored.StoredVersion.{StoredVersion}
 use Rattle.xc_versions.specs.declared.page.Page.{Page}
+use Rattle.xc_versions.specs.Stored.{with_version}
 use Rattle.xc_versions.specs.Pages.{held, items_of, spare_of, IsPaged, IsEmptyPage}
 use Rattle.xc_versions.specs.Dues.{dues_of, Covers, Shrunk}
 
@@ -25,6 +27,11 @@ pub record IsStored (b : List ℕ) (pages : VecDeque Page Global) (pool : Vec Pa
     : Type 0 where
   pub store : IsStore b pages pool
   pub dues : Covers (dues_of pages.items) least.items
+
+pub record Gains (b : List ℕ) (v : StoredVersion) (pages pages2 : VecDeque Page Global) (pool pool2 : Vec Page Global) : Type 0 where
+  pub store : IsStore b pages2 pool2
+  pub items : items_of b pages2.items ≡ with_version v (items_of b pages.items)
+  pub spare : spare_of pages.items (length pool.items) ≤ spare_of pages2.items (length pool2.items) + 1
 
 pub record Loses (b : List ℕ) (pages pages2 : VecDeque Page Global) (pool pool2 : Vec Page Global) (i : ℕ)
     (left : List StoredVersion → List StoredVersion → List StoredVersion) : Type 0 where

@@ -12,7 +12,7 @@ ghost use Rattle.xc_versions.specs.Slots.{seen};
 ghost use Rattle.xc_versions.specs.Heads.{IsSlot, head_of};
 ghost use Rattle.xc_versions.specs.Around.{Around};
 ghost use Rattle.xc_versions.specs.Pages.{IsEmptyPage, IsPage, IsPaged, items_of, spare_of};
-ghost use Rattle.xc_versions.specs.Pool.{IsStore};
+ghost use Rattle.xc_versions.specs.Pool.{IsStore, Gains};
 ghost use Rattle.xc_versions.specs.Dues.{dues_of, Covers, Grew};
 
 use crate::head::Head;
@@ -31,11 +31,7 @@ fn add_first(bytes: &[u8], pages: &mut VecDeque<Page>, pool: &mut Vec<Page>, slo
     requires none { pages.old.items ≡ [] }
     requires slot { IsSlot bytes.now slot }
     requires room { 1 ≤ spare_of pages.old.items (length pool.old.items) }
-    ensures store { IsStore bytes.now pages.new pool.new }
-    ensures items { items_of bytes.now pages.new.items
-        ≡ with_version (seen bytes.now slot) (items_of bytes.now pages.old.items) }
-    ensures spare { spare_of pages.old.items (length pool.old.items) ≤ spare_of pages.new.items (length pool.new.items)
-        + 1 }
+    ensures gains { Gains bytes.now (seen bytes.now slot) pages.old pages.new pool.old pool.new }
     ensures dues { dues_of pages.new.items ≡ slot.commit ∷ [] }
 {
     let mut page = take_empty(pool);
@@ -52,11 +48,7 @@ fn add_at(bytes: &[u8], pages: &mut VecDeque<Page>, pool: &mut Vec<Page>, i: usi
     requires around { Around bytes.now (λ x. is_gt (stored_cmp (seen bytes.now slot) x)) pages.old.items i }
     requires slot { IsSlot bytes.now slot }
     requires room { 1 ≤ spare_of pages.old.items (length pool.old.items) }
-    ensures store { IsStore bytes.now pages.new pool.new }
-    ensures items { items_of bytes.now pages.new.items
-        ≡ with_version (seen bytes.now slot) (items_of bytes.now pages.old.items) }
-    ensures spare { spare_of pages.old.items (length pool.old.items) ≤ spare_of pages.new.items (length pool.new.items)
-        + 1 }
+    ensures gains { Gains bytes.now (seen bytes.now slot) pages.old pages.new pool.old pool.new }
     ensures dues { Grew i slot.commit (dues_of pages.old.items) (dues_of pages.new.items) }
     ensures len { length pages.old.items ≤ length pages.new.items }
 {
@@ -82,11 +74,7 @@ pub(crate) fn add(
     requires slot { IsSlot bytes.now slot }
     requires room { 1 ≤ spare_of pages.old.items (length pool.old.items) }
     requires least { Covers (dues_of pages.old.items) least.old.items }
-    ensures store { IsStore bytes.now pages.new pool.new }
-    ensures items { items_of bytes.now pages.new.items
-        ≡ with_version (seen bytes.now slot) (items_of bytes.now pages.old.items) }
-    ensures spare { spare_of pages.old.items (length pool.old.items) ≤ spare_of pages.new.items (length pool.new.items)
-        + 1 }
+    ensures gains { Gains bytes.now (seen bytes.now slot) pages.old pages.new pool.old pool.new }
     ensures least { Covers (dues_of pages.new.items) least.new.items }
 {
     let commit = slot.commit;

@@ -10,7 +10,7 @@ use Rattle.xc_versions.proofs.AddLaws.{Grown, in_page, added-at, set-cut, insert
 use Rattle.xc_versions.proofs.AddLaws.{length-set-insert}
 use Rattle.xc_versions.proofs.DueLaws.{grew-one, grew-two}
 use Rattle.xc_versions.proofs.pages.add_at.Goals as goal
-use Rattle.xc_versions.proofs.pages.add_at.Goals.{After-pages-else-is_over-1, After-insert_at}
+use Rattle.xc_versions.proofs.pages.add_at.Goals.{After-insert_at}
 
 pub put-requires-clause-ordered : goal.put-requires-clause-ordered
 put-requires-clause-ordered c =
@@ -28,16 +28,18 @@ take_empty-upper-requires-clause-some c =
     pool-there c.args.pages.now.items c.args.i q (length c.args.pool.now.items) c.requires.within c.index_mut-page.ensures.value full
     c.requires.room
 
-grown-one : (c : After-pages-else-is_over-1)
-    → Grown c.args.bytes.now (seen c.args.bytes.now c.args.slot) c.args.pages.now.items (set c.args.pages.now.items c.args.i c.put.new.self)
-grown-one c =
+pub returns-else-is_over-clause-gains : goal.returns-else-is_over-clause-gains
+returns-else-is_over-clause-gains c =
     let b = c.args.bytes.now in
+    let v = seen b c.args.slot in
     let old = c.args.pages.now.items in
+    let i = c.args.i in
     let q = c.index_mut-page.result.now in
     let r = c.put.new.self in
-    let page = page-at b old c.args.i q c.requires.store.paged.pages c.requires.within c.index_mut-page.ensures.value in
+    let n = length c.args.pool.now.items in
+    let page = page-at b old i q c.requires.store.paged.pages c.requires.within c.index_mut-page.ensures.value in
     let fits = ltb-false 64 (length (slots_of r)) (sym c.if-is_over.ensures) in
-    let long = c.put.ensures.len in
+    let more = c.put.ensures.len in
     let is_page : IsPage b r = record {
       some = omega arith;
       few = fits;
@@ -45,32 +47,24 @@ grown-one c =
       slots = c.put.ensures.slots;
       first = c.put.ensures.first;
     } in
-    subst (λ (ps : List Page). Grown b (seen b c.args.slot) old ps) (sym (set-cut old c.args.i r c.requires.within))
-    (added-at b (seen b c.args.slot) old c.args.i q (r ∷ []) c.requires.store.paged c.requires.fresh c.requires.within c.requires.around
-    c.index_mut-page.ensures.value
-    (append-nil (held b r) ∙ c.put.ensures.items) (is_page, tt) (c.put.ensures.due, tt))
-
-pub returns-else-is_over-clause-store : goal.returns-else-is_over-clause-store
-returns-else-is_over-clause-store c =
-    let w = length-set c.args.pages.now.items c.args.i c.put.new.self in
-    let room = c.requires.store.room in
+    let cut = set-cut old i r c.requires.within in
+    let grown : Grown b v old (set old i r) =
+    subst (λ (ps : List Page). Grown b v old ps) (sym cut)
+    (added-at b v old i q (r ∷ []) c.requires.store.paged c.requires.fresh c.requires.within c.requires.around c.index_mut-page.ensures.value
+    (append-nil (held b r) ∙ c.put.ensures.items) (is_page, tt) (c.put.ensures.due, tt)) in
+    let long = length-set old i r in
+    let pages_room = c.requires.store.room.pages_room in
+    let pool_room = c.requires.store.room.pool_room in
     record {
-      paged = (grown-one c).paged;
-      empty = c.requires.store.empty;
-      room = record
-          { pages_room = (let h = room.pages_room in omega arith); pool_room = (let h = room.pool_room in omega arith) };
+      store = record {
+        paged = grown.paged;
+        empty = c.requires.store.empty;
+        room = record { pages_room = omega arith; pool_room = omega arith };
+      };
+      items = grown.items;
+      spare = subst (λ (ps : List Page). spare_of old n ≤ spare_of ps n + 1) (sym cut)
+          (spare-one old i q r n c.requires.within c.index_mut-page.ensures.value more);
     }
-
-pub returns-else-is_over-clause-items : goal.returns-else-is_over-clause-items
-returns-else-is_over-clause-items c =
-    (grown-one c).items
-
-pub returns-else-is_over-clause-spare : goal.returns-else-is_over-clause-spare
-returns-else-is_over-clause-spare c =
-    let old = c.args.pages.now.items in
-    let n = length c.args.pool.now.items in
-    subst (λ (ps : List Page). spare_of old n ≤ spare_of ps n + 1) (sym (set-cut old c.args.i c.put.new.self c.requires.within))
-    (spare-one old c.args.i c.index_mut-page.result.now c.put.new.self n c.requires.within c.index_mut-page.ensures.value c.put.ensures.len)
 
 full-page : (c : After-insert_at) → length (slots_of c.index_mut-page.result.now) ≡ 64
 full-page c =
@@ -108,42 +102,37 @@ grown-two c =
       (c.split.ensures.upper_due ∙ c.put.ensures.due, tt),
     ))
 
-pub returns-then-is_over-clause-store : goal.returns-then-is_over-clause-store
-returns-then-is_over-clause-store c =
-    let long = length-set-insert c.args.pages.now.items c.args.i c.split.new.self c.split.new.upper c.requires.within in
-    let count : length c.insert_at.new.items.items ≡ length c.args.pages.now.items + 1 = ap length c.insert_at.ensures.items ∙ long in
-    let taken : length c.take_empty-upper.new.pool.items + 1 ≡ length c.args.pool.now.items = c.take_empty-upper.ensures.len in
-    let pages_capacity : deque_capacity c.args.pages.now ≤ deque_capacity c.insert_at.new.items = c.insert_at.ensures.capacity in
-    let pool_capacity : vec_capacity c.take_empty-upper.new.pool ≡ vec_capacity c.args.pool.now = c.take_empty-upper.ensures.capacity in
-    let pages_room = c.requires.store.room.pages_room in
-    let pool_room = c.requires.store.room.pool_room in
-    record {
-      paged = (grown-two c).paged;
-      empty = c.take_empty-upper.ensures.empty;
-      room = record
-          { pages_room = omega arith; pool_room = omega arith };
-    }
-
-pub returns-then-is_over-clause-items : goal.returns-then-is_over-clause-items
-returns-then-is_over-clause-items c =
-    (grown-two c).items
-
-pub returns-then-is_over-clause-spare : goal.returns-then-is_over-clause-spare
-returns-then-is_over-clause-spare c =
+pub returns-then-is_over-clause-gains : goal.returns-then-is_over-clause-gains
+returns-then-is_over-clause-gains c =
     let old = c.args.pages.now.items in
     let n = length c.args.pool.now.items in
     let m = length c.take_empty-upper.new.pool.items in
     let r = c.split.new.self in
     let s = c.split.new.upper in
+    let more = length-set-insert old c.args.i r s c.requires.within in
+    let count : length c.insert_at.new.items.items ≡ length old + 1 = ap length c.insert_at.ensures.items ∙ more in
+    let taken : m + 1 ≡ n = c.take_empty-upper.ensures.len in
+    let pages_capacity : deque_capacity c.args.pages.now ≤ deque_capacity c.insert_at.new.items = c.insert_at.ensures.capacity in
+    let pool_capacity : vec_capacity c.take_empty-upper.new.pool ≡ vec_capacity c.args.pool.now = c.take_empty-upper.ensures.capacity in
+    let pages_room = c.requires.store.room.pages_room in
+    let pool_room = c.requires.store.room.pool_room in
     let full = full-page c in
     let long = c.put.ensures.len in
     let low : length (slots_of r) ≡ 32 =
     ap length c.split.ensures.lower ∙ length-take-le 32 (slots_of c.put.new.self) (omega arith) in
     let high : length (slots_of s) ≡ 33 =
     ap length c.split.ensures.upper ∙ length-drop 32 (slots_of c.put.new.self) ∙ omega arith in
-    subst (λ (ps : List Page). spare_of old n ≤ spare_of ps m + 1) (sym (new-pages c))
-    (spare-two old c.args.i c.index_mut-page.result.now r s n m c.requires.within c.index_mut-page.ensures.value full low high
-    (sym c.take_empty-upper.ensures.len))
+    record {
+      store = record {
+        paged = (grown-two c).paged;
+        empty = c.take_empty-upper.ensures.empty;
+        room = record { pages_room = omega arith; pool_room = omega arith };
+      };
+      items = (grown-two c).items;
+      spare = subst (λ (ps : List Page). spare_of old n ≤ spare_of ps m + 1) (sym (new-pages c))
+          (spare-two old c.args.i c.index_mut-page.result.now r s n m c.requires.within c.index_mut-page.ensures.value full low high
+          (sym taken));
+    }
 
 pub returns-then-is_over-clause-dues : goal.returns-then-is_over-clause-dues
 returns-then-is_over-clause-dues c =

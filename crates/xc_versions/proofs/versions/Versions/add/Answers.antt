@@ -62,5 +62,5 @@ returns-clause-items c =
     let d = c.deref.result.now in
     let p = put c.self.inside.arena.items d ps slot op (c.deref.ensures.value ∙ c.copy_op.ensures.items)
     c.copy_op.ensures.well (c.len.ensures ∙ vec-long c.self.inside.arena) c.self.invariant.store.paged.pages in
-    ap (λ w. items_of w c.add.new.pages.items) (sym c.deref.ensures.value) ∙ c.add.ensures.items
+    ap (λ w. items_of w c.add.new.pages.items) (sym c.deref.ensures.value) ∙ c.add.ensures.gains.items
     ∙ ap (λ x. with_version x (items_of d ps)) p.new ∙ ap (with_version _) (p.old ∙ ap (λ s. s.items) c.self.view_is)

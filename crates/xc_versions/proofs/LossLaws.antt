@@ -1,5 +1,6 @@
 -- A store of which one page lost versions.
-use Rattle.std.proofs.Common.{◌≡◌, ℕ, ◌+◌, ◌<◌, ◌≤◌, List, [], ◌∷◌, ◌++◌, length, get_or, take, drop, set, Vec, vec_capacity, deque_capacity}
+use Rattle.std.proofs.Common.{◌≡◌, ℕ, ◌+◌, ◌<◌, ◌≤◌, List, [], ◌∷◌, ◌++◌, length, get_or, take, drop, set}
+use Rattle.std.proofs.Common.{Vec, vec_capacity, deque_capacity}
 use Rattle.std.proofs.Common.{refl, ap, sym, ◌∙◌, subst, arith, append-nil, inl, map}
 use Rattle.std.specs.Prelude.{remove}
 use Rattle.std.specs.declared.collections.VecDeque.{VecDeque}
@@ -95,8 +96,8 @@ loses-all b pages pages2 pool pool2 i q r left s h e sub is none new empty more 
     let long = length-removed old i h in
     let count = ap length cut in
     record {
-      store = store-gone b pages pages2 pool pool2 i q s h e (subst (λ (w : List StoredVersion). Sub w (held b q ++ rest)) gone sub) cut empty
-          more pages_capacity pool_capacity;
+      store = store-gone b pages pages2 pool pool2 i q s h e (subst (λ (w : List StoredVersion). Sub w (held b q ++ rest)) gone sub) cut
+          empty more pages_capacity pool_capacity;
       front = ap (take i) cut ∙ take_at (take i old) (drop (i + 1) old) i (length-take-le i old (omega arith));
       tail = λ p f. tail-gone b old pages2.items i p q (λ x. left (held b x) rest) h f e cut gone;
       spare = spare-gone old pages2.items i q (length pool.items) (length pool2.items) h e cut more;

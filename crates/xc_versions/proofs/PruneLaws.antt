@@ -1,5 +1,6 @@
 -- A prune of a page, from its last version to its first.
-use Rattle.std.proofs.Common.{◌≡◌, ℕ, suc, ◌+◌, ◌<◌, ◌≤◌, Bool, true, false, cond, List, [], ◌∷◌, ◌++◌, length, get_or, take, drop, Option, Some}
+use Rattle.std.proofs.Common.{◌≡◌, ℕ, suc, ◌+◌, ◌<◌, ◌≤◌, Bool, true, false, cond, List, [], ◌∷◌, ◌++◌, length, get_or, take, drop}
+use Rattle.std.proofs.Common.{Option, Some}
 use Rattle.std.proofs.Common.{refl, ap, sym, ◌∙◌, subst, arith, add-one, length-append}
 use Rattle.std.specs.Prelude.{remove, slice_get}
 use Rattle.std.specs.Option.{option_to_list}
@@ -45,8 +46,8 @@ shorter : (xs ys : List StoredVersion) (i : ℕ) → take (i + 1) xs ≡ take (i
 shorter xs ys i e = sym (take-take i (i + 1) xs (omega arith)) ∙ ap (take i) e ∙ take-take i (i + 1) ys (omega arith)
 
 -- what stands behind the version tells whether it is replaced
-told : (u : ℕ) (next : Option StoredVersion) (old items : List StoredVersion) (behind : Option StoredVersion) (due i : ℕ) (x : StoredVersion)
-    → Going u next old items behind due i → (w : ℕ) (rest : List StoredVersion) → slice_get rest 0 ≡ next
+told : (u : ℕ) (next : Option StoredVersion) (old items : List StoredVersion) (behind : Option StoredVersion) (due i : ℕ)
+    (x : StoredVersion) → Going u next old items behind due i → (w : ℕ) (rest : List StoredVersion) → slice_get rest 0 ≡ next
     → next_replaces w x (drop i items ++ rest) ≡ is_due w (next_commit x (option_to_list behind))
 told u next old items behind due i x g w rest r =
     ap (is_due w) (sym (by-head x (drop i items ++ rest)) ∙ ap (λ o. next_commit x (option_to_list o)) (g.head rest r))

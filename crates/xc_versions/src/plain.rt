@@ -234,7 +234,7 @@ fn random_calls_are_answered_as_by_a_plain_list(rt: HostRuntime) -> Result<(), F
         (2, 2_000, 1_000, 30),
         (3, 6_000, 1_000_000, 1_000),
         (4, 6_000, 9, 1_500),
-        // Prunes and a drop of 8,000 and more versions: the pages are more than two groups of 64, which shrink and grow.
+        // Prunes and a drop of 8,000 and more versions, in more than two groups of 64 pages that shrink and grow.
         (65, 12_000, 1_000_000, 5_000),
     ] {
         assert!(rt; run(rt.alloc(), seed, calls, commits, rare)?, "{seed}");

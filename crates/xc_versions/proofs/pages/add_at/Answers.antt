@@ -50,8 +50,8 @@ returns-else-is_over-clause-gains c =
     let cut = set-cut old i r c.requires.within in
     let grown : Grown b v old (set old i r) =
     subst (λ (ps : List Page). Grown b v old ps) (sym cut)
-    (added-at b v old i q (r ∷ []) c.requires.store.paged c.requires.fresh c.requires.within c.requires.around c.index_mut-page.ensures.value
-    (append-nil (held b r) ∙ c.put.ensures.items) (is_page, tt) (c.put.ensures.due, tt)) in
+    (added-at b v old i q (r ∷ []) c.requires.store.paged c.requires.fresh c.requires.within c.requires.around
+    c.index_mut-page.ensures.value (append-nil (held b r) ∙ c.put.ensures.items) (is_page, tt) (c.put.ensures.due, tt)) in
     let long = length-set old i r in
     let pages_room = c.requires.store.room.pages_room in
     let pool_room = c.requires.store.room.pool_room in

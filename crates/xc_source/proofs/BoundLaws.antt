@@ -29,7 +29,7 @@ use Rattle.xc_source.specs.declared.cursor.Cursor.{Cursor}
 use Rattle.xc_source.specs.Machine.{Transaction, commit_of}
 use Rattle.xc_source.specs.Waiting.{waits_on, is_waiting, commit_on}
 use Rattle.xc_source.specs.Holders.{numbered, commit_at, some_waits, AreWaiting, bound_at, least_bound, IsEarliest, AreCursors, earliest_at}
-use Rattle.xc_source.proofs.HolderLaws.{numbered-next, numbered-at}
+use Rattle.xc_source.proofs.NumberedLaws.{numbered-next, numbered-at}
 
 -- ---- the first of a list
 

@@ -27,7 +27,7 @@ use Rattle.xc_source.specs.Holders.{numbered, changed, committed_at}
 use Rattle.xc_source.specs.Universe.{Logged, IsUniverse, logged_in, unlogged, unlogged_all}
 use Rattle.xc_source.specs.Finish.{are_committed, apply_in, applies_in, safes_in, headers_of, taken_at, all_taken}
 use Rattle.xc_source.proofs.CallLaws.{machine_of}
-use Rattle.xc_source.proofs.HolderLaws.{numbered-at, numbered-same, numbered-other, numbered-next}
+use Rattle.xc_source.proofs.NumberedLaws.{numbered-at, numbered-same, numbered-other, numbered-next}
 use Rattle.xc_source.proofs.PendingLaws.{pending_whole}
 use Rattle.xc_source.proofs.UniverseLaws.{universe-set, universe-later, same-taken, same-stage, unlogged-logged}
 

@@ -4,7 +4,9 @@ pub mod CallLaws
 pub mod AnswerLaws
 pub mod WaitingLaws
 pub mod MapLaws
+pub mod NumberedLaws
 pub mod HolderLaws
+pub mod BookLaws
 pub mod UniverseLaws
 pub mod FinishLaws
 pub mod UndoneLaws

@@ -11,7 +11,7 @@ use Rattle.std.specs.BTreeSet as set
 use Rattle.std.proofs.lemmas.Option.{same_Some, slice_get_past}
 use Rattle.xc_source.specs.Machine.{begun}
 use Rattle.xc_source.specs.Universe.{places_in}
-use Rattle.xc_source.proofs.HolderLaws.{numbered-next, numbered-pos}
+use Rattle.xc_source.proofs.NumberedLaws.{numbered-next, numbered-pos}
 use Rattle.std.specs.List.{list_any}
 use Rattle.std.specs.BTreeMap.{is_at}
 use Rattle.std.specs.Ordering.{nat_cmp}

@@ -23,7 +23,8 @@ use Rattle.xc_source.specs.Universe.{IsUniverse, Logged, logged_in, unlogged, wi
 use Rattle.xc_source.specs.Machine.{with_transaction}
 use Rattle.xc_source.specs.Holders.{numbered, changed, late_at, commit_at}
 use Rattle.xc_source.proofs.CallLaws.{machine_of, to_transaction-found}
-use Rattle.xc_source.proofs.HolderLaws.{changed-is, some-within, numbered-at, numbered-same, numbered-other, commit-begun}
+use Rattle.xc_source.proofs.NumberedLaws.{changed-is, some-within, numbered-at, numbered-same, numbered-other}
+use Rattle.xc_source.proofs.BookLaws.{commit-begun}
 
 -- ---- writes
 

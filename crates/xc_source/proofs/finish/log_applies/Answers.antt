@@ -5,7 +5,7 @@ use Rattle.xc_source.specs.Machine.{commit_of}
 use Rattle.std.specs.Prelude.{is_some}
 use Rattle.xc_source.specs.Universe.{unlogged_all}
 use Rattle.xc_source.specs.Finish.{applies_in}
-use Rattle.xc_source.proofs.HolderLaws.{test-within}
+use Rattle.xc_source.proofs.NumberedLaws.{test-within}
 use Rattle.xc_source.proofs.FinishLaws.{unlogged-first}
 use Rattle.xc_source.proofs.finish.log_applies.Goals as goal
 

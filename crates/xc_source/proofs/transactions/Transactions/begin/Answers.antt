@@ -3,7 +3,7 @@ use Rattle.std.proofs.lemmas.Grind.{common_steps}
 use Rattle.std.specs.BTreeMap as tree
 use Rattle.std.specs.Cmp.Lexicographic.{slice_cmp}
 use Rattle.std.specs.Ordering.{nat_cmp}
-use Rattle.xc_source.proofs.HolderLaws.{book-begun}
+use Rattle.xc_source.proofs.BookLaws.{book-begun}
 use Rattle.xc_source.proofs.transactions.Transactions.begin.Goals as goal
 
 pub invariant_of-self-2 : goal.invariant_of-self-2

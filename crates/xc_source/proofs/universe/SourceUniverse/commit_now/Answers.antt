@@ -5,7 +5,7 @@ use Rattle.xc_source.specs.Universe.{Logged}
 use Rattle.xc_source.specs.Holders.{changed}
 use Rattle.xc_source.specs.Calls.{committed}
 use Rattle.xc_source.proofs.UniverseLaws.{universe-set, same-writes, commits-late}
-use Rattle.xc_source.proofs.HolderLaws.{some-within}
+use Rattle.xc_source.proofs.NumberedLaws.{some-within}
 use Rattle.xc_source.proofs.universe.SourceUniverse.commit_now.Goals as goal
 
 pub commit-requires-clause-late : goal.commit-requires-clause-late

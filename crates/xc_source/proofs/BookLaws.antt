@@ -36,19 +36,6 @@ commit-other : (f : Transaction → Transaction) (n k : ℕ) (ts : List Transact
     → commit_at (numbered (changed f n ts) k) ≡ commit_at (numbered ts k)
 commit-other f n k ts t e d = ap commit_at (numbered-other f n k ts t e d)
 
-pub waiting-none : AreWaiting (λ c. None) []
-waiting-none = record {
-  sound = λ c n e. absurd (none-some n e);
-  full = λ n c t e q w. go n c t e;
-}
-  where
-    go : (n c : ℕ) (t : Transaction) → numbered [] n ≡ Some t → None ≡ Some n
-    go n c t e = absurd (no (n == 0) e)
-      where
-        no : (b : Bool) → (if b then None else None) ≡ Some t → ⊥
-        no true e = none-some t e
-        no false e = none-some t e
-
 -- a change after which nothing waits that didn't before, and which commits nothing
 pub waiting-kept : (w : ℕ → Option ℕ) (f : Transaction → Transaction) (n : ℕ) (ts : List Transaction) (t : Transaction)
     → numbered ts n ≡ Some t → commit_of (f t).stage ≡ commit_of t.stage

@@ -38,19 +38,6 @@ holder-at : (n : ℕ) (ts : List Transaction) (t : Transaction) (key : List ℕ)
     → is_holder ts key n ≡ has_write key t
 holder-at n ts t key e = ap (λ o. option_map_or (has_write key) o false) e
 
-pub holders-none : AreHolders (λ key. None) []
-holders-none = record {
-  sound = λ key n e. absurd (none-some n e);
-  full = λ key n e. go key n e;
-}
-  where
-    go : (key : List ℕ) (n : ℕ) → is_holder [] key n ≡ true → None ≡ Some n
-    go key n e = absurd (true≢false (sym e ∙ none (n == 0)))
-      where
-        none : (b : Bool) → option_map_or (has_write key) (if b then None else None) false ≡ false
-        none true = refl
-        none false = refl
-
 -- a change that leaves what is held as it was
 pub holders-kept : (g : List ℕ → Option ℕ) (f : Transaction → Transaction) (n : ℕ) (ts : List Transaction) (t : Transaction)
     → numbered ts n ≡ Some t → ((key : List ℕ) → has_write key (f t) ≡ has_write key t) → AreHolders g ts → AreHolders g (changed f n ts)

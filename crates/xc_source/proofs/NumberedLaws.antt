@@ -6,8 +6,7 @@ use Rattle.std.specs.Option.{option_map_or}
 use Rattle.std.proofs.lemmas.Bool.{cases_eq, ne_eqb, true≢false}
 use Rattle.std.proofs.lemmas.Bool.Decides.{nat_tests}
 use Rattle.std.proofs.lemmas.Option.{none-some, slice_get_within, slice_get-get_or}
-use Rattle.xc_source.specs.Machine.{Machine, Transaction, transaction, with_transaction}
-use Rattle.xc_source.specs.Calls.{to_transaction}
+use Rattle.xc_source.specs.Machine.{Transaction}
 use Rattle.xc_source.specs.Holders.{numbered, changed}
 
 -- ---- a transaction of a list
@@ -72,17 +71,6 @@ numbered-other f n k ts t e d =
         let apart : n - 1 ≢ k - 1 = λ q. d (let w : k ≡ n = omega arith in w) in
         numbered-pos (slice_set ts (n - 1) (f t)) k one ∙ get-set-other ts (n - 1) (k - 1) (f t) apart ∙ sym (numbered-pos ts k one))
         (cases_eq k 0)
-
--- what a call does to a transaction of the machine
-pub to_transaction-changed : (f : Transaction → Transaction) (m : Machine) (n : ℕ)
-    → to_transaction (λ t. with_transaction n (f t) m) m n ≡ record m { txns = changed f n m.txns }
-to_transaction-changed f m n = go (transaction m n) refl
-  where
-    go : (o : Option Transaction) → transaction m n ≡ o
-        → option_map_or (λ t. with_transaction n (f t) m) o m
-        ≡ record m { txns = option_map_or (λ t. slice_set m.txns (n - 1) (f t)) o m.txns }
-    go None e = refl
-    go (Some t) e = refl
 
 -- ---- as the code has it
 

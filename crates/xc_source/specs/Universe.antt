@@ -4,6 +4,8 @@ use Rattle.std.specs.Prelude.{◌≡◌, ◌≤◌, ◌<◌, ◌+◌, ◌-◌, �
 use Rattle.std.specs.Prelude.{◌&&◌, filter}
 use Rattle.std.specs.List.{enumerate_from}
 use Rattle.std.specs.Option.{option_map_or}
+use Rattle.xc_arena.specs.Arena.{Lies, key_at}
+use Rattle.xc_record.specs.Hash.{hash_of}
 use Rattle.xc_record.specs.declared.record.Kind.{Kind}
 use Rattle.xc_record.specs.declared.record.Kind.TheVariants.{Split, Abort}
 use Rattle.xc_record.specs.declared.record.Header.{Header}
@@ -15,6 +17,11 @@ use Rattle.xc_source.specs.declared.transaction.Stage.{Stage}
 use Rattle.xc_source.specs.Machine.{Machine, Transaction, records_in, commit_of, empty_tablet, is_open}
 use Rattle.xc_source.specs.Waiting.{waits_on}
 use Rattle.xc_source.specs.Holders.{numbered, commit_at}
+
+-- the bytes are those of an operation, and the hash is that of its key
+pub record IsWrite (bytes : List ℕ) (hash : ℕ) : Type 0 where
+  pub lies : Lies bytes 0
+  pub same : hash ≡ hash_of (key_at bytes 0)
 
 -- a transaction with a write logged it before its commit, so that it commits at 2 at the earliest
 pub record IsTransaction (writes : List Provisional) (current : ℕ) (stage : Stage) : Type 0 where

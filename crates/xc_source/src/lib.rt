@@ -14,6 +14,7 @@ mod transaction;
 mod transactions;
 mod universe;
 mod workload;
+mod write;
 
 pub use command::SourceCommand;
 pub use commit::Commit;

@@ -1,21 +1,21 @@
-ghost use Rattle.std.specs.Prelude.{◌≡◌, ◌<◌, ◌≤◌, ◌-◌, ◌==◌, ◌&&◌, true, length, bytes_eq, take, option_map, IfSome};
+ghost use Rattle.std.specs.Prelude.{◌≡◌, ◌<◌, ◌≤◌, ◌-◌, ◌==◌, true, length, option_map, IfSome};
 ghost use Rattle.std.specs.Prelude.{IfOk, OnOk, OnErr};
 ghost use Rattle.std.specs.Prelude.{if◌then◌else◌, ℕ, List, None};
 ghost use Rattle.std.specs.BTreeMap.{get};
 ghost use Rattle.std.specs.Cmp.Lexicographic.{slice_cmp};
 ghost use Rattle.std.specs.Ordering.{nat_cmp};
-ghost use Rattle.std.specs.List.{list_any};
 ghost use Rattle.xc_source.specs.Holders.{awaits, some_waits};
 ghost use Rattle.xc_record.specs.declared.record.Op.{Op as OpOf};
 ghost use Rattle.xc_source.specs.Machine.{Transaction as State, begun, kept_ops, is_live, commit_of};
-ghost use Rattle.xc_source.specs.Waiting.{has_write, waits_on, taken, taken_write, commit_on};
+ghost use Rattle.xc_source.specs.Waiting.{waits_on, taken, commit_on};
 ghost use Rattle.xc_source.specs.Calls.{next_begun, undone_from, is_savepoint, written, aborted, committed};
 
+use crate::write::Write;
 use std::alloc::{AllocError, Global};
 use std::collections::BTreeMap;
 use std::marker::Model;
-use xc_base::{Key, LAST_SUB};
-use xc_record::{Header, HybridTime, Op, Ops, Subs, hash};
+use xc_base::{Key, LAST_SUB, Value};
+use xc_record::{Header, HybridTime, Op, Ops, Subs};
 
 // So many writes of a transaction get room one at a time, since most transactions have few.
 const FEW_WRITES: usize = 4;
@@ -31,7 +31,7 @@ pub enum Stage {
     Aborted,
 }
 
-/// A write of a transaction.
+/// A write of a transaction, as contracts see it.
 #[derive(Clone, Copy, PartialEq, Eq, Debug)]
 pub struct Provisional {
     /// The subtransaction, 1 to 64, or 0 where it belongs to none.
@@ -42,17 +42,8 @@ pub struct Provisional {
     pub waits: bool,
 }
 
-// A write waits no more where the tablet with this header holds its key.
-fn take_write(header: &Header, write: &mut Provisional)
-    ensures { write.new ≡ taken_write header.now write.old }
-{
-    if header.holds(hash(&write.op.key)) {
-        write.waits = false;
-    }
-}
-
 // Makes room for one write more where there are few.
-fn make_room(writes: &mut Vec<Provisional>) -> Result<(), AllocError>
+fn make_room(writes: &mut Vec<Write>) -> Result<(), AllocError>
     ensures { writes.new.items ≡ writes.old.items }
 {
     if writes.len() < FEW_WRITES {
@@ -64,7 +55,7 @@ fn make_room(writes: &mut Vec<Provisional>) -> Result<(), AllocError>
 // A begun transaction. Contracts see it as the definition's.
 #[derive(Drop, Debug)]
 pub(crate) struct Transaction {
-    writes: Vec<Provisional>,
+    writes: Vec<Write>,
     current: u8,
     undone: Subs,
     stage: Stage,
@@ -137,42 +128,18 @@ impl Transaction {
         }
     }
 
-    // Whether it has a waiting write of the key.
-    fn writes_key(&self, key: &Key) -> bool
-        ensures { result ≡ list_any (λ w. w.waits && bytes_eq key.now w.op.key) self.now.writes }
-    {
-        for w in &self.writes {
-            if w.waits && *key == w.op.key {
-                return true;
-            }
-        }
-        false
-    }
-
-    // Whether it is live and has a waiting write of the key.
-    pub(crate) fn has_write(&self, key: &Key) -> bool
-        ensures { result ≡ has_write key.now self.now }
-    {
-        match self.stage {
-            Stage::Live => self.writes_key(key),
-            _ => false,
-        }
-    }
-
     // Whether something of it waits on the tablet with this header.
     pub(crate) fn waits_on(&self, header: &Header) -> bool
         ensures { result ≡ waits_on header.now self.now }
     {
-        self.writes
-            .iter()
-            .any(|w| w.waits && header.holds(hash(&w.op.key)))
+        self.writes.iter().any(|w| w.waits_on(header))
     }
 
     // Whether something of it waits.
     pub(crate) fn waits(&self) -> bool
         ensures { result ≡ some_waits self.now }
     {
-        self.writes.iter().any(|w| w.waits)
+        self.writes.iter().any(|w| w.waits())
     }
 
     // Whether it wrote nothing, rolled back or not.
@@ -182,20 +149,20 @@ impl Transaction {
         self.writes.len() == 0
     }
 
-    // Puts a write behind the others. After an error they are as before.
-    pub(crate) fn push_write(&mut self, op: Op) -> Result<(), AllocError>
+    // Puts a write behind the others. Its operation is packed into the room first. After an error they are as before.
+    pub(crate) fn push_write(
+        &mut self,
+        alloc: Global,
+        room: &mut Vec<u8>,
+        key: &Key,
+        value: &Option<Value>,
+    ) -> Result<(), AllocError>
         requires { is_live self.old.stage ≡ true }
-        ensures ok { OnOk result (self.new ≡ written op self.old) }
+        ensures ok { OnOk result (self.new ≡ written (record { key = key.now; value = value.now }) self.old) }
         ensures err { OnErr result (self.new ≡ self.old) }
     {
         make_room(&mut self.writes)?;
-        let sub = self.current;
-        let Op { key, value } = op;
-        let write = Provisional {
-            sub,
-            op: Op { key, value },
-            waits: true,
-        };
+        let write = Write::new(alloc, room, self.current, key, value)?;
         match self.writes.push(write) {
             Ok(()) => Ok(()),
             Err(_) => Err(AllocError),
@@ -215,8 +182,8 @@ impl Transaction {
             ≡ (if awaits key self.now then None else get (slice_cmp nat_cmp) holders.old key) }
     {
         for write in &self.writes {
-            if write.waits {
-                let _ = holders.remove(&write.op.key);
+            if write.waits() {
+                let _ = holders.remove(&write.key());
             }
         }
     }
@@ -235,7 +202,7 @@ impl Transaction {
         ensures { self.new ≡ aborted self.old }
     {
         for i in 0..self.writes.len() {
-            self.writes[i].waits = false;
+            self.writes[i].end();
         }
         self.stage = Stage::Aborted;
     }
@@ -246,7 +213,7 @@ impl Transaction {
         ensures { self.new ≡ taken header.now self.old }
     {
         for i in 0..self.writes.len() {
-            take_write(header, &mut self.writes[i]);
+            self.writes[i].take(header);
         }
     }
 
@@ -257,8 +224,8 @@ impl Transaction {
     {
         room.clear();
         for write in &self.writes {
-            if !self.undone.contains(write.sub) {
-                room.push(write.op)?;
+            if !self.undone.contains(write.sub()) {
+                room.push(write.op())?;
             }
         }
         room.clone_in(alloc)

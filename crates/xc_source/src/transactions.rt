@@ -39,6 +39,8 @@ pub(crate) struct Transactions {
     waiting: BTreeMap<u64, u32>,
     // for tablets, by the first hash of the range, where to look on for a commit that waits there
     cursors: BTreeMap<u16, Cursor>,
+    // where an operation is packed before it goes into its write
+    room: Vec<u8>,
 }
 
 impl Model for Transactions {
@@ -159,6 +161,7 @@ impl Transactions {
             holders: BTreeMap::new(alloc),
             waiting: BTreeMap::new(alloc),
             cursors: BTreeMap::new(alloc),
+            room: Vec::new(alloc),
         }
     }
 
@@ -168,14 +171,6 @@ impl Transactions {
         ensures most { length self.now < 2 ^ 32 }
     {
         self.items.len()
-    }
-
-    // The transactions, to be read.
-    pub(crate) fn as_slice(&self) -> &[Transaction]
-        ensures slice { result.now ≡ self.now }
-        ensures most { length self.now < 2 ^ 32 }
-    {
-        self.items.as_slice()
     }
 
     // The transaction of this number.
@@ -280,7 +275,7 @@ impl Transactions {
     {
         let at = txn as usize - 1;
         let Op { key, value } = op;
-        self.items[at].push_write(Op { key, value })?;
+        self.items[at].push_write(self.alloc, &mut self.room, &key, &value)?;
         if self.holders.insert(key, txn).is_err() {
             self.items[at].pop_write();
             return Err(AllocError);

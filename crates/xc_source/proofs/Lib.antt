@@ -3,6 +3,7 @@ pub mod PendingLaws
 pub mod CallLaws
 pub mod AnswerLaws
 pub mod WaitingLaws
+pub mod ListedLaws
 pub mod MapLaws
 pub mod NumberedLaws
 pub mod HolderLaws

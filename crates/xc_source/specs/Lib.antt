@@ -5,4 +5,5 @@ pub mod Commands
 pub mod Holders
 pub mod Universe
 pub mod Finish
+pub mod Listed
 pub mod Workload

@@ -3,6 +3,7 @@
 
 mod command;
 mod commit;
+mod commits;
 mod cursor;
 mod fail;
 mod finish;
@@ -18,6 +19,7 @@ mod write;
 
 pub use command::SourceCommand;
 pub use commit::Commit;
+pub use commits::Commits;
 pub use fail::SourceFail;
 pub use transaction::{Provisional, Stage};
 pub use universe::SourceUniverse;

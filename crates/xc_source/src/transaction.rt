@@ -1,5 +1,5 @@
 ghost use Rattle.std.specs.Prelude.{◌≡◌, ◌<◌, ◌≤◌, ◌-◌, ◌==◌, true, length, option_map, IfSome};
-ghost use Rattle.std.specs.Prelude.{IfOk, OnOk, OnErr};
+ghost use Rattle.std.specs.Prelude.{OnOk, OnErr};
 ghost use Rattle.std.specs.Prelude.{if◌then◌else◌, ℕ, List, None};
 ghost use Rattle.std.specs.BTreeMap.{get};
 ghost use Rattle.std.specs.Cmp.Lexicographic.{slice_cmp};
@@ -217,10 +217,9 @@ impl Transaction {
         }
     }
 
-    // Its operations that weren't rolled back, in the order written and in memory of their exact size. They are written
-    // into the room first.
-    pub(crate) fn kept_ops(&self, alloc: Global, room: &mut Ops) -> Result<Ops, AllocError>
-        ensures { IfOk result (λ ops. ops ≡ kept_ops self.now) }
+    // Fills the room with its operations that weren't rolled back, in the order written.
+    pub(crate) fn kept_ops(&self, room: &mut Ops) -> Result<(), AllocError>
+        ensures { OnOk result (room.new ≡ kept_ops self.now) }
     {
         room.clear();
         for write in &self.writes {
@@ -228,7 +227,7 @@ impl Transaction {
                 room.push(write.op())?;
             }
         }
-        room.clone_in(alloc)
+        Ok(())
     }
 
     // The subtransactions that were rolled back.

@@ -17,7 +17,8 @@ ghost use Rattle.xc_source.specs.Calls.{safe_refusal, safe_on, safe_value, with_
 ghost use Rattle.xc_source.specs.Calls.{finish_count, abort, abort_after, tablets_with, split, split_refusal};
 ghost use Rattle.xc_source.specs.Calls.{bad_place};
 
-use crate::commit::{Commit, list, push_commit, unlist};
+use crate::commit::{list, unlist};
+use crate::commits::Commits;
 use crate::fail::SourceFail;
 use crate::finish::{Pair, log_apply, log_finish, take_all};
 use crate::journal::Journal;
@@ -38,7 +39,7 @@ const MOST_TXNS: usize = (1 << 32) - 1;
 pub struct SourceUniverse {
     alloc: Global,
     journal: Journal,
-    commits: Vec<Commit>,
+    commits: Commits,
     txns: Transactions,
     // where operations are written before they go into memory of their exact size
     room: Ops,
@@ -53,7 +54,7 @@ impl Model for SourceUniverse {
     ghost view = { λ u. record {
       time = u.journal.time;
       tablets = u.journal.tablets;
-      commits = u.commits.items;
+      commits = u.commits;
       txns = u.txns;
     } };
 
@@ -80,9 +81,10 @@ fn push_number(numbers: &mut Vec<u32>, number: u32) -> Result<(), AllocError>
     }
 }
 
-// The operation alone, in memory of its exact size. It is written into the room first.
+// The operation alone, in memory of its exact size. It is written into the room first, and stays there.
 fn one_op(alloc: Global, room: &mut Ops, op: Op) -> Result<Ops, AllocError>
-    ensures { IfOk result (λ ops. ops ≡ op ∷ []) }
+    ensures ops { IfOk result (λ ops. ops ≡ op ∷ []) }
+    ensures room { OnOk result (room.new ≡ op ∷ []) }
 {
     room.clear();
     room.push(op)?;
@@ -101,7 +103,7 @@ impl SourceUniverse {
         Ok(SourceUniverse {
             alloc,
             journal: Journal::new(alloc, roots, start)?,
-            commits: Vec::new(alloc),
+            commits: Commits::new(alloc),
             txns: Transactions::new(alloc),
             room: Ops::new(alloc),
         })
@@ -129,10 +131,10 @@ impl SourceUniverse {
     }
 
     /// What committed so far, in the order of time: the puts, and the transactions that wrote at least once.
-    pub fn committed(&self) -> &[Commit]
+    pub fn committed(&self) -> &Commits
         ensures { result.now ≡ self.now.commits }
     {
-        self.commits.as_slice()
+        &self.commits
     }
 
     /// Moves the clock on to `to`. `Back` exactly where it stands later, which it names.
@@ -299,13 +301,12 @@ impl SourceUniverse {
     {
         let id = self.journal.owner(&op.key);
         let ops = one_op(self.alloc, &mut self.room, op)?;
-        let listed = ops.clone_in(self.alloc)?;
         let time = self.journal.now() + 1;
-        push_commit(&mut self.commits, time, 0, listed)?;
+        self.commits.push(time, 0, &self.room)?;
         match self.journal.log(id, Kind::Write { ops }) {
             Ok(time) => Ok(time),
             Err(fail) => {
-                let _ = self.commits.pop();
+                self.commits.pop();
                 Err(fail)
             }
         }
@@ -388,7 +389,6 @@ impl SourceUniverse {
         let time = self.journal.now() + 1;
         let commit = HybridTime::new(time).unwrap();
         list(
-            self.alloc,
             &mut self.room,
             &mut self.commits,
             time,
@@ -566,7 +566,7 @@ impl SourceUniverse {
     pub(crate) fn open_tablets(&self) -> Result<Vec<u32>, AllocError>
         ensures { IfOk result (λ ids. ids.items ≡ open_tablets self.now) }
     {
-        let mut ids = Vec::new(self.alloc);
+        let mut ids = Vec::with_capacity(self.alloc, self.journal.tablets().len())?;
         for (id, tablet) in self.journal.tablets().iter().enumerate() {
             if is_open(tablet) {
                 push_number(&mut ids, id as u32)?;
@@ -626,7 +626,7 @@ impl SourceUniverse {
         ensures { IfOk result (λ pairs. pairs.items ≡ pending_by self.now (enumerate_from 1 self.now.txns)) }
     {
         let numbers = self.txns.waiting()?;
-        let mut pairs = Vec::new(self.alloc);
+        let mut pairs = Vec::with_capacity(self.alloc, numbers.len())?;
         for txn in numbers.iter() {
             self.add_pending_at(*txn, &mut pairs)?;
         }

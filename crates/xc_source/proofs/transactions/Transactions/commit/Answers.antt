@@ -17,7 +17,8 @@ pub invariant_of-self-2 : goal.invariant_of-self-2
 invariant_of-self-2 c =
     let ts = c.self.inside.items.items in
     let t = c.index_mut-t.result.now in
-    let live = tested-at (λ t. is_live t.stage) c.args.self.now ts c.args.txn t c.self.view_is c.requires.live c.index_mut-t.ensures.value in
+    let live = tested-at (λ t. is_live t.stage) c.args.self.now ts c.args.txn t c.self.view_is c.requires.live
+    c.index_mut-t.ensures.value in
     let place = some-within ts c.args.txn t live.0 in
     let one : 1 ≤ c.args.txn = place.0 in
     let within : c.args.txn - 1 < length c.self.inside.items.items = place.1 in
@@ -46,6 +47,7 @@ pub returns-clause-ok : goal.returns-clause-ok
 returns-clause-ok c =
     let ts = c.self.inside.items.items in
     let t = c.index_mut-t.result.now in
-    let live = tested-at (λ t. is_live t.stage) c.args.self.now ts c.args.txn t c.self.view_is c.requires.live c.index_mut-t.ensures.value in
+    let live = tested-at (λ t. is_live t.stage) c.args.self.now ts c.args.txn t c.self.view_is c.requires.live
+    c.index_mut-t.ensures.value in
     set-changed (committed c.args.commit) c.args.txn c.args.self.now ts t c.set_committed.new.self c.self.view_is live.0
     c.set_committed.ensures

@@ -24,6 +24,6 @@ returns-clause-ok c =
     let t = get_or m.txns (n - 1) begun in
     let num : numbered c.self.inside.txns n ≡ Some t = subst (λ (x : Machine). numbered x.txns n ≡ Some t) (sym c.self.view_is)
     (found m n begun (first-none (unknown m n) (ended m n ∷ []) c.requires.live).0) in
-    abort-next n m c.args.ids.now c.self.inside.journal c.log_aborts.new.self c.self.inside.commits.items c.self.inside.txns
+    abort-next n m c.args.ids.now c.self.inside.journal c.log_aborts.new.self c.self.inside.commits c.self.inside.txns
     c.abort.new.self t
     c.self.view_is num c.requires.places c.in_ok-log_aborts.ensures.ok c.abort.ensures

@@ -22,7 +22,7 @@ returns-clause-ok c =
     let b = get_or c.tablets.result.now c.args.id c.index-tablets-id.result in
     let within : c.args.id < length c.tablets.result.now = grind (arith, common_steps) in (
       grind (arith, common_steps),
-      apply-next c.args.txn c.args.id c.args.self.now c.self.inside.journal c.log_apply.new.journal c.self.inside.commits.items
+      apply-next c.args.txn c.args.id c.args.self.now c.self.inside.journal c.log_apply.new.journal c.self.inside.commits
           c.self.inside.txns c.take.new.self c.at.result.now b c.self.view_is c.at.ensures
           (subst (λ ts. slice_get ts c.args.id ≡ Some b) c.tablets.ensures.tablets
           (slice_get-get_or c.tablets.result.now c.args.id c.index-tablets-id.result within))

@@ -30,6 +30,6 @@ invariant_of-self-2 c =
 
 pub returns-clause-ok : goal.returns-clause-ok
 returns-clause-ok c =
-    finish-next c.self.inside.journal c.log_finish.new.journal c.self.inside.commits.items c.self.inside.txns c.take_all.new.txns
+    finish-next c.self.inside.journal c.log_finish.new.journal c.self.inside.commits c.self.inside.txns c.take_all.new.txns
     c.tablets.result.now c.args.pairs.now c.args.ids.now c.args.self.now c.self.view_is c.requires.pairs c.requires.ids c.requires.time
     c.in_ok-log_finish.ensures.ok c.tablets.ensures.tablets c.take_all.ensures

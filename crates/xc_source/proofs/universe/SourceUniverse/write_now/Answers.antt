@@ -20,10 +20,10 @@ write-requires-clause-free c = λ n h.
 pub returns-then-is_err-clause-err : goal.returns-then-is_err-clause-err
 returns-then-is_err-clause-err c =
     let same : c.write.new.self ≡ c.self.inside.txns = search rules in
-    ap (λ j. machine_of j c.self.inside.commits.items c.write.new.self)
+    ap (λ j. machine_of j c.self.inside.commits c.write.new.self)
     (c.unlog.ensures ∙ ap (unlogged c.owner-id.result) c.in_ok-time.ensures.ok.1
     ∙ unlogged-logged c.owner-id.result (kind.Intent c.current-sub.result c.args.txn c.in_ok-ops.ops) c.self.inside.journal)
-    ∙ ap (machine_of c.self.inside.journal c.self.inside.commits.items) same ∙ c.self.view_is
+    ∙ ap (machine_of c.self.inside.journal c.self.inside.commits) same ∙ c.self.view_is
 
 pub invariant_of-self-else-is_err : goal.invariant_of-self-else-is_err
 invariant_of-self-else-is_err c =

@@ -123,7 +123,8 @@ pass-hidden t x y xs rows u k e =
     let put : put_row y.key y.value (cond (nat_le x.commit t) (put_row x.key x.value rows) rows) ≡ put_row y.key y.value rows =
     elim (nat_le x.commit t) as (λ b. put_row y.key y.value (cond b (put_row x.key x.value rows) rows) ≡ put_row y.key y.value rows)
     [ true ↦ twice | false ↦ refl ] in
-    rows-first t x (y ∷ xs) rows ∙ ap (λ ops. rows_after ops (cond (nat_le x.commit t) (put_row x.key x.value rows) rows)) (ops_to-in t y xs e)
+    rows-first t x (y ∷ xs) rows
+    ∙ ap (λ ops. rows_after ops (cond (nat_le x.commit t) (put_row x.key x.value rows) rows)) (ops_to-in t y xs e)
     ∙ ap (rows_after (ops_to t xs)) put ∙ sym (ap (λ ops. rows_after ops rows) (ops_to-in t y xs e))
 
 -- the version i of a list, and those behind it

@@ -1,5 +1,6 @@
 // Rows in byte order of keys, and how they come about while versions are gone over in order.
-ghost use Rattle.std.specs.Prelude.{◌≡◌, ◌≤◌, ◌<◌, ℕ, List, ◌++◌, ◌-◌, [], true, false, length, map, slice_get, slice_index_or, OnOk};
+ghost use Rattle.std.specs.Prelude.{◌≡◌, ◌≤◌, ◌<◌, ℕ, List, ◌++◌, ◌-◌, [], true, false, length, map};
+ghost use Rattle.std.specs.Prelude.{slice_get, slice_index_or, OnOk};
 ghost use Rattle.std.specs.List.{AllByRecursion};
 ghost use Rattle.xc_record.specs.Path.{Written};
 ghost use Rattle.xc_record.specs.Rows.{put_row, rows_after};

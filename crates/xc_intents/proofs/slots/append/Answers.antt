@@ -22,7 +22,8 @@ link-requires-clause-linked c =
     (Linked-push xs c.args.chains.now.items
     (fresh c.args.txn c.args.sub c.args.op.now.key c.len-at.result) c.requires.chained.linked) in
     let slots : c.deref_mut.result.now ≡ ys =
-    c.deref_mut.ensures.value ∙ c.put_last.ensures.slots ∙ ap (λ k. xs ++ fresh c.args.txn c.args.sub k c.len-at.result ∷ []) c.key_bytes.ensures.bytes in
+    c.deref_mut.ensures.value ∙ c.put_last.ensures.slots
+    ∙ ap (λ k. xs ++ fresh c.args.txn c.args.sub k c.len-at.result ∷ []) c.key_bytes.ensures.bytes in
     subst (λ z. Linked z c.deref_mut-2.result.now c.len-i.result) (sym slots)
     (subst (λ z. Linked ys z c.len-i.result) (sym c.deref_mut-2.ensures.value) (c.open-e.ensures.linked ys c.len-i.result pushed))
 

@@ -42,6 +42,7 @@ loop-i-preserved c =
           subst (λ (r : List (List ℕ × List ℕ)). Seen t c.args.rows.now.items r versions (c.loop-i.i + 1)) after
           (seen-more t c.args.rows.now.items rows versions c.loop-i.i x c.loop-i.invariant long read)
       | else-is_shown w ↦
-          subst (λ (r : List (List ℕ × List ℕ)). Seen t c.args.rows.now.items r versions (c.loop-i.i + 1)) (sym (ap (λ v. v.items) w.rows-is))
+          subst (λ (r : List (List ℕ × List ℕ)). Seen t c.args.rows.now.items r versions (c.loop-i.i + 1))
+          (sym (ap (λ v. v.items) w.rows-is))
           (seen-pass t c.args.rows.now.items rows versions c.loop-i.i x c.loop-i.invariant long read (w.if-is_shown.ensures.passed refl))
     ]

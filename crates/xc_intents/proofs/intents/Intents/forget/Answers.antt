@@ -9,7 +9,8 @@ pub loop-smaller : goal.loop-smaller
 loop-smaller c =
     let hs = c.loop.self.held in
     let part = is_sought c.loop.self.sought in
-    let w = find-by_some part given c.take_next.new.self.taken hs c.take_next.ensures.taken (sym c.take_next.ensures.some ∙ c.loop-test.true) in
+    let w = find-by_some part given c.take_next.new.self.taken hs c.take_next.ensures.taken
+    (sym c.take_next.ensures.some ∙ c.loop-test.true) in
     omega (arith, length-without_first part hs w.0 w.1, ap length c.take_next.ensures.left)
 
 pub loop-preserved : goal.loop-preserved

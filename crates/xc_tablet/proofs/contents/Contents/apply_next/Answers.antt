@@ -56,15 +56,15 @@ returns-then-contains-clause-left c = λ lo hi sought.
 
 pub returns-then-contains-clause-settles : goal.returns-then-contains-clause-settles
 returns-then-contains-clause-settles c =
-    let less = fewer (is_sought c.args.self.now.held.sought) c.args.self.now c.take_next.new.self c.in-Some.held (c.in-Some.ensures ∙ c.take_next.ensures.taken)
-    c.take_next.ensures.left in
+    let less = fewer (is_sought c.args.self.now.held.sought) c.args.self.now c.take_next.new.self c.in-Some.held
+    (c.in-Some.ensures ∙ c.take_next.ensures.taken) c.take_next.ensures.left in
     let room = c.take_next.ensures.room in
     record { next = omega arith; fewer = omega arith; versions = omega arith; held = room }
 
 pub returns-then-contains-clause-one : goal.returns-then-contains-clause-one
 returns-then-contains-clause-one c = λ _.
-    let less = fewer (is_sought c.args.self.now.held.sought) c.args.self.now c.take_next.new.self c.in-Some.held (c.in-Some.ensures ∙ c.take_next.ensures.taken)
-    c.take_next.ensures.left in
+    let less = fewer (is_sought c.args.self.now.held.sought) c.args.self.now c.take_next.new.self c.in-Some.held
+    (c.in-Some.ensures ∙ c.take_next.ensures.taken) c.take_next.ensures.left in
     omega arith
 
 pub add-requires-clause-fresh : goal.add-requires-clause-fresh
@@ -93,14 +93,14 @@ returns-clause-left c = λ lo hi sought.
 
 pub returns-clause-settles : goal.returns-clause-settles
 returns-clause-settles c =
-    let less = fewer (is_sought c.args.self.now.held.sought) c.args.self.now c.take_next.new.self c.in-Some.held (c.in-Some.ensures ∙ c.take_next.ensures.taken)
-    c.take_next.ensures.left in
+    let less = fewer (is_sought c.args.self.now.held.sought) c.args.self.now c.take_next.new.self c.in-Some.held
+    (c.in-Some.ensures ∙ c.take_next.ensures.taken) c.take_next.ensures.left in
     let room = c.take_next.ensures.room in
     let more = c.add.ensures.spare in
     record { next = omega arith; fewer = omega arith; versions = omega arith; held = room }
 
 pub returns-clause-one : goal.returns-clause-one
 returns-clause-one c = λ _.
-    let less = fewer (is_sought c.args.self.now.held.sought) c.args.self.now c.take_next.new.self c.in-Some.held (c.in-Some.ensures ∙ c.take_next.ensures.taken)
-    c.take_next.ensures.left in
+    let less = fewer (is_sought c.args.self.now.held.sought) c.args.self.now c.take_next.new.self c.in-Some.held
+    (c.in-Some.ensures ∙ c.take_next.ensures.taken) c.take_next.ensures.left in
     omega arith

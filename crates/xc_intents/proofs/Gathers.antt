@@ -1,6 +1,6 @@
 -- What is left of slots and chains where the dead and the unused are dropped, and what is linked anew.
 use Rattle.std.proofs.Common.{◌≡◌, ◌≢◌, ℕ, zero, suc, ◌+◌, ◌<◌, ◌≤◌, Bool, true, false, cond, List, [], ◌∷◌, ◌++◌, length, set}
-use Rattle.std.proofs.Common.{map, filter}
+use Rattle.std.proofs.Common.{map, filter, get_or}
 use Rattle.std.proofs.Common.{take, drop, Option, Some, None, is_some, refl, sym, ◌∙◌, ap, subst, arith, ◌==◌, ◌&&◌}
 use Rattle.std.proofs.lemmas.Bool.{eq-eqb}
 use Rattle.std.proofs.lemmas.List.{length-map, get_or-map, get_or_at, set_at, drop_more, take_more, length-take-le, append_assoc}
@@ -16,13 +16,13 @@ use Rattle.xc_intents.specs.Slots.{at, chain_at, no_chain, blank, bare, is_live,
 use Rattle.xc_intents.specs.Slots.{HasChain, Distinct, twig, loose, IsTree, Linked, Keeps, Holds, IsChained, size_of}
 use Rattle.xc_intents.proofs.Trees.{tree-same}
 use Rattle.xc_intents.proofs.Links.{Linked-tree}
-use Rattle.xc_intents.proofs.Chains.{Fewer-set, Linked-fewer, at-set_other, length-bare}
+use Rattle.xc_intents.proofs.Chains.{Fewer-set, Linked-fewer, at-set_other, length-bare, chain-read}
 use Rattle.xc_intents.proofs.Walks.{held-same, holds-same, at-bare}
 
 -- ---- chains are cut
 
 -- one more chain is written
-pub map-step : (f : Chain → Chain) (xs : List Chain) (i : ℕ) → i < length xs
+map-step : (f : Chain → Chain) (xs : List Chain) (i : ℕ) → i < length xs
     → set (map f (take i xs) ++ drop i xs) i (f (chain_at (map f (take i xs) ++ drop i xs) i)) ≡ map f (take (i + 1) xs) ++ drop (i + 1) xs
 map-step f xs i h =
     let c = chain_at xs i in
@@ -35,6 +35,12 @@ map-step f xs i h =
     ∙ map-append f (take i xs) (c ∷ []) in
     ap (λ d. set (front ++ drop i xs) i (f d)) here ∙ ap (λ ys. set ys i (f c)) split ∙ set_at front c (drop (i + 1) xs) (f c) i long
     ∙ sym (append_assoc front (f c ∷ []) (drop (i + 1) xs)) ∙ ap (λ ys. ys ++ drop (i + 1) xs) (sym more)
+
+-- a loop over all chains made a chain what f makes of it
+pub each-step : (f : Chain → Chain) (xs ys : List Chain) (i : ℕ) (d new : Chain) → i < length xs → i < length ys
+    → ys ≡ map f (take i xs) ++ drop i xs → new ≡ f (get_or ys i d) → set ys i new ≡ map f (take (i + 1) xs) ++ drop (i + 1) xs
+each-step f xs ys i d new low within so is =
+    ap (set ys i) (is ∙ ap f (chain-read ys i d within)) ∙ ap (λ zs. set zs i (f (chain_at zs i))) so ∙ map-step f xs i low
 
 cut-txn : (cs : List Chain) (k : ℕ) → k < length cs → (chain_at (map cut cs) k).txn ≡ (chain_at cs k).txn
 cut-txn cs k h = ap (λ (c : Chain). c.txn) (get_or-map cut cs k (no_chain 0) (no_chain 0) h)

@@ -1,12 +1,12 @@
 -- What a target keeps of a session where one poller changed, or its tablets did.
 use Rattle.std.proofs.Common.{◌≡◌, ◌≢◌, ℕ, zero, suc, ◌≤◌, List, [], ◌∷◌, map, length, max, Option, Some, None, refl, ap, sym, ◌∙◌, subst}
-use Rattle.std.proofs.Common.{arith, ⊎_elim}
+use Rattle.std.proofs.Common.{arith, ⊎_elim, ◌<◌, get_or}
 use Rattle.std.specs.Prelude.{slice_get, slice_index, slice_set}
 use Rattle.std.specs.List.{AllZip}
 use Rattle.std.proofs.lemmas.Bool.{cases_eq}
 use Rattle.std.proofs.lemmas.List.{map-set, set-get_or}
 use Rattle.std.proofs.lemmas.List.Elements.{length_all_zip}
-use Rattle.std.proofs.lemmas.Option.{same_Some}
+use Rattle.std.proofs.lemmas.Option.{same_Some, slice_get_read}
 use Rattle.xc_record.specs.declared.record.Header.{Header}
 use Rattle.xc_record.specs.declared.record.Logs.{Logs}
 use Rattle.xc_record.specs.Accepted.{AcceptedTablet, accepted_tablet}
@@ -33,6 +33,12 @@ use Rattle.xc_target.proofs.SessionLaws.{place-is, position-is}
 -- what contracts see of a target's fields
 abbrev pub seen : TargetFields → TargetState
 seen t = record { tablets = t.tablets.items; pollers = t.pollers.items; cutoff = t.retention; closed = t.closed }
+
+-- the poller that is read there
+pub poller-read : (t now : TargetState) (id : ℕ) (p : PollerState) → t ≡ now → id < length now.pollers → p ≡ get_or t.pollers id p
+    → slice_get t.pollers id ≡ Some p
+poller-read t now id p view known here =
+    slice_get_read t.pollers (length t.pollers) id p refl (subst (λ (w : TargetState). id < length w.pollers) (sym view) known) here
 
 -- ---- lists
 

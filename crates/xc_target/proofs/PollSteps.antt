@@ -4,7 +4,7 @@ use Rattle.std.proofs.Common.{sym, ◌∙◌, subst, arith, get_or}
 use Rattle.std.specs.Prelude.{All, IfOk, IfSome, MatchResult, IsErrAnd, slice_get, slice_set}
 use Rattle.std.specs.List.{AllZip}
 use Rattle.std.proofs.lemmas.List.Elements.{recursion_from_All, length_all_zip}
-use Rattle.std.proofs.lemmas.Option.{slice_get_within, slice_get_read}
+use Rattle.std.proofs.lemmas.Option.{slice_get_within}
 use Rattle.xc_record.specs.declared.record.Header.{Header}
 use Rattle.xc_record.specs.declared.record.Logs.{Logs}
 use Rattle.xc_record.specs.declared.session.PollAnswer.{PollAnswer}
@@ -28,7 +28,7 @@ use Rattle.xc_target.specs.Target.{TargetState, headers_of_pollers, opened_by, F
 use Rattle.xc_target.specs.Stands.{Polls, StandsForSession}
 use Rattle.xc_target.specs.Answers.{Made, IsPolled, IsStopped, GaveFirst, fail_of}
 use Rattle.xc_target.proofs.SessionLaws.{get-there, length-pollers, position-is}
-use Rattle.xc_target.proofs.MoveLaws.{get-set-here}
+use Rattle.xc_target.proofs.MoveLaws.{get-set-here, poller-read}
 use Rattle.xc_target.proofs.PollFacts.{IsIdle, Rested, Says, Ended, Delivered, delivered, CutOff, cut-off, grows-of, ranges-of}
 use Rattle.xc_target.proofs.PollFacts.{waits-answer, open-answer, rested-made, same-session}
 use Rattle.xc_target.proofs.PollFits.{fits-polled, fits-opened, opens-all}
@@ -239,10 +239,9 @@ pub make-called : (hs hs' : List Header) (cs cs' : List ℕ) (o : Option Logs) (
     → IfSome o (λ logs. (b : AcceptedTablet) → PollerStandsFor logs p b → KeepStanding logs xs ys)
     → Called hs cs o n id t p q ys r
 make-called hs hs' cs cs' o n id t now p q xs ys r view still_open known here ex eh ec fits tablets ended answer stands keep =
-    let low : id < length t.pollers = subst (λ (w : TargetState). id < length w.pollers) (sym view) known in
     record {
       still_open = still_open;
-      at = slice_get_read t.pollers (length t.pollers) id p refl low here;
+      at = poller-read t now id p view known here;
       reader = subst (λ h. ReaderFits h cs q.reader) eh (subst (λ c. ReaderFits hs' c q.reader) ec fits);
       tablets = subst (λ h. All (CanPoll h cs q) ys) eh (subst (λ c. All (CanPoll hs' c q) ys) ec tablets);
       ended = subst (λ w. Ended p q w ys r) ex ended;

@@ -1,17 +1,13 @@
-use Rattle.std.proofs.Common.{◌≡◌, ◌<◌, length, refl, rules, subst, sym, Some}
+use Rattle.std.proofs.Common.{◌≡◌, rules, subst, sym, Some}
 use Rattle.std.specs.Prelude.{slice_get}
-use Rattle.std.proofs.lemmas.Option.{slice_get_read}
-use Rattle.xc_target.specs.Target.{TargetState, FitsFeed}
+use Rattle.xc_target.specs.Target.{FitsFeed}
 use Rattle.xc_target.specs.Stands.{StandsForSession}
-use Rattle.xc_target.proofs.MoveLaws.{seen, is-acknowledged, fits-placed}
+use Rattle.xc_target.proofs.MoveLaws.{seen, poller-read, is-acknowledged, fits-placed}
 use Rattle.xc_target.proofs.target.Target.acknowledge.Goals as goal
 use Rattle.xc_target.proofs.target.Target.acknowledge.Goals.{After-acknowledge}
 
 there : (c : After-acknowledge) → slice_get (seen c.self.inside).pollers c.args.id ≡ Some c.index_mut-poller.result.now
-there c =
-    let low : c.args.id < length (seen c.self.inside).pollers =
-    subst (λ (w : TargetState). c.args.id < length w.pollers) (sym c.self.view_is) c.requires in
-    slice_get_read (seen c.self.inside).pollers _ c.args.id c.index_mut-poller.result.now refl low c.index_mut-poller.ensures.value
+there c = poller-read (seen c.self.inside) c.args.self.now c.args.id _ c.self.view_is c.requires c.index_mut-poller.ensures.value
 
 pub returns-clause-step : goal.returns-clause-step
 returns-clause-step c = λ logs m is st.

@@ -76,6 +76,17 @@ pub record Kept (p q : PollerState) (xs ys : List TargetTablet) : Type 0 where
   pub checked : p.reader.checked ≤ q.reader.checked
   pub moves : AllZip Moves xs ys
 
+-- so does a poller of another place
+kept-placed : (p looked q : PollerState) (xs ys : List TargetTablet) → q.header ≡ looked.header → q.is_open ≡ looked.is_open
+    → q.reader.id ≡ looked.reader.id → q.reader.checked ≡ looked.reader.checked → Kept p looked xs ys → Kept p q xs ys
+kept-placed p looked q xs ys header is_open reader checked before = record {
+  header = header ∙ before.header;
+  is_open = is_open ∙ before.is_open;
+  reader = reader ∙ before.reader;
+  checked = let up = before.checked in omega arith;
+  moves = before.moves;
+}
+
 pub grows-of : (p q : PollerState) (xs ys : List TargetTablet) → Kept p q xs ys → AllZip Grows xs ys
 grows-of p q xs ys k = zip-map Moves Grows (λ x y m. m.grows) xs ys k.moves
 
@@ -187,13 +198,8 @@ delivered hs cs n k p q xs ys h =
     let b : q.acknowledged ≡ p.acknowledged = ap (λ (p : PollerState). p.acknowledged) new ∙ ack in
     let c : q.reader.cursor ≡ p.reader.cursor + k = omega arith in
     record {
-      kept = record {
-        header = ap (λ (p : PollerState). p.header) new ∙ before.header;
-        is_open = ap (λ (p : PollerState). p.is_open) new ∙ before.is_open;
-        reader = ap (λ (p : PollerState). p.reader.id) new ∙ before.reader;
-        checked = omega arith;
-        moves = before.moves;
-      };
+      kept = kept-placed p looked q xs ys (ap (λ (p : PollerState). p.header) new) (ap (λ (p : PollerState). p.is_open) new)
+          (ap (λ (p : PollerState). p.reader.id) new) checked before;
       was_open = mv.started;
       position = cc;
       rises = omega arith;
@@ -216,7 +222,6 @@ cut-off hs cs n last k p q xs ys h =
     let new : q ≡ restarted looked = h.1.1.1.1.0 in
     let before = kept-looked p looked xs ys mv.reader
     (first-moved p.header.id batch.from batch.records (last + 1) xs ys h.1.1.1.1.1) in
-    let up : p.reader.checked ≤ looked.reader.checked = mv.reader.reader.checked in
     let checked : q.reader.checked ≡ looked.reader.checked = ap (λ (p : PollerState). p.reader.checked) new in
     let a : q.applied ≡ p.applied = ap (λ (p : PollerState). p.applied) new ∙ ap (λ (p : PollerState). p.applied) mv.reader.is in
     let ack : looked.acknowledged ≡ p.acknowledged = ap (λ (p : PollerState). p.acknowledged) mv.reader.is in
@@ -224,13 +229,8 @@ cut-off hs cs n last k p q xs ys h =
     let c : q.reader.cursor ≡ p.acknowledged = ap (λ (p : PollerState). p.reader.cursor) new ∙ ack in
     record {
       rested = record {
-        kept = record {
-          header = ap (λ (p : PollerState). p.header) new ∙ before.header;
-          is_open = ap (λ (p : PollerState). p.is_open) new ∙ before.is_open;
-          reader = ap (λ (p : PollerState). p.reader.id) new ∙ before.reader;
-          checked = omega arith;
-          moves = before.moves;
-        };
+        kept = kept-placed p looked q xs ys (ap (λ (p : PollerState). p.header) new) (ap (λ (p : PollerState). p.is_open) new)
+            (ap (λ (p : PollerState). p.reader.id) new) checked before;
         place = a;
         waits = λ w. absurd (true≢false (sym mv.started ∙ w));
       };

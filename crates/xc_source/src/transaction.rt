@@ -17,7 +17,7 @@ use std::marker::Model;
 use xc_base::{Key, LAST_SUB, Value};
 use xc_record::{Header, HybridTime, Op, Ops, Subs};
 
-// So many writes of a transaction get room one at a time, since most transactions have few.
+// So many writes of a transaction get room two at a time, since most transactions have few.
 const FEW_WRITES: usize = 4;
 
 /// How far a transaction came.
@@ -42,12 +42,12 @@ pub struct Provisional {
     pub waits: bool,
 }
 
-// Makes room for one write more where there are few.
+// Makes room for two writes more where there are few and no room is left.
 fn make_room(writes: &mut Vec<Write>) -> Result<(), AllocError>
     ensures { writes.new.items ≡ writes.old.items }
 {
-    if writes.len() < FEW_WRITES {
-        return writes.reserve_exact(1);
+    if writes.len() < FEW_WRITES && writes.len() == writes.capacity() {
+        return writes.reserve_exact(2);
     }
     Ok(())
 }

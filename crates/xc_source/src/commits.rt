@@ -1,5 +1,5 @@
 // The list of what a source committed, with the operations of all commits in one list.
-ghost use Rattle.std.specs.Prelude.{◌≡◌, ◌<◌, ◌++◌, ◌∷◌, [], List, length, drop, IfOk, OnOk, OnErr};
+ghost use Rattle.std.specs.Prelude.{◌≡◌, ◌<◌, ◌++◌, ◌∷◌, [], List, length, take, drop, slice_get, IfOk, OnOk, OnErr};
 ghost use Rattle.xc_source.specs.declared.commit.Commit.{Commit as Listed};
 
 use crate::commit::Commit;
@@ -58,6 +58,24 @@ fn append(to: &mut Ops, count: &mut usize, ops: &Ops) -> Result<(), AllocError>
     Ok(())
 }
 
+// So many of the operations, behind the first ones, in memory of their own.
+fn part(alloc: Global, ops: &Ops, first: usize, count: usize) -> Result<Ops, AllocError>
+    ensures { IfOk result (λ part. part ≡ take count (drop first ops.now)) }
+{
+    let mut part = Ops::new(alloc);
+    let mut before = first;
+    let mut left = count;
+    for op in ops.iter() {
+        if before > 0 {
+            before -= 1;
+        } else if left > 0 {
+            part.push(op.get())?;
+            left -= 1;
+        }
+    }
+    Ok(part)
+}
+
 // Puts a place behind the others. After an error they are as before.
 fn push_place(places: &mut Vec<Place>, place: Place) -> Result<(), AllocError>
     ensures ok { OnOk result (places.new.items ≡ places.old.items ++ place ∷ []) }
@@ -86,6 +104,23 @@ impl Commits {
         ensures { result ≡ length self.now }
     {
         self.places.len()
+    }
+
+    /// The commit of this number, from 0, with its operations in memory of their own. It goes over those of all commits.
+    pub fn commit(&self, alloc: Global, n: usize) -> Result<Option<Commit>, AllocError>
+        ensures { IfOk result (λ commit. commit ≡ slice_get self.now n) }
+    {
+        if n >= self.places.len() {
+            return Ok(None);
+        }
+        let Place {
+            time,
+            txn,
+            first,
+            count,
+        } = self.places[n];
+        let ops = part(alloc, &self.ops, first, count)?;
+        Ok(Some(Commit { time, txn, ops }))
     }
 
     // Puts a commit of these operations behind the others. After an error they are as before.

@@ -106,7 +106,8 @@ impl Commits {
         self.places.len()
     }
 
-    /// The commit of this number, from 0, with its operations in memory of their own. It goes over those of all commits.
+    /// The commit of this number, from 0, with its operations in memory of their own. The operations of all commits are
+    /// gone over.
     pub fn commit(&self, alloc: Global, n: usize) -> Result<Option<Commit>, AllocError>
         ensures { IfOk result (λ commit. commit ≡ slice_get self.now n) }
     {

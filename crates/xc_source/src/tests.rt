@@ -118,7 +118,7 @@ fn each_call_is_answered(rt: HostRuntime) -> Result<(), Fail> {
         assert!(rt; commit.time == time && commit.txn == txn, "{n}");
         assert_eq!(rt; commit.ops.len(), 1);
         for op in commit.ops.iter() {
-            assert!(rt; op.key_bytes() == b"aaa", "{n}");
+            assert!(rt; op.key_bytes() == b"aaa".as_slice(), "{n}");
             assert!(rt; op.value() == Value::new(value.as_bytes()).ok(), "{n}");
         }
     }

@@ -6,7 +6,6 @@ mod limits;
 
 pub use arena::{copy_op, key, key_bytes, move_op, op, op_bytes, put_op, reserve_ops, value_of};
 pub use limits::ARENA_BYTES;
-pub use xc_record::packed::OP_BYTES;
 
 #[cfg(test)]
 mod tests;

@@ -2,6 +2,7 @@ use super::*;
 use crate::arena;
 use std::test::Fail;
 use xc_base::{Key, Value};
+use xc_record::packed::OP_BYTES;
 
 // Operations, None where a key is removed, and their bytes.
 static TABLE: [(&str, Option<&str>, &[u8]); 4] = [

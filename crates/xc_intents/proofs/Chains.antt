@@ -8,9 +8,9 @@ use Rattle.xc_intents.specs.HeldOps.{in_range}
 use Rattle.xc_intents.specs.declared.slots.Slot.{Slot}
 use Rattle.xc_intents.specs.declared.slots.Chain.{Chain}
 use Rattle.xc_intents.specs.Slots.{at, chain_at, no_chain, blank, mine, Skips, IsNext, NextTo, LastTo, in_walk, PassedTo, ChainFits}
-use Rattle.xc_intents.specs.Slots.{HasChain, twig, IsTree, Linked, next_of, WalkTo, chain_to, slots_to, bare, SameWalk, Moves}
+use Rattle.xc_intents.specs.Slots.{HasChain, twig, IsSearchable, Linked, next_of, WalkTo, chain_to, slots_to, bare, SameWalk, Moves}
 use Rattle.std.specs.Option.{option_map_or}
-use Rattle.xc_intents.proofs.Trees.{tree-same}
+use Rattle.xc_intents.proofs.Searches.{searchable-same}
 
 pub weaker : (a b r : Bool) → (b ≡ true → a ≡ true) → (a && r) ≡ false → (b && r) ≡ false
 weaker a false r h e = refl
@@ -77,7 +77,7 @@ module _ (n : ℕ) (xs ys : List Slot) (f : Fewer n xs ys) where
       lasts = λ i a t e. fits.lasts i a (sym (f.txn i a) ∙ t) (ends i a e);
     };
     has = λ i a. let h : HasChain cs (at xs i).txn = l.has i a in (h.0, h.1, h.2 ∙ sym (f.txn i a));
-    tree = l.tree;
+    searchable = l.searchable;
   }
 
   -- links that stay
@@ -233,16 +233,16 @@ pub has-set : (cs : List Chain) (e : ℕ) (c : Chain) (t : ℕ) → e < length c
     → HasChain (set cs e c) t
 has-set cs e c t h same has = (has.0, omega (arith, length-set cs e c, has.1), chain-txn cs e has.0 c h same ∙ has.2)
 
-pub tree-set : (cs : List Chain) (e : ℕ) (c : Chain) → e < length cs → twig c ≡ twig (chain_at cs e) → IsTree cs (length cs)
-    → IsTree (set cs e c) (length (set cs e c))
-tree-set cs e c h same tree =
-    subst (IsTree (set cs e c)) (sym (length-set cs e c))
-    (tree-same cs (set cs e c) (length cs)
+pub searchable-set : (cs : List Chain) (e : ℕ) (c : Chain) → e < length cs → twig c ≡ twig (chain_at cs e) → IsSearchable cs (length cs)
+    → IsSearchable (set cs e c) (length (set cs e c))
+searchable-set cs e c h same searchable =
+    subst (IsSearchable (set cs e c)) (sym (length-set cs e c))
+    (searchable-same cs (set cs e c) (length cs)
     (λ k b. ⊎_elim
     (λ (here : k ≡ e). subst (λ m. twig (chain_at (set cs e c) m) ≡ twig (chain_at cs m)) (sym here)
     (ap twig (chain-set_same cs e c h) ∙ same))
     (λ other. ap twig (chain-set_other cs e k c other))
-    (cases_eq k e)) tree)
+    (cases_eq k e)) searchable)
 
 pub Linked-chain : (xs : List Slot) (cs : List Chain) (n e : ℕ) (c : Chain) → e < length cs → twig c ≡ twig (chain_at cs e)
     → ChainFits xs n c → Linked xs cs n → Linked xs (set cs e c) n
@@ -250,7 +250,7 @@ Linked-chain xs cs n e c h same fits l = record {
   links = l.links;
   chains = chains-set xs n cs e c h fits (λ k b other. l.chains k b);
   has = λ i a. has-set cs e c (at xs i).txn h (ap (λ (d : Chain). d.txn) same) (l.has i a);
-  tree = tree-set cs e c h same l.tree;
+  searchable = searchable-set cs e c h same l.searchable;
 }
 
 -- ---- the walk of a chain

@@ -13,9 +13,9 @@ use Rattle.xc_intents.specs.declared.limits.TheConstants.{MOST_LINKED}
 use Rattle.xc_intents.specs.declared.slots.Slot.{Slot}
 use Rattle.xc_intents.specs.declared.slots.Chain.{Chain}
 use Rattle.xc_intents.specs.Slots.{at, chain_at, no_chain, blank, bare, is_live, is_used, cut, slot_op, held_in, mine, NextTo, ChainFits}
-use Rattle.xc_intents.specs.Slots.{HasChain, Distinct, twig, loose, IsTree, Linked, Keeps, Holds, IsChained, size_of}
-use Rattle.xc_intents.proofs.Trees.{tree-same}
-use Rattle.xc_intents.proofs.Links.{Linked-tree}
+use Rattle.xc_intents.specs.Slots.{HasChain, Distinct, twig, loose, IsSearchable, Linked, Keeps, Holds, IsChained, size_of}
+use Rattle.xc_intents.proofs.Searches.{searchable-same}
+use Rattle.xc_intents.proofs.Links.{Linked-anew}
 use Rattle.xc_intents.proofs.Chains.{Fewer-set, Linked-fewer, at-set_other, length-bare, chain-read}
 use Rattle.xc_intents.proofs.Walks.{held-same, holds-same, at-bare}
 
@@ -49,15 +49,15 @@ pub cut-has : (cs : List Chain) (t : ℕ) → HasChain cs t → HasChain (map cu
 cut-has cs t h = (h.0, omega (arith, length-map cs cut, h.1), cut-txn cs h.0 h.1 ∙ h.2)
 
 -- no slot is linked
-pub Linked-cut : (xs : List Slot) (cs : List Chain) → IsTree cs (length cs) → Linked xs (map cut cs) 0
-Linked-cut xs cs tree = record {
+pub Linked-cut : (xs : List Slot) (cs : List Chain) → IsSearchable cs (length cs) → Linked xs (map cut cs) 0
+Linked-cut xs cs searchable = record {
   links = λ i a. absurd (omega arith);
   chains = λ e b.
       let low : e < length cs = omega (arith, length-map cs cut) in
       subst (ChainFits xs 0) (sym (get_or-map cut cs e (no_chain 0) (no_chain 0) low)) (cut-fits xs (chain_at cs e));
   has = λ i a. absurd (omega arith);
-  tree = subst (IsTree (map cut cs)) (sym (length-map cs cut))
-      (tree-same cs (map cut cs) (length cs) (λ k b. ap twig (get_or-map cut cs k (no_chain 0) (no_chain 0) b)) tree);
+  searchable = subst (IsSearchable (map cut cs)) (sym (length-map cs cut))
+      (searchable-same cs (map cut cs) (length cs) (λ k b. ap twig (get_or-map cut cs k (no_chain 0) (no_chain 0) b)) searchable);
 }
   where
     cut-fits : (xs : List Slot) (c : Chain) → ChainFits xs 0 (cut c)
@@ -153,16 +153,16 @@ distinct-filter p (c ∷ cs) r =
 
 -- the chains without slots go, where all slots are live
 pub Linked-used : (xs : List Slot) (cs ds : List Chain) (n : ℕ) → ((i : ℕ) → i < n → (at xs i).live ≡ true) → Linked xs cs n
-    → map loose ds ≡ map loose (filter is_used cs) → IsTree ds (length ds) → Linked xs ds n
-Linked-used xs cs ds n live l same tree =
-    Linked-tree xs (filter is_used cs) ds n l.links
+    → map loose ds ≡ map loose (filter is_used cs) → IsSearchable ds (length ds) → Linked xs ds n
+Linked-used xs cs ds n live l same searchable =
+    Linked-anew xs (filter is_used cs) ds n l.links
     (λ e b. All-filter is_used (ChainFits xs n) cs (All-from_get_or (ChainFits xs n) cs (no_chain 0) l.chains) e (no_chain 0) b)
     (λ i a.
     let h : HasChain cs (at xs i).txn = l.has i a in
     let fits : ChainFits xs n (chain_at cs h.0) = l.chains h.0 h.1 in
     let kept = kept-at is_used cs h.0 h.1 (used i a (chain_at cs h.0) h.2 (chain_at cs h.0).first fits.first) in
     (kept.0, kept.1, ap (λ (c : Chain). c.txn) kept.2 ∙ h.2))
-    same tree
+    same searchable
   where
     used : (i : ℕ) → i < n → (c : Chain) → c.txn ≡ (at xs i).txn → (o : Option ℕ) → NextTo c.txn xs 0 n o → is_some o ≡ true
     used i a c t None skips =
@@ -193,9 +193,9 @@ module _ (xs ys : List Slot) (ds : List Chain) (small : length xs ≤ MOST_LINKE
   anew-size b = sym (size-bare b ys) ∙ ap (size_of b) same ∙ size-bare b (filter is_live xs)
 
   pub anew-chained : (b : List ℕ) → Holds b xs → (es : List Chain) → length (filter is_live xs) ≤ length xs
-      → map loose es ≡ map loose (filter is_used ds) → IsTree es (length es) → length es ≤ MOST_LINKED → IsChained b ys es
-  anew-chained b holds es short kept tree few = record {
-    linked = Linked-used ys ds es (length ys) anew-live l kept tree;
+      → map loose es ≡ map loose (filter is_used ds) → IsSearchable es (length es) → length es ≤ MOST_LINKED → IsChained b ys es
+  anew-chained b holds es short kept searchable few = record {
+    linked = Linked-used ys ds es (length ys) anew-live l kept searchable;
     holds = holds-same b (filter is_live xs) ys same (holds-filter b xs holds);
     small = omega (arith, anew-long, small);
     few = few;

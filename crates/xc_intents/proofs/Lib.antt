@@ -1,6 +1,7 @@
 pub mod IntentLaws
 pub mod GiftLaws
 pub mod Trees
+pub mod Searches
 pub mod Chains
 pub mod Links
 pub mod Walks

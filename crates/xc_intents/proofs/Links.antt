@@ -7,10 +7,11 @@ use Rattle.std.proofs.lemmas.List.{get_or_at, get_or_append_left, length_push}
 use Rattle.xc_intents.specs.declared.slots.Slot.{Slot}
 use Rattle.xc_intents.specs.declared.slots.Chain.{Chain}
 use Rattle.xc_intents.specs.Slots.{at, chain_at, no_chain, mine, Skips, NextTo, IsLast, LastTo, PassedTo, ChainFits, HasChain, NoChain}
-use Rattle.xc_intents.specs.Slots.{loose, IsTree, Linked, slots_and, chain_and, bare}
-use Rattle.xc_intents.proofs.Trees.{tree-one, length-loose, at-loose}
+use Rattle.xc_intents.specs.Slots.{loose, IsSearchable, Linked, slots_and, chain_and, bare}
+use Rattle.xc_intents.proofs.Trees.{length-loose, at-loose}
+use Rattle.xc_intents.proofs.Searches.{searchable-one}
 use Rattle.xc_intents.proofs.Chains.{Fewer, Fewer-set, NextTo-fewer, LastTo-fewer, PassedTo-fewer, at-set_same, at-set_other, chains-set}
-use Rattle.xc_intents.proofs.Chains.{has-set, tree-set, bare-to}
+use Rattle.xc_intents.proofs.Chains.{has-set, searchable-set, bare-to}
 
 -- ---- one more slot, of another transaction or of this one
 
@@ -166,7 +167,7 @@ module _ (xs ys : List Slot) (cs : List Chain) (n e : ℕ) (b : e < length cs) (
     where
       apart : (k : ℕ) → k < length cs → k ≢ e → (chain_at cs k).txn ≢ (chain_at cs e).txn
       apart k low other same =
-          other (tree-one cs (length cs) k e l.tree low b same)
+          other (searchable-one cs (length cs) k e l.searchable low b same)
 
   pub Linked-behind : Linked ys (set cs e (chain_and (chain_at cs e) n)) (n + 1)
   Linked-behind = record {
@@ -177,7 +178,7 @@ module _ (xs ys : List Slot) (cs : List Chain) (n e : ℕ) (b : e < length cs) (
         (λ (here : i ≡ n). (e, b, subst (λ z. (chain_at cs e).txn ≡ (at ys z).txn) (sym here) (sym txn-n)))
         (λ (other : i ≢ n). let h : HasChain cs (at xs i).txn = l.has i (omega arith) in (h.0, h.1, h.2 ∙ sym (f.txn i a)))
         (cases_eq i n));
-    tree = tree-set cs e (chain_and (chain_at cs e) n) b refl l.tree;
+    searchable = searchable-set cs e (chain_and (chain_at cs e) n) b refl l.searchable;
   }
 
 -- as the code writes it
@@ -225,12 +226,12 @@ fits-loose xs n c d e fits = from (subst (ChainFits xs n) (sym e) (to fits))
     from : ChainFits xs n (loose d) → ChainFits xs n d
     from s = record { first = s.first; last = s.last; passed = passed-from d.passed s.passed; ends = s.ends; lasts = s.lasts }
 
--- where each chain fits, and each slot has one, in any tree
-pub Linked-tree : (xs : List Slot) (cs ds : List Chain) (n : ℕ)
+-- where each chain fits, and each slot has one, however the chains are searched
+pub Linked-anew : (xs : List Slot) (cs ds : List Chain) (n : ℕ)
     → ((i : ℕ) → i < n → NextTo (at xs i).txn xs (i + 1) n (at xs i).next)
     → ((e : ℕ) → e < length cs → ChainFits xs n (chain_at cs e)) → ((i : ℕ) → i < n → HasChain cs (at xs i).txn)
-    → map loose ds ≡ map loose cs → IsTree ds (length ds) → Linked xs ds n
-Linked-tree xs cs ds n links fits has same tree = record {
+    → map loose ds ≡ map loose cs → IsSearchable ds (length ds) → Linked xs ds n
+Linked-anew xs cs ds n links fits has same searchable = record {
   links = links;
   chains = λ e b.
       let long = length-loose cs ds same in
@@ -239,7 +240,7 @@ Linked-tree xs cs ds n links fits has same tree = record {
       let long = length-loose cs ds same in
       let h : HasChain cs (at xs i).txn = has i a in
       (h.0, omega (arith, h.1), ap (λ (c : Chain). c.txn) (at-loose cs ds h.0 same h.1) ∙ h.2);
-  tree = tree;
+  searchable = searchable;
 }
 
 pub chain-at-push : (cs : List Chain) (c : Chain) → chain_at (cs ++ c ∷ []) (length cs) ≡ c
@@ -259,10 +260,10 @@ none-fits xs n t other = record {
 }
 
 module _ (cs ds : List Chain) (t : ℕ) (none : NoChain cs t) (same : map loose ds ≡ map loose (cs ++ no_chain t ∷ []))
-    (tree : IsTree ds (length ds)) where
+    (searchable : IsSearchable ds (length ds)) where
   pub Linked-open : (xs : List Slot) (n : ℕ) → Linked xs cs n → Linked xs ds n
   Linked-open xs n l =
-      Linked-tree xs (cs ++ no_chain t ∷ []) ds n l.links
+      Linked-anew xs (cs ++ no_chain t ∷ []) ds n l.links
       (λ k low. let long = length_push cs (no_chain t) in
       ⊎_elim
       (λ (here : k ≡ length cs). subst (λ z. ChainFits xs n (chain_at (cs ++ no_chain t ∷ []) z)) (sym here)
@@ -273,7 +274,7 @@ module _ (cs ds : List Chain) (t : ℕ) (none : NoChain cs t) (same : map loose 
       (λ i a. let long = length_push cs (no_chain t) in
       let h : HasChain cs (at xs i).txn = l.has i a in
       (h.0, omega (arith, h.1), ap (λ (c : Chain). c.txn) (chain-at-before cs (no_chain t) h.0 h.1) ∙ h.2))
-      same tree
+      same searchable
     where
       unlike : (i : ℕ) → i < n → (at xs i).txn ≢ t
       unlike i a is = let h : HasChain cs (at xs i).txn = l.has i a in none h.0 h.1 (h.2 ∙ is)

@@ -6,13 +6,14 @@
 --     ChainFits xs n c      the chain's ends, and what its last walk passed, are right for the first n slots
 --     Leads cs t m rest cur e      in the tree of the chains m steps lead from cur to e, for t of which `rest` is left
 --     IsTree cs n      the first n chains are in the tree, each where its transaction leads
+--     IsSearchable cs n      they are where the first chain has a branch, and else they stand in rising order of transactions
 --     Linked xs cs n      so are all links and chains, and each of these slots has a chain
 --     given_at b xs i      what is taken out of the slot i
 --     sought_by c, part_of c      what the walk of the chain c looks for
 --     Holds b xs      for each slot an operation lies in the arena, whose key's hash the slot knows
 --     IsChained b xs cs      so they do, and all are linked
 --     Carried b xs d ys      ys are the slots xs, whose operations were moved to the arena d
-use Rattle.std.specs.Prelude.{◌≡◌, ◌≢◌, ℕ, zero, suc, ◌+◌, ◌-◌, ◌≤◌, ◌<◌, ◌^◌, ◌*◌, ◌%◌, min, Bool, true, false, ◌&&◌, ◌==◌, List, []}
+use Rattle.std.specs.Prelude.{◌≡◌, ◌≢◌, ℕ, zero, suc, ◌+◌, ◌-◌, ◌≤◌, ◌<◌, ◌^◌, ◌*◌, ◌%◌, min, Bool, true, false, ◌&&◌, ◌||◌, ◌==◌, List, []}
 use Rattle.std.specs.Prelude.{◌∷◌}
 use Rattle.std.specs.Prelude.{Option, Some, None, IfSome}
 use Rattle.std.specs.Prelude.{length, map, filter, slice_index_or, slice_set, nat_le, is_some, if◌then◌else◌}
@@ -208,11 +209,21 @@ pub record IsTree (cs : List Chain) (n : ℕ) : Type 0 where
   pub later : (i j : ℕ) (side : Bool) → i < n → below side (chain_at cs i) ≡ Some j → (i < j) × (j < n)
   pub found : (e : ℕ) → e < n → (m : ℕ) × Leads cs (chain_at cs e).txn m (chain_at cs e).txn 0 e
 
+abbrev pub is_planted : List Chain → Bool
+is_planted cs = is_some (chain_at cs 0).left || is_some (chain_at cs 0).right
+
+abbrev pub Rising : List Chain → ℕ → Type 0
+Rising cs n = (a b : ℕ) → a < b → b < n → (chain_at cs a).txn < (chain_at cs b).txn
+
+pub record IsSearchable (cs : List Chain) (n : ℕ) : Type 0 where
+  pub tree : is_planted cs ≡ true → IsTree cs n
+  pub rising : is_planted cs ≡ false → Rising cs n
+
 pub record Linked (xs : List Slot) (cs : List Chain) (n : ℕ) : Type 0 where
   pub links : (i : ℕ) → i < n → NextTo (at xs i).txn xs (i + 1) n (at xs i).next
   pub chains : (e : ℕ) → e < length cs → ChainFits xs n (chain_at cs e)
   pub has : (i : ℕ) → i < n → HasChain cs (at xs i).txn
-  pub tree : IsTree cs (length cs)
+  pub searchable : IsSearchable cs (length cs)
 
 pub record Keeps (b : List ℕ) (s : Slot) : Type 0 where
   pub lies : Lies b s.at

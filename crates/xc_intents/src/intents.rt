@@ -12,8 +12,9 @@ use crate::limits::MOST_LINKED;
 use crate::slots::{Chain, Slot, append, gather, held_at, live_bytes, take_next, walk};
 use std::alloc::{AllocError, Global};
 use std::marker::Model;
-use xc_arena::{ARENA_BYTES, OP_BYTES, reserve_ops};
+use xc_arena::{ARENA_BYTES, reserve_ops};
 use xc_record::OpAt;
+use xc_record::packed::OP_BYTES;
 
 /// The operations that wait, in the order in which they were held. Contracts see them as that list, beside for how many
 /// more there is room, and what a walk looks for.

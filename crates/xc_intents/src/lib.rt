@@ -5,6 +5,7 @@ mod held;
 mod intents;
 mod limits;
 mod link;
+mod search;
 mod slots;
 mod tree;
 

@@ -9,7 +9,7 @@ ghost use Rattle.xc_record.specs.Hash.{hash_of};
 ghost use Rattle.std.specs.List.{find};
 ghost use Rattle.std.specs.Option.{option_map};
 ghost use Rattle.xc_intents.specs.HeldOps.{in_range, is_part, without_first, given, held_op};
-ghost use Rattle.xc_intents.specs.Slots.{Linked, IsTree, HasChain, NoChain, SameWalk, chain_at, at, in_walk, mine};
+ghost use Rattle.xc_intents.specs.Slots.{Linked, IsSearchable, HasChain, NoChain, SameWalk, chain_at, at, in_walk, mine};
 ghost use Rattle.xc_intents.specs.Slots.{held_in, next_of, chain_to, slots_to, begun, Moves, IsFound, bare};
 ghost use Rattle.xc_intents.specs.Slots.{chain_and, slots_and, walk_of, IsChained, fresh, dead, is_live, cut, given_at};
 ghost use Rattle.xc_intents.specs.Slots.{TakesNext};
@@ -20,7 +20,7 @@ ghost use Rattle.xc_intents.specs.declared.limits.TheConstants.{MOST_LINKED};
 
 use crate::held::Held;
 use crate::link::Link;
-use crate::tree::{drop_unused, find, open};
+use crate::search::{drop_unused, find, open};
 use xc_arena::{copy_op, move_op, op, op_bytes};
 use xc_record::{OpAt, hash_bytes};
 
@@ -39,8 +39,8 @@ pub(crate) struct Slot {
 #[derive(Drop, Debug, Clone, Copy)]
 pub(crate) struct Chain {
     pub(crate) txn: u32,
-    // the chains below it in the tree in which a chain is found by the bits of its transaction's number: beside that
-    // number, since a search reads these three of each chain that it passes
+    // the chains below it, where they are in a tree: beside the transaction's number, since a search reads these three
+    // of each chain that it passes
     pub(crate) left: Link,
     pub(crate) right: Link,
     pub(crate) first: Link,
@@ -226,7 +226,7 @@ pub(crate) fn append(
 
 /// The chain of the transaction, if it has one, whose walk looks for hashes from `lo` to `hi` from now on.
 pub(crate) fn walk(chains: &mut [Chain], recent: usize, txn: u32, lo: u16, hi: u16) -> Option<usize>
-    requires { IsTree chains.old (length chains.old) }
+    requires { IsSearchable chains.old (length chains.old) }
     ensures linked { (xs : List Slot) (n : ℕ) → Linked xs chains.old n → Linked xs chains.new n }
     ensures chains { length chains.new ≡ length chains.old }
     ensures found { MatchOption result (NoChain chains.old txn)
@@ -409,7 +409,7 @@ pub(crate) fn gather(bytes: &[u8], to: &mut Vec<u8>, slots: &mut Vec<Slot>, chai
 
 // Links all slots anew, into chains that are cut first.
 fn chain_anew(slots: &mut [Slot], chains: &mut [Chain])
-    requires tree { IsTree chains.old (length chains.old) }
+    requires searchable { IsSearchable chains.old (length chains.old) }
     requires small { length slots.old ≤ MOST_LINKED }
     requires has { (k : ℕ) → k < length slots.old → HasChain chains.old (at slots.old k).txn }
     ensures linked { Linked slots.new chains.new (length slots.new) }

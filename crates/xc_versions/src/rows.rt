@@ -104,8 +104,8 @@ fn put_version(rows: &mut Vec<(Key, Value)>, bytes: &[u8], at: u32) -> Result<()
     Ok(())
 }
 
-// Whether this version is put into the rows at t. It is passed where it is later, and where the next one is of the same
-// key and isn't: of many versions of a key in a row the arena's bytes are read once.
+// Whether this version is put into the rows at t. It is passed where it is later, and where the next one of its page is
+// of the same key and isn't later: the slots alone tell both, unless the heads of keys don't tell them apart.
 fn is_shown(bytes: &[u8], slots: &VecDeque<Slot>, i: usize, t: u64) -> bool
     requires slots { AllByRecursion (IsSlot bytes.now) slots.now.items }
     requires within { i < length slots.now.items }

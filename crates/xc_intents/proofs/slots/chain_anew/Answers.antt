@@ -5,7 +5,7 @@ use Rattle.xc_intents.proofs.slots.chain_anew.Goals as goal
 
 pub link_all-requires-clause-linked : goal.link_all-requires-clause-linked
 link_all-requires-clause-linked c =
-    subst (λ z. Linked c.args.slots.now z 0) (sym c.cut.ensures) (Linked-cut c.args.slots.now c.args.chains.now c.requires.tree)
+    subst (λ z. Linked c.args.slots.now z 0) (sym c.cut.ensures) (Linked-cut c.args.slots.now c.args.chains.now c.requires.searchable)
 
 pub link_all-requires-clause-has : goal.link_all-requires-clause-has
 link_all-requires-clause-has c = λ k low.

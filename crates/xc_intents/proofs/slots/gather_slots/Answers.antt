@@ -37,7 +37,7 @@ returns-clause-chained c = λ b holds.
     (arith, ap length c.drop_dead.ensures.slots, c.drop_dead.ensures.len, c.args.slots.now.ok.0, c.drop_dead.new.slots.ok.0) in
     let chained = anew-chained xs ys c.chain_anew.new.chains c.requires.small (same c) c.chain_anew.ensures.linked b holds
     c.drop_unused.new.chains.items short
-    (c.drop_unused.ensures.chains ∙ ap (λ zs. map loose (filter is_used zs)) (chains_are c)) c.drop_unused.ensures.tree
+    (c.drop_unused.ensures.chains ∙ ap (λ zs. map loose (filter is_used zs)) (chains_are c)) c.drop_unused.ensures.searchable
     (omega (arith, c.drop_unused.ensures.len, c.chain_anew.ensures.chains, c.requires.few, c.args.chains.now.ok.0)) in
     subst (λ z. IsChained b z c.drop_unused.new.chains.items) (sym (slots_are c)) chained
 

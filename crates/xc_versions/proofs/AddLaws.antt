@@ -20,7 +20,7 @@ use Rattle.xc_versions.specs.Stored.{stored_cmp, IsBefore, InOrder, IsNew, with_
 use Rattle.xc_versions.specs.declared.stored.Slot.{Slot}
 use Rattle.xc_versions.specs.Slots.{seen}
 use Rattle.xc_versions.specs.Around.{Around}
-use Rattle.xc_versions.specs.Pages.{held, items_of, IsPage, IsPaged, is_first_passed, Idle, Dues, over, load, spare_of, slots_of, due_of}
+use Rattle.xc_versions.specs.Pages.{held, items_of, IsPage, IsPaged, is_first_passed, Idle, Dues, over, load, spare_of, slots_of}
 use Rattle.xc_versions.proofs.StoredOrder.{stored-total, in_order-left, in_order-right}
 use Rattle.xc_versions.proofs.VersionLaws.{with-in_order}
 use Rattle.xc_versions.proofs.PageLaws.{each-left, each-right, at-index, items_of-append, with-between, any-append, any-with, not-by}
@@ -66,7 +66,7 @@ dues-grown b (p ∷ ps) w v ys zs h l d = (
 )
 
 -- pages that share what is idle under one due
-dues-parts : (b : List ℕ) (ms : List Page) (due : ℕ) (zs : List StoredVersion) → Each (λ m. due_of m ≡ due) ms
+dues-parts : (b : List ℕ) (ms : List Page) (due : ℕ) (zs : List StoredVersion) → Each (λ (m : Page). m.due ≡ due) ms
     → ((u : ℕ) → u < due → Idle u (items_of b ms) zs) → Dues b ms zs
 dues-parts b [] due zs e i = tt
 dues-parts b (m ∷ ms) due zs e i = (
@@ -83,7 +83,7 @@ pub grown : (b : List ℕ) (v : StoredVersion) (bs : List Page) (q : Page) (cs m
     → IsNew v (items_of b (bs ++ q ∷ cs))
     → Each (λ x. is_gt (stored_cmp v x) ≡ true) (items_of b bs) → Each (λ x. is_gt (stored_cmp v x) ≡ false) (items_of b cs)
     → (bs ≡ []) ⊎ (is_first_passed (λ x. is_gt (stored_cmp v x)) (held b q) ≡ true)
-    → items_of b ms ≡ with_version v (held b q) → Each (IsPage b) ms → Each (λ m. due_of m ≡ min (due_of q) v.commit) ms
+    → items_of b ms ≡ with_version v (held b q) → Each (IsPage b) ms → Each (λ (m : Page). m.due ≡ min q.due v.commit) ms
     → Grown b v (bs ++ q ∷ cs) (bs ++ (ms ++ cs))
 grown b v bs q cs ms g n f late first e pages dues =
     let zs = items_of b cs ++ [] in
@@ -103,7 +103,7 @@ grown b v bs q cs ms g n f late first e pages dues =
     in
     let behind = dues-right b bs (q ∷ cs) [] g.dues in
     let middle : Dues b ms zs =
-    dues-parts b ms (min (due_of q) v.commit) zs dues (λ u l. subst (λ (w : List StoredVersion). Idle u w zs) (sym e)
+    dues-parts b ms (min q.due v.commit) zs dues (λ u l. subst (λ (w : List StoredVersion). Idle u w zs) (sym e)
     (idle-with u v (held b q) zs (omega arith)
     (subst (λ (w : List StoredVersion). InOrder (with_version v (held b q) ++ w)) (sym (append-nil (items_of b cs))) here)
     (behind.0 u (omega arith)))) in
@@ -160,7 +160,7 @@ cut-at old i q h e = at-index old i q h ∙ ap (λ p. take i old ++ p ∷ drop (
 pub added-at : (b : List ℕ) (v : StoredVersion) (old : List Page) (i : ℕ) (q : Page) (ms : List Page) → IsPaged b old []
     → IsNew v (items_of b old)
     → i < length old → Around b (λ x. is_gt (stored_cmp v x)) old i → q ≡ get_or old i q
-    → items_of b ms ≡ with_version v (held b q) → Each (IsPage b) ms → Each (λ m. due_of m ≡ min (due_of q) v.commit) ms
+    → items_of b ms ≡ with_version v (held b q) → Each (IsPage b) ms → Each (λ (m : Page). m.due ≡ min q.due v.commit) ms
     → Grown b v old (take i old ++ (ms ++ drop (i + 1) old))
 added-at b v old i q ms g n h a e items pages dues =
     let cut = cut-at old i q h e in

@@ -11,7 +11,7 @@ use Rattle.xc_versions.specs.declared.page.Page.{Page}
 use Rattle.xc_arena.specs.Arena.{op_at}
 use Rattle.xc_versions.specs.Slots.{seen, bytes_of}
 use Rattle.xc_versions.specs.Heads.{IsSlot}
-use Rattle.xc_versions.specs.Pages.{held, live_of, IsPage, over, load, spare_of, slots_of, due_of}
+use Rattle.xc_versions.specs.Pages.{held, live_of, IsPage, over, load, spare_of, slots_of}
 use Rattle.xc_versions.specs.Dues.{dues_of}
 use Rattle.xc_versions.proofs.SplitLaws.{each-at}
 use Rattle.xc_arena.proofs.ArenaLaws.{lies-well}
@@ -148,7 +148,7 @@ live-within b ps i p h e =
     omega arith
 
 alike-last : (b : List ℕ) (ps : List Page) (c : List ℕ) (qs : List Page) (p q : Page) → Alike b ps c qs → held c q ≡ held b p
-    → due_of q ≡ due_of p → Alike b (ps ++ p ∷ []) c (qs ++ q ∷ [])
+    → q.due ≡ p.due → Alike b (ps ++ p ∷ []) c (qs ++ q ∷ [])
 alike-last b [] c qs p q a h d = subst (λ (w : List Page). Alike b (p ∷ []) c (w ++ q ∷ [])) (sym a) (h, (d, refl))
 alike-last b (o ∷ ps) c [] p q a h d = absurd a
 alike-last b (o ∷ ps) c (r ∷ qs) p q a h d = (a.0, (a.1.0, alike-last b ps c qs p q a.1.1 h d))
@@ -166,7 +166,7 @@ alike-on b (p ∷ ps) c more (q ∷ qs) a g =
 -- what the move of one page gives
 pub record MovesPage (b : List ℕ) (p : Page) (to : List ℕ) (q : Page) : Type 0 where
   pub alike : held to q ≡ held b p
-  pub due : due_of q ≡ due_of p
+  pub due : q.due ≡ p.due
   pub good : IsPage to q
 
 pub moving_pages-more : (b : List ℕ) (old : List Page) (to : List ℕ) (pages : List Page) (i : ℕ) (p q : Page)
@@ -210,7 +210,7 @@ alike-load b (p ∷ ps) c (q ∷ qs) a = alike-over b (p ∷ ps) c (q ∷ qs) a
 alike-said : (b : List ℕ) (ps : List Page) (c : List ℕ) (qs : List Page) → Alike b ps c qs → dues_of qs ≡ dues_of ps
 alike-said b [] c qs a = ap dues_of a
 alike-said b (p ∷ ps) c [] a = absurd a
-alike-said b (p ∷ ps) c (q ∷ qs) a = ap (λ n. n ∷ dues_of qs) a.1.0 ∙ ap (λ w. due_of p ∷ w) (alike-said b ps c qs a.1.1)
+alike-said b (p ∷ ps) c (q ∷ qs) a = ap (λ n. n ∷ dues_of qs) a.1.0 ∙ ap (λ w. p.due ∷ w) (alike-said b ps c qs a.1.1)
 
 -- all pages are moved
 pub record MovedPages (b : List ℕ) (old : List Page) (to : List ℕ) (pages : List Page) : Type 0 where

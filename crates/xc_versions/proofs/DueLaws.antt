@@ -5,24 +5,24 @@ use Rattle.std.proofs.lemmas.Bool.{cases_Bool, ltb-true, ltb-false}
 use Rattle.std.proofs.lemmas.List.{get_or-map, map-set, take-map, drop-map, map-append, get_or-set_same, length-map}
 use Rattle.xc_versions.specs.declared.page.Page.{Page}
 use Rattle.xc_versions.specs.Stored.{kept, pruned_before}
-use Rattle.xc_versions.specs.Pages.{held, items_of, IsPaged, due_of}
+use Rattle.xc_versions.specs.Pages.{held, items_of, IsPaged}
 use Rattle.xc_versions.specs.Dues.{dues_of, Shrunk, Grew}
 use Rattle.xc_versions.proofs.VersionLaws.{kept-before}
 use Rattle.xc_versions.proofs.PageLaws.{items-from}
 use Rattle.xc_versions.proofs.ShrinkLaws.{Walked, walked-some, pruned-idle, order-at, idle-at}
 
-pub due-at : (ps : List Page) (i : ℕ) (q : Page) → i < length ps → q ≡ get_or ps i q → get_or (dues_of ps) i 0 ≡ due_of q
-due-at ps i q h e = get_or-map (λ (p : Page). due_of p) ps i q 0 h ∙ ap (λ (p : Page). due_of p) (sym e)
+pub due-at : (ps : List Page) (i : ℕ) (q : Page) → i < length ps → q ≡ get_or ps i q → get_or (dues_of ps) i 0 ≡ q.due
+due-at ps i q h e = get_or-map (λ (p : Page). p.due) ps i q 0 h ∙ ap (λ (p : Page). p.due) (sym e)
 
 -- one page more was looked at
 pub least-more : (ps : List Page) (i first due : ℕ) (q : Page) → i < length ps → q ≡ get_or ps i q
     → ((k : ℕ) → first ≤ k → k < i → due ≤ get_or (dues_of ps) k 0)
-    → (k : ℕ) → first ≤ k → k < i + 1 → min due (due_of q) ≤ get_or (dues_of ps) k 0
+    → (k : ℕ) → first ≤ k → k < i + 1 → min due q.due ≤ get_or (dues_of ps) k 0
 least-more ps i first due q h e f k l m =
-    ⊎_elim {C = min due (due_of q) ≤ get_or (dues_of ps) k 0} (λ early. let g = f k l (ltb-true k i early) in omega arith)
+    ⊎_elim {C = min due q.due ≤ get_or (dues_of ps) k 0} (λ early. let g = f k l (ltb-true k i early) in omega arith)
     (λ late.
     let same : k ≡ i = let n = ltb-false k i late in omega arith in
-    let here : get_or (dues_of ps) k 0 ≡ due_of q = ap (λ j. get_or (dues_of ps) j 0) same ∙ due-at ps i q h e in
+    let here : get_or (dues_of ps) k 0 ≡ q.due = ap (λ j. get_or (dues_of ps) j 0) same ∙ due-at ps i q h e in
     omega arith)
     (cases_Bool (nat_lt k i))
 
@@ -32,38 +32,38 @@ least-more ps i first due q h e f k l m =
 dues-parts : (old ms : List Page) (i : ℕ)
     → dues_of (take i old ++ (ms ++ drop (i + 1) old)) ≡ take i (dues_of old) ++ (dues_of ms ++ drop (i + 1) (dues_of old))
 dues-parts old ms i =
-    map-append (λ (p : Page). due_of p) (take i old) (ms ++ drop (i + 1) old)
-    ∙ ap (λ w. w ++ dues_of (ms ++ drop (i + 1) old)) (sym (take-map (λ (p : Page). due_of p) i old))
-    ∙ ap (λ w. take i (dues_of old) ++ w) (map-append (λ (p : Page). due_of p) ms (drop (i + 1) old)
-    ∙ ap (λ w. dues_of ms ++ w) (sym (drop-map (λ (p : Page). due_of p) (i + 1) old)))
+    map-append (λ (p : Page). p.due) (take i old) (ms ++ drop (i + 1) old)
+    ∙ ap (λ w. w ++ dues_of (ms ++ drop (i + 1) old)) (sym (take-map (λ (p : Page). p.due) i old))
+    ∙ ap (λ w. take i (dues_of old) ++ w) (map-append (λ (p : Page). p.due) ms (drop (i + 1) old)
+    ∙ ap (λ w. dues_of ms ++ w) (sym (drop-map (λ (p : Page). p.due) (i + 1) old)))
 
 pub shrunk-gone : (old new : List Page) (i : ℕ) → new ≡ take i old ++ drop (i + 1) old → Shrunk i (dues_of old) (dues_of new)
 shrunk-gone old new i e = inr (ap dues_of e ∙ dues-parts old [] i)
 
 pub shrunk-set : (old : List Page) (i : ℕ) (r : Page) → i < length old → Shrunk i (dues_of old) (dues_of (set old i r))
 shrunk-set old i r h =
-    let is : dues_of (set old i r) ≡ set (dues_of old) i (due_of r) = map-set (λ (p : Page). due_of p) old i r in
-    let long : length (dues_of old) ≡ length old = length-map old (λ (p : Page). due_of p) in
-    let here : get_or (dues_of (set old i r)) i 0 ≡ due_of r =
-    ap (λ ds. get_or ds i 0) is ∙ get_or-set_same (dues_of old) i (due_of r) 0 (omega arith) in
+    let is : dues_of (set old i r) ≡ set (dues_of old) i r.due = map-set (λ (p : Page). p.due) old i r in
+    let long : length (dues_of old) ≡ length old = length-map old (λ (p : Page). p.due) in
+    let here : get_or (dues_of (set old i r)) i 0 ≡ r.due =
+    ap (λ ds. get_or ds i 0) is ∙ get_or-set_same (dues_of old) i r.due 0 (omega arith) in
     inl (is ∙ ap (λ n. set (dues_of old) i n) (sym here))
 
 -- the page that was first read at i
-least-due : (old : List Page) (i n : ℕ) (q r : Page) → i < length old → q ≡ get_or old i q → due_of r ≡ min (due_of q) n
-    → due_of r ≡ min (get_or (dues_of old) i 0) n
+least-due : (old : List Page) (i n : ℕ) (q r : Page) → i < length old → q ≡ get_or old i q → r.due ≡ min q.due n
+    → r.due ≡ min (get_or (dues_of old) i 0) n
 least-due old i n q r h e d = d ∙ ap (λ m. min m n) (sym (due-at old i q h e))
 
-pub grew-one : (old : List Page) (i n : ℕ) (q r : Page) → i < length old → q ≡ get_or old i q → due_of r ≡ min (due_of q) n
+pub grew-one : (old : List Page) (i n : ℕ) (q r : Page) → i < length old → q ≡ get_or old i q → r.due ≡ min q.due n
     → Grew i n (dues_of old) (dues_of (set old i r))
 grew-one old i n q r h e d =
-    inl (map-set (λ (p : Page). due_of p) old i r ∙ ap (λ m. set (dues_of old) i m) (least-due old i n q r h e d))
+    inl (map-set (λ (p : Page). p.due) old i r ∙ ap (λ m. set (dues_of old) i m) (least-due old i n q r h e d))
 
-pub grew-two : (old new : List Page) (i n : ℕ) (q r s : Page) → i < length old → q ≡ get_or old i q → due_of r ≡ min (due_of q) n
-    → due_of s ≡ min (due_of q) n → new ≡ take i old ++ ((r ∷ s ∷ []) ++ drop (i + 1) old) → Grew i n (dues_of old) (dues_of new)
+pub grew-two : (old new : List Page) (i n : ℕ) (q r s : Page) → i < length old → q ≡ get_or old i q → r.due ≡ min q.due n
+    → s.due ≡ min q.due n → new ≡ take i old ++ ((r ∷ s ∷ []) ++ drop (i + 1) old) → Grew i n (dues_of old) (dues_of new)
 grew-two old new i n q r s h e d f g =
     let rest = drop (i + 1) (dues_of old) in
     inr (ap dues_of g ∙ dues-parts old (r ∷ s ∷ []) i
-    ∙ ap (λ m. take i (dues_of old) ++ (m ∷ due_of s ∷ rest)) (least-due old i n q r h e d)
+    ∙ ap (λ m. take i (dues_of old) ++ (m ∷ s.due ∷ rest)) (least-due old i n q r h e d)
     ∙ ap (λ m. take i (dues_of old) ++ (min (get_or (dues_of old) i 0) n ∷ m ∷ rest)) (least-due old i n q s h e f))
 
 -- ---- pages that a prune passes by

@@ -12,7 +12,7 @@ use Rattle.xc_versions.specs.declared.stored.StoredVersion.{StoredVersion}
 use Rattle.xc_versions.specs.declared.page.Page.{Page}
 use Rattle.xc_versions.specs.Stored.{InOrder}
 use Rattle.xc_versions.specs.Slots.{seen}
-use Rattle.xc_versions.specs.Pages.{held, items_of, IsPage, IsEmptyPage, IsPaged, Idle, slots_of, due_of, spare_of}
+use Rattle.xc_versions.specs.Pages.{held, items_of, IsPage, IsEmptyPage, IsPaged, Idle, slots_of, spare_of}
 use Rattle.xc_versions.specs.Pool.{IsStore, Loses}
 use Rattle.xc_versions.specs.Dues.{dues_of, Shrunk}
 use Rattle.xc_versions.proofs.PageLaws.{items-from}
@@ -44,7 +44,7 @@ store-gone b pages pages2 pool pool2 i q s h e sub is empty more pages_capacity 
 store-kept : (b : List ℕ) (pages pages2 : VecDeque Page Global) (pool : Vec Page Global) (i : ℕ) (q r : Page) → IsStore b pages pool
     → i < length pages.items → q ≡ get_or pages.items i q
     → Sub (held b r ++ items_of b (drop (i + 1) pages.items)) (held b q ++ items_of b (drop (i + 1) pages.items)) → IsPage b r
-    → (InOrder (held b r ++ items_of b (drop (i + 1) pages.items)) → (u : ℕ) → u < due_of r
+    → (InOrder (held b r ++ items_of b (drop (i + 1) pages.items)) → (u : ℕ) → u < r.due
     → Idle u (held b r) (items_of b (drop (i + 1) pages.items)))
     → pages2.items ≡ set pages.items i r → deque_capacity pages2 ≡ deque_capacity pages → IsStore b pages2 pool
 store-kept b pages pages2 pool i q r s h e sub is_page idle is pages_capacity =
@@ -112,7 +112,7 @@ pub loses-some : (b : List ℕ) (pages pages2 : VecDeque Page Global) (pool : Ve
     → Sub (left (held b q) (items_of b (drop (i + 1) pages.items))) (held b q ++ items_of b (drop (i + 1) pages.items))
     → held b r ++ items_of b (drop (i + 1) pages.items) ≡ left (held b q) (items_of b (drop (i + 1) pages.items))
     → IsPage b r
-    → (InOrder (held b r ++ items_of b (drop (i + 1) pages.items)) → (u : ℕ) → u < due_of r
+    → (InOrder (held b r ++ items_of b (drop (i + 1) pages.items)) → (u : ℕ) → u < r.due
     → Idle u (held b r) (items_of b (drop (i + 1) pages.items)))
     → length (slots_of r) ≤ length (slots_of q) → pages2.items ≡ set pages.items i r → deque_capacity pages2 ≡ deque_capacity pages
     → Loses b pages pages2 pool pool i left

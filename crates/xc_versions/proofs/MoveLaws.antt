@@ -13,7 +13,7 @@ use Rattle.xc_versions.specs.Stored.{InOrder, stored}
 use Rattle.xc_arena.specs.Arena.{key_at, value_at, Lies}
 use Rattle.xc_versions.specs.Slots.{seen}
 use Rattle.xc_versions.specs.Heads.{head_of, IsSlot}
-use Rattle.xc_versions.specs.Pages.{held, items_of, IsPage, IsPaged, Idle, Dues, slots_of, due_of}
+use Rattle.xc_versions.specs.Pages.{held, items_of, IsPage, IsPaged, Idle, Dues, slots_of}
 use Rattle.xc_versions.specs.Pool.{IsStore}
 use Rattle.xc_arena.proofs.ArenaLaws.{lies-more, lies-last, key_at-more, value_at-more, last-key, last-value}
 
@@ -21,7 +21,7 @@ use Rattle.xc_arena.proofs.ArenaLaws.{lies-more, lies-last, key_at-more, value_a
 abbrev pub Alike : List ℕ → List Page → List ℕ → List Page → Type 0
 Alike b [] c qs = qs ≡ []
 Alike b (p ∷ ps) c [] = ⊥
-Alike b (p ∷ ps) c (q ∷ qs) = (held c q ≡ held b p) × ((due_of q ≡ due_of p) × Alike b ps c qs)
+Alike b (p ∷ ps) c (q ∷ qs) = (held c q ≡ held b p) × ((q.due ≡ p.due) × Alike b ps c qs)
 
 pub alike-items : (b : List ℕ) (ps : List Page) (c : List ℕ) (qs : List Page) → Alike b ps c qs → items_of c qs ≡ items_of b ps
 alike-items b [] c qs a = ap (items_of c) a

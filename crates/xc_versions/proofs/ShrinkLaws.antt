@@ -9,7 +9,7 @@ use Rattle.xc_versions.specs.declared.stored.StoredVersion.{StoredVersion}
 use Rattle.xc_versions.specs.declared.page.Page.{Page}
 use Rattle.xc_versions.specs.Stored.{InOrder, is_replaced, next_replaces, pruned_before}
 use Rattle.xc_versions.specs.Pages.{held, items_of, IsPage, IsPaged, Idle, IdleNext, Dues}
-use Rattle.xc_versions.specs.Pages.{over, load, spare_of, slots_of, due_of}
+use Rattle.xc_versions.specs.Pages.{over, load, spare_of, slots_of}
 use Rattle.xc_versions.proofs.StoredOrder.{in_order-right}
 use Rattle.xc_versions.proofs.VersionLaws.{replaced-first}
 use Rattle.xc_versions.proofs.PageLaws.{each-left, each-right, items_of-append, items-from, idle-instead, dues-append, dues-left}
@@ -172,7 +172,7 @@ tail-gone b old new i p q f h e k is g =
 
 -- what a page is due for is idle below it
 pub idle-at : (b : List ℕ) (old : List Page) (i : ℕ) (q : Page) → IsPaged b old [] → i < length old → q ≡ get_or old i q → (u : ℕ)
-    → u < due_of q
+    → u < q.due
     → Idle u (held b q) (items_of b (drop (i + 1) old))
 idle-at b old i q g h e u l =
     let d = dues-right b (take i old) (q ∷ drop (i + 1) old) [] (subst (λ (ps : List Page). Dues b ps []) (cut-at old i q h e) g.dues) in
@@ -194,7 +194,7 @@ pruned-idle u (x ∷ xs) rest o i =
     ap (λ b. cond b (pruned_before u xs rest) (x ∷ pruned_before u xs rest)) test ∙ ap (λ w. x ∷ w) below
 
 -- one page that is idle as its due tells
-pub dues-one : (b : List ℕ) (q : Page) (rest : List StoredVersion) → ((u : ℕ) → u < due_of q → Idle u (held b q) rest)
+pub dues-one : (b : List ℕ) (q : Page) (rest : List StoredVersion) → ((u : ℕ) → u < q.due → Idle u (held b q) rest)
     → Dues b (q ∷ []) (rest ++ [])
 dues-one b q rest h = (λ u l. subst (λ (w : List StoredVersion). Idle u (held b q) w) (sym (append-nil rest)) (h u l), tt)
 

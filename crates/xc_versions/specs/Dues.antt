@@ -6,10 +6,9 @@
 --     Grew i n ds es      the due i became at most n, or two such stand in its place
 use Rattle.std.specs.Prelude.{◌≡◌, ℕ, ◌+◌, ◌/◌, ◌<◌, ◌≤◌, ◌⊎◌, min, List, ◌∷◌, ◌++◌, length, take, drop, map, slice_index_or, slice_set}
 use Rattle.xc_versions.specs.declared.page.Page.{Page}
-use Rattle.xc_versions.specs.Pages.{due_of}
 
 abbrev pub dues_of : List Page → List ℕ
-dues_of ps = map (λ p. due_of p) ps
+dues_of ps = map (λ (p : Page). p.due) ps
 
 abbrev pub Covers : List ℕ → List ℕ → Type 0
 Covers ds least = (k : ℕ) → k < length ds → slice_index_or least (k / 64) 0 ≤ slice_index_or ds k 0

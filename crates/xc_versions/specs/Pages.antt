@@ -1,5 +1,5 @@
 -- Pages of versions, whose keys and values lie in the bytes b.
---     slots_of p, due_of p, first_of p, capacity_of p      what lies in a page's box, and for how many slots there is room
+--     slots_of p, first_of p, capacity_of p      what lies in a page's box, and for how many slots there is room
 --     held b p, items_of b ps      the versions of a page, and of pages, one page after another
 --     live_of b ps      the bytes of their operations
 --     IsPage b p, IsEmptyPage p      1 to 64 versions, the first once more, and room for one more; no version, and room for 65
@@ -21,9 +21,6 @@ use Rattle.xc_versions.specs.Stored.{is_replaced, next_replaces, InOrder}
 
 abbrev pub slots_of : Page → List Slot
 slots_of p = p.body.value.items.items
-
-abbrev pub due_of : Page → ℕ
-due_of p = p.body.value.due
 
 abbrev pub first_of : Page → Slot
 first_of p = p.body.value.first
@@ -66,7 +63,7 @@ IdleNext u (x ∷ xs) rest = (next_replaces u x (xs ++ rest) ≡ false) × IdleN
 
 abbrev pub Dues : List ℕ → List Page → List StoredVersion → Type 0
 Dues b [] rest = Unit {0}
-Dues b (p ∷ ps) rest = ((u : ℕ) → u < due_of p → Idle u (held b p) (items_of b ps ++ rest)) × Dues b ps rest
+Dues b (p ∷ ps) rest = ((u : ℕ) → u < p.due → Idle u (held b p) (items_of b ps ++ rest)) × Dues b ps rest
 
 abbrev pub over : List Page → ℕ
 over [] = 0

@@ -38,7 +38,7 @@ fn lower_from(least: &mut Vec<u64>, pages: &VecDeque<Page>, first: usize)
     let mut i = first;
     while i < pages.len() {
         let page = &pages[i];
-        lower_at(least, i / GROUP, page.body.due);
+        lower_at(least, i / GROUP, page.due);
         i += GROUP;
     }
 }
@@ -53,7 +53,7 @@ pub(crate) fn settle(least: &mut Vec<u64>, pages: &VecDeque<Page>, i: usize, bef
         lower_from(least, pages, i / GROUP * GROUP + 63);
     } else if i < pages.len() {
         let page = &pages[i];
-        lower_at(least, i / GROUP, page.body.due);
+        lower_at(least, i / GROUP, page.due);
     }
 }
 
@@ -87,7 +87,7 @@ fn raise(least: &mut Vec<u64>, pages: &VecDeque<Page>, group: usize)
     let mut due = u64::MAX;
     for i in group * GROUP..end {
         let page = &pages[i];
-        due = due.min(page.body.due);
+        due = due.min(page.due);
     }
     least[group] = due;
 }

@@ -8,7 +8,7 @@ ghost use Rattle.xc_versions.specs.Splits.{Splits};
 ghost use Rattle.xc_versions.specs.Slots.{seen};
 ghost use Rattle.xc_versions.specs.Heads.{IsSlot, head_of};
 ghost use Rattle.xc_versions.specs.Pages.{held, items_of, IsPage, IsEmptyPage, is_first_passed};
-ghost use Rattle.xc_versions.specs.Pages.{slots_of, due_of, first_of, capacity_of};
+ghost use Rattle.xc_versions.specs.Pages.{slots_of, first_of, capacity_of};
 
 use crate::head::Head;
 use crate::queue::{insert_at, move_behind};
@@ -25,14 +25,14 @@ pub(crate) const PAGE: usize = 64;
 #[derive(Drop, Debug)]
 pub(crate) struct Page {
     pub(crate) body: Box<PageBody>,
+    /// A cutoff below this takes nothing from the page. It lies beside the box, since a prune asks many pages for it.
+    pub(crate) due: u64,
 }
 
 /// What lies in a page's box.
 #[derive(Drop, Debug)]
 pub(crate) struct PageBody {
     pub(crate) items: VecDeque<Slot>,
-    /// A cutoff below this takes nothing from the page.
-    pub(crate) due: u64,
     /// The slot of its first version once more, so that a search among pages reads nothing else of them.
     pub(crate) first: Slot,
 }
@@ -164,11 +164,11 @@ impl Page {
     pub(crate) fn bare(alloc: Global) -> Result<Page, AllocError> {
         let body = PageBody {
             items: VecDeque::new(alloc),
-            due: 0,
             first: Slot::default(),
         };
         Ok(Page {
             body: Box::new(alloc, body)?,
+            due: 0,
         })
     }
 
@@ -200,12 +200,12 @@ impl Page {
     pub(crate) fn begin(&mut self, slot: Slot)
         requires { IsEmptyPage self.old }
         ensures empty { IsEmptyPage self.new }
-        ensures due { due_of self.new ≡ slot.commit }
+        ensures due { self.new.due ≡ slot.commit }
         ensures first { first_of self.new ≡ slot }
     {
-        let page = &mut *self.body;
-        page.due = slot.commit;
-        page.first = slot;
+        self.due = slot.commit;
+        let body = &mut *self.body;
+        body.first = slot;
     }
 
     /// Puts the version at its place.
@@ -221,13 +221,13 @@ impl Page {
         ensures room { 65 ≤ capacity_of self.new }
         ensures slots { AllByRecursion (IsSlot bytes.now) (slots_of self.new) }
         ensures first { first_of self.new ≡ slice_index_or (slots_of self.new) 0 (first_of self.new) }
-        ensures due { due_of self.new ≡ min (due_of self.old) slot.commit }
+        ensures due { self.new.due ≡ min (self.old.due) slot.commit }
     {
-        let page = &mut *self.body;
-        let at = place_of(bytes, &page.items, &slot);
-        page.due = page.due.min(slot.commit);
-        page.first = first_with(page.first, at, slot);
-        insert_at(&mut page.items, at, slot);
+        self.due = self.due.min(slot.commit);
+        let body = &mut *self.body;
+        let at = place_of(bytes, &body.items, &slot);
+        body.first = first_with(body.first, at, slot);
+        insert_at(&mut body.items, at, slot);
     }
 
     /// Moves all but the first 32 versions to the empty page.
@@ -239,27 +239,27 @@ impl Page {
         requires room { 65 ≤ capacity_of self.old }
         ensures lower { slots_of self.new ≡ take 32 (slots_of self.old) }
         ensures upper { slots_of upper.new ≡ drop 32 (slots_of self.old) }
-        ensures lower_due { due_of self.new ≡ due_of self.old }
-        ensures upper_due { due_of upper.new ≡ due_of self.old }
+        ensures lower_due { self.new.due ≡ self.old.due }
+        ensures upper_due { upper.new.due ≡ self.old.due }
         ensures lower_page { IsPage bytes.now self.new }
         ensures upper_page { IsPage bytes.now upper.new }
     {
+        upper.due = self.due;
         let lower = &mut *self.body;
-        let upper = &mut *upper.body;
-        move_behind(&mut lower.items, 32, &mut upper.items);
-        upper.due = lower.due;
-        upper.first = first_or(&upper.items, lower.first);
+        let behind = &mut *upper.body;
+        move_behind(&mut lower.items, 32, &mut behind.items);
+        behind.first = first_or(&behind.items, lower.first);
     }
 
     /// The versions with commit above t go.
     pub(crate) fn drop_later(&mut self, t: u64)
         ensures items { slots_of self.new ≡ filter (λ x. nat_le x.commit t) (slots_of self.old) }
         ensures first { first_of self.new ≡ slice_index_or (slots_of self.new) 0 (first_of self.new) }
-        ensures due { due_of self.new ≡ due_of self.old }
+        ensures due { self.new.due ≡ self.old.due }
         ensures capacity { capacity_of self.new ≡ capacity_of self.old }
     {
-        let page = &mut *self.body;
-        drop_later(&mut page.items, t);
-        page.first = first_or(&page.items, page.first);
+        let body = &mut *self.body;
+        drop_later(&mut body.items, t);
+        body.first = first_or(&body.items, body.first);
     }
 }

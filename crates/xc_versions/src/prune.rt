@@ -6,7 +6,7 @@ ghost use Rattle.xc_versions.specs.Stored.{next_commit, pruned_before};
 ghost use Rattle.std.specs.List.{AllByRecursion};
 ghost use Rattle.xc_versions.specs.Slots.{seen};
 ghost use Rattle.xc_versions.specs.Heads.{IsSlot};
-ghost use Rattle.xc_versions.specs.Pages.{held, slots_of, due_of, first_of, capacity_of, IdleNext};
+ghost use Rattle.xc_versions.specs.Pages.{held, slots_of, first_of, capacity_of, IdleNext};
 ghost use Rattle.xc_versions.specs.declared.stored.StoredVersion.{StoredVersion};
 
 use crate::page::{Page, first_or};
@@ -43,24 +43,24 @@ impl Page {
         ensures items { (rest : List StoredVersion) → slice_get rest 0 ≡ option_map (seen bytes.now) next
             → held bytes.now self.new ++ rest ≡ pruned_before cutoff (held bytes.now self.old) rest }
         ensures idle { (u : ℕ) (rest : List StoredVersion) → slice_get rest 0 ≡ option_map (seen bytes.now) next
-            → u < due_of self.new → IdleNext u (held bytes.now self.new) rest }
+            → u < self.new.due → IdleNext u (held bytes.now self.new) rest }
         ensures slots { AllByRecursion (IsSlot bytes.now) (slots_of self.new) }
         ensures first { first_of self.new ≡ slice_index_or (slots_of self.new) 0 (first_of self.new) }
         ensures len { length (slots_of self.new) ≤ length (slots_of self.old) }
         ensures capacity { capacity_of self.new ≡ capacity_of self.old }
     {
-        let page = &mut *self.body;
+        let body = &mut *self.body;
         let mut behind = next;
         let mut due = u64::MAX;
         let mut dead: usize = 0;
-        let mut i = page.items.len();
+        let mut i = body.items.len();
         while i > 0 {
             i -= 1;
-            let version = page.items[i];
+            let version = body.items[i];
             match next_commit(bytes, &version, &behind) {
                 Some(commit) if commit <= cutoff => {
                     dead = dead.saturating_add(op_bytes(bytes, version.at).len());
-                    remove_at(&mut page.items, i);
+                    remove_at(&mut body.items, i);
                 }
                 Some(commit) => {
                     due = due.min(commit);
@@ -69,8 +69,8 @@ impl Page {
                 None => behind = Some(version),
             }
         }
-        page.due = due;
-        page.first = first_or(&page.items, page.first);
+        body.first = first_or(&body.items, body.first);
+        self.due = due;
         dead
     }
 }

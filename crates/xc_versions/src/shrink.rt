@@ -6,7 +6,7 @@ ghost use Rattle.std.specs.VecDeque.{deque_capacity};
 ghost use Rattle.xc_versions.specs.Stored.{kept, pruned_before, up_to};
 ghost use Rattle.xc_versions.specs.Slots.{seen};
 ghost use Rattle.xc_versions.specs.Heads.{IsSlot};
-ghost use Rattle.xc_versions.specs.Pages.{held, due_of, IsPage, IsEmptyPage, items_of, spare_of};
+ghost use Rattle.xc_versions.specs.Pages.{held, IsPage, IsEmptyPage, items_of, spare_of};
 ghost use Rattle.xc_versions.specs.declared.page.Page.{Page};
 ghost use Rattle.xc_versions.specs.Pool.{IsStore, Loses};
 ghost use Rattle.xc_versions.specs.Dues.{dues_of, Covers, Shrunk};
@@ -61,9 +61,6 @@ fn prune_at(
     requires within { i < length pages.old.items }
     ensures { Loses bytes.now pages.old pages.new pool.old pool.new i (pruned_before cutoff) }
 {
-    if is_idle(pages, i, cutoff) {
-        return 0;
-    }
     let next = first_from(bytes, pages, i + 1);
     let page = &mut pages[i];
     let dead = page.prune(bytes, next, cutoff);
@@ -77,10 +74,10 @@ fn prune_at(
 #[inline]
 fn is_idle(pages: &VecDeque<Page>, i: usize, cutoff: u64) -> bool
     requires { i < length pages.now.items }
-    ensures { (q : Page) → q ≡ slice_index_or pages.now.items i q → result ≡ nat_lt cutoff (due_of q) }
+    ensures { (q : Page) → q ≡ slice_index_or pages.now.items i q → result ≡ nat_lt cutoff q.due }
 {
     let page = &pages[i];
-    cutoff < page.body.due
+    cutoff < page.due
 }
 
 // The same, and what is said of the page's group holds. At the group's first page it is what the pages are due for.
@@ -98,6 +95,10 @@ fn prune_page(
     ensures loses { Loses bytes.now pages.old pages.new pool.old pool.new i (pruned_before cutoff) }
     ensures least { Covers (dues_of pages.new.items) least.new.items }
 {
+    if is_idle(pages, i, cutoff) {
+        raise_at(least, pages, i);
+        return 0;
+    }
     let count = pages.len();
     let dead = prune_at(bytes, pages, pool, i, cutoff);
     settle(least, pages, i, count);

@@ -1,4 +1,4 @@
-use Rattle.std.proofs.Common.{◌≡◌, ℕ, ◌+◌, ◌<◌, ◌≤◌, List, ◌++◌, length, get_or, set, ap, sym, subst, arith}
+use Rattle.std.proofs.Common.{◌≡◌, ℕ, ◌+◌, ◌<◌, ◌≤◌, List, ◌++◌, length, get_or, set, ap, sym, subst, refl, arith}
 use Rattle.std.proofs.lemmas.List.{length-map}
 use Rattle.xc_record.proofs.ListLaws.{Each}
 use Rattle.xc_versions.specs.declared.page.Page.{Page}
@@ -76,7 +76,7 @@ loop-i-preserved c =
     let cap : capacity_of q ≡ capacity_of p = rw is at c.move_page.ensures.capacity in
     let one : MovesPage b p c.move_page.new.to.items q = record {
       alike = alike;
-      due = ap (λ (m : PageBody). m.due) is;
+      due = refl;
       good = record {
         some = omega arith;
         few = omega arith;

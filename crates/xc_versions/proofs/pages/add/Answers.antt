@@ -6,7 +6,7 @@ use Rattle.std.proofs.lemmas.Grind.{common_steps}
 use Rattle.std.specs.Ordering.{is_gt}
 use Rattle.xc_versions.specs.Stored.{stored_cmp}
 use Rattle.xc_versions.specs.Slots.{seen}
-use Rattle.xc_versions.specs.Pages.{items_of, due_of}
+use Rattle.xc_versions.specs.Pages.{items_of}
 use Rattle.xc_versions.proofs.SplitLaws.{above-falls}
 use Rattle.xc_versions.proofs.PageLaws.{around-some}
 use Rattle.xc_versions.proofs.SplitLaws.{deque-long}
@@ -28,7 +28,7 @@ pub returns-else-is_empty-clause-least : goal.returns-else-is_empty-clause-least
 returns-else-is_empty-clause-least c =
     let old = c.args.pages.now.items in
     let count : c.len-count.result ≡ length old = c.len-count.ensures ∙ deque-long c.args.pages.now in
-    let long : length (dues_of old) ≡ c.len-count.result = length-map old (λ (p : Page). due_of p) ∙ sym count in
+    let long : length (dues_of old) ≡ c.len-count.result = length-map old (λ (p : Page). p.due) ∙ sym count in
     let some : 0 < length old = grind (arith, common_steps) in
     let split = c.pages_before.ensures in
     let within = split.within in

@@ -6,7 +6,7 @@ use Rattle.xc_versions.proofs.SplitLaws.{deque-long}
 use Rattle.std.specs.Prelude.{nat_le}
 use Rattle.std.proofs.lemmas.List.Elements.{filter-append}
 use Rattle.xc_versions.specs.Stored.{up_to}
-use Rattle.xc_versions.specs.Pages.{held, items_of, due_of}
+use Rattle.xc_versions.specs.Pages.{held, items_of}
 use Rattle.xc_versions.proofs.ShrinkLaws.{Walked, walked-some}
 use Rattle.xc_versions.proofs.shrink.drop_after.Goals as goal
 
@@ -26,7 +26,7 @@ loop-i-preserved c =
       least = (let s = c.settle.ensures in
           let mid = c.loop-i.pages.items in
           let count : c.len-count.result ≡ length mid = c.len-count.ensures ∙ deque-long c.loop-i.pages in
-          let long : length (dues_of mid) ≡ c.len-count.result = length-map mid (λ (p : Page). due_of p) ∙ sym count in
+          let long : length (dues_of mid) ≡ c.len-count.result = length-map mid (λ (p : Page). p.due) ∙ sym count in
           let short = c.loop-i.invariant.walked.short in
           s (dues_of mid) long (omega arith) c.drop_at.ensures.dues c.loop-i.invariant.least);
       walked = walked-some b (up_to t) (λ xs rest. up_to t xs ++ rest) old c.loop-i.pages.items c.drop_at.new.pages.items i before

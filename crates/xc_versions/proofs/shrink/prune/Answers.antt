@@ -4,7 +4,7 @@ use Rattle.xc_versions.specs.declared.page.Page.{Page}
 use Rattle.xc_versions.specs.Dues.{dues_of}
 use Rattle.xc_versions.proofs.DueLaws.{passed-by}
 use Rattle.xc_versions.specs.Stored.{kept, pruned_before}
-use Rattle.xc_versions.specs.Pages.{held, items_of, due_of}
+use Rattle.xc_versions.specs.Pages.{held, items_of}
 use Rattle.xc_versions.proofs.VersionLaws.{kept-before}
 use Rattle.xc_versions.proofs.ShrinkLaws.{Walked, walked-some, order-at}
 use Rattle.xc_versions.proofs.shrink.prune.Goals as goal
@@ -22,7 +22,7 @@ loop-i-preserved-then-cutoff-least_of c =
     let first = (i - 1) / 64 * 64 in
     let w = c.loop-i.invariant.walked in
     let short = w.short in
-    let long : length (dues_of mid) ≡ length mid = length-map mid (λ (p : Page). due_of p) in
+    let long : length (dues_of mid) ≡ length mid = length-map mid (λ (p : Page). p.due) in
     let said : c.least_of.result ≡ get_or c.loop-i.least.items ((i - 1) / 64) 0 = rw c.deref.ensures.value at c.least_of.ensures in
     let early = c.if-cutoff-least_of.true in
     record {

@@ -2,22 +2,12 @@ use Rattle.std.proofs.Common.{◌≡◌, ◌+◌, ◌<◌, ◌≤◌, length, dr
 use Rattle.std.proofs.lemmas.Grind.{common_steps}
 use Rattle.std.proofs.lemmas.Bool.{ltb-true}
 use Rattle.xc_versions.specs.Stored.{pruned_before}
-use Rattle.xc_versions.specs.Pages.{held, items_of, IsPage, slots_of, due_of, capacity_of}
+use Rattle.xc_versions.specs.Pages.{held, items_of, IsPage, slots_of, capacity_of}
 use Rattle.xc_versions.proofs.AddLaws.{page-at}
 use Rattle.xc_versions.proofs.SubLaws.{sub-pruned}
 use Rattle.xc_versions.proofs.ShrinkLaws.{idle-at, order-at, pruned-idle, idle-from-next}
 use Rattle.xc_versions.proofs.LossLaws.{loses-none, loses-all, loses-some}
 use Rattle.xc_versions.proofs.shrink.prune_at.Goals as goal
-
-pub returns-then-is_idle : goal.returns-then-is_idle
-returns-then-is_idle c =
-    let b = c.args.bytes.now in
-    let old = c.args.pages.now.items in
-    let paged = c.requires.store.paged in
-    loses-none b c.args.pages.now c.args.pool.now c.args.i (pruned_before c.args.cutoff) c.requires.store c.requires.within (λ q e.
-    pruned-idle c.args.cutoff (held b q) (items_of b (drop (c.args.i + 1) old)) (order-at b old c.args.i q paged c.requires.within e)
-    (idle-at b old c.args.i q paged c.requires.within e c.args.cutoff
-    (ltb-true c.args.cutoff (due_of q) (sym (c.if-is_idle.ensures q e)))))
 
 pub returns-then-is_empty : goal.returns-then-is_empty
 returns-then-is_empty c =

@@ -38,7 +38,7 @@ pub loop-i-preserved-then-commit-cutoff : goal.loop-i-preserved-then-commit-cuto
 loop-i-preserved-then-commit-cutoff c =
     let b = c.args.bytes.now in
     let u = c.args.cutoff in
-    let slots = c.loop-i.page.items.items in
+    let slots = c.loop-i.body.items.items in
     let i = c.loop-i.i - 1 in
     let next = option_map (seen b) c.args.next in
     let old = map (seen b) (slots_of c.args.self.now) in

@@ -9,11 +9,11 @@ use Rattle.xc_versions.proofs.page.Page.prune.Given as goal
 
 abbrev pub invariant-loop-i : goal.invariant-loop-i
 invariant-loop-i l = record {
-  going : Going l.cutoff (option_map (seen l.bytes) l.fn.next) (held l.bytes l.fn.self) (map (seen l.bytes) l.page.items.items)
+  going : Going l.cutoff (option_map (seen l.bytes) l.fn.next) (held l.bytes l.fn.self) (map (seen l.bytes) l.body.items.items)
       (option_map (seen l.bytes) l.behind) l.due l.i;
-  slots : AllByRecursion (IsSlot l.bytes) l.page.items.items;
+  slots : AllByRecursion (IsSlot l.bytes) l.body.items.items;
   behind : IfSome l.behind (IsSlot l.bytes);
-  capacity : deque_capacity l.page.items ≡ capacity_of l.fn.self;
+  capacity : deque_capacity l.body.items ≡ capacity_of l.fn.self;
 }
 
 abbrev pub decreases-loop-i : goal.decreases-loop-i

@@ -43,7 +43,7 @@ returns-clause-upper_page c =
     let old = slots_of c.args.self.now in
     let cut : c.move_behind.new.upper.items ≡ drop 32 old = rw c.deref_mut-lower.ensures.value at c.move_behind.ensures.upper in
     let same : deque_capacity c.move_behind.new.upper ≡ capacity_of c.args.upper.now =
-    rw c.deref_mut-upper.ensures.value at c.move_behind.ensures.upper_capacity in
+    rw c.deref_mut-behind.ensures.value at c.move_behind.ensures.upper_capacity in
     let room = c.requires.empty.room in
     part c.args.bytes.now _ (drop 32 old) 33 cut (length-drop 32 old ∙ omega arith) (omega arith) (omega arith) (omega arith)
-    (each-taken (IsSlot c.args.bytes.now) 32 old c.requires.slots).1 c.first_or-upper.ensures.first
+    (each-taken (IsSlot c.args.bytes.now) 32 old c.requires.slots).1 c.first_or-behind.ensures.first

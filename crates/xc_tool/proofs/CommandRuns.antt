@@ -1,11 +1,11 @@
 -- What was written of a session, command by command.
-use Rattle.std.proofs.Common.{◌≡◌, ℕ, suc, ◌<◌, Bool, true, false, List, [], ◌∷◌, ◌++◌, length, drop, get_or, refl, sym, ap, ◌∙◌}
-use Rattle.std.proofs.Common.{subst, append_assoc, append-nil, add-one, drop-cons, ◌+◌, Option, None, Some}
-use Rattle.std.specs.Prelude.{◌||◌, IfSome, if◌then◌else◌}
+use Rattle.std.proofs.Common.{◌≡◌, ℕ, suc, ◌<◌, Bool, false, List, [], ◌∷◌, ◌++◌, length, drop, get_or, refl, sym, ap, ◌∙◌}
+use Rattle.std.proofs.Common.{subst, append_assoc, add-one, drop-cons, ◌+◌, Option, None, Some}
+use Rattle.std.specs.Prelude.{◌||◌, IfSome}
 use Rattle.std.specs.List.{list_any}
 use Rattle.std.specs.Io.KnownBytes.{Appends}
 use Rattle.std.proofs.KnownBytes.{Appends-trans}
-use Rattle.std.proofs.Math.Bool.{or_assoc, or-false}
+use Rattle.std.proofs.Math.Bool.{or_assoc}
 use Rattle.std.proofs.lemmas.List.{length-map}
 use Rattle.xc_base.specs.Told.{IsPrefix}
 use Rattle.xc_base.specs.declared.status.Status.TheVariants as status
@@ -72,17 +72,22 @@ goes-next logs all rest c went text halted met t new before answer =
           ∙ ap (λ b. halted || b) (sym (any-of-both front more)) ∙ before.halts;
     }
 
--- the same for all logs that a feed may tell, where the answer is of those that it tells now
-pub on-next : (o now : Option Logs) (all rest cs : List Command) (c : Command) (went text said : List ℕ) (halted met : Bool)
-    (base t new : TargetState) → now ≡ o → cs ≡ c ∷ rest → text ≡ said
-    → IfSome o (λ logs. StandsForSession logs (start logs) base → disagreement logs ≡ None → GoesOn logs all went halted cs t)
+next-item : {X : Type 0} (xs : List X) (i : ℕ) (x : X) → i < length xs → x ≡ get_or xs i x → drop i xs ≡ x ∷ drop (i + 1) xs
+next-item xs i x within is = rw add-one (drop-cons xs i x within ∙ ap (λ y. y ∷ drop (suc i) xs) (sym is))
+
+-- the same for all logs that a feed may tell, where the answer to the command at `i` is of those that it tells now
+pub on-next : {o now : Option Logs} {c : Command} {text said : List ℕ} (all : List Command) (i : ℕ) (went : List ℕ) (halted met : Bool)
+    (base t new : TargetState) → now ≡ o → i < length all → c ≡ get_or all i c → text ≡ said
+    → IfSome o (λ logs. StandsForSession logs (start logs) base → disagreement logs ≡ None → GoesOn logs all went halted (drop i all) t)
     → IfSome now (λ logs. (m : Session) → IsSession logs m → StandsForSession logs m t → disagreement logs ≡ None
     → IsAnswer logs m c said met new)
     → IfSome o (λ logs. StandsForSession logs (start logs) base → disagreement logs ≡ None
-    → GoesOn logs all (went ++ text) (halted || met) rest new)
-on-next None now all rest cs c went text said halted met base t new e split written goes answers = tt
-on-next (Some logs) now all rest cs c went text said halted met base t new e split written goes answers = λ st agree.
-    let before : GoesOn logs all went halted (c ∷ rest) t = subst (λ r. GoesOn logs all went halted r t) split (goes st agree) in
+    → GoesOn logs all (went ++ text) (halted || met) (drop (i + 1) all) new)
+on-next {o = None} all i went halted met base t new e within is written goes answers = tt
+on-next {o = Some logs} {c = c} {said = said} all i went halted met base t new e within is written goes answers = λ st agree.
+    let rest = drop (i + 1) all in
+    let before : GoesOn logs all went halted (c ∷ rest) t =
+    subst (λ r. GoesOn logs all went halted r t) (next-item all i c within is) (goes st agree) in
     let here = subst
     (λ o. IfSome o
     (λ logs. (m : Session) → IsSession logs m → StandsForSession logs m t → disagreement logs ≡ None → IsAnswer logs m c said met
@@ -94,9 +99,6 @@ on-next (Some logs) now all rest cs c went text said halted met base t new e spl
 pub if-some : {A : Type 0} {P : A → Type 0} (o : Option A) → ((x : A) → P x) → IfSome o P
 if-some None f = tt
 if-some (Some x) f = f x
-
-pub next-item : {X : Type 0} (xs : List X) (i : ℕ) (x : X) → i < length xs → x ≡ get_or xs i x → drop i xs ≡ x ∷ drop (i + 1) xs
-next-item xs i x within is = rw add-one (drop-cons xs i x within ∙ ap (λ y. y ∷ drop (suc i) xs) (sym is))
 
 -- a target that fits feeds with the same headers has as many pollers
 pub same-sources : (headers headers' : List Header) (counts counts' : List ℕ) (old new : TargetState) → FitsFeed headers counts old
@@ -116,11 +118,6 @@ targets-long headers (b ∷ bs) = length-map (ranges_from b bs) (λ r. new_table
 
 -- ---- ends
 
--- nothing more went out
-cut-here : (before mid : Option (List ℕ)) (went more all : List ℕ) → went ++ more ≡ all → Appends before mid went
-    → IsCutShort before mid all
-cut-here before mid went more all said first = (went, (more, sym said), first)
-
 -- a front of these lines is, after what went out, a front of all
 front-next : (went lines front more all : List ℕ) → (went ++ lines) ++ more ≡ all → IsPrefix front lines → IsPrefix (went ++ front) all
 front-next went lines front more all said (rest, split) = (
@@ -136,30 +133,6 @@ cut-next before mid after went lines more all said first (front, prefix, second)
     (went ++ front, front-next went lines front more all said prefix, Appends-trans _ _ _ _ _ first second)
 
 module _ (cause : Type 0) (out : Stream) (logs : Logs) (all rest : List Command) (went : List ℕ) (halted : Bool) (t : TargetState) where
-  -- the feed failed
-  pub stopped-reading : GoesOn logs all went halted rest t → cause → Appends out.before out.after went → IsQuiet out → Tells out
-      → Wrote (lines_output (all_lines logs all)) cause status.ReadFault out
-  stopped-reading goes failed first quiet tells =
-      record {
-        shown = cut-here _ _ went _ _ goes.text first;
-        read_fault = λ _. failed;
-        write_fault = λ e. cc;
-        quiet = λ _. quiet;
-        tells =
-            tells;
-      }
-
-  pub stopped-before : GoesOn logs all went halted rest t → Appends out.before out.after went → IsQuiet out → Tells out
-      → Wrote (lines_output (all_lines logs all)) cause status.NoMemory out
-  stopped-before goes first quiet tells =
-      record {
-        shown = cut-here _ _ went _ _ goes.text first;
-        read_fault = λ e. cc;
-        write_fault = λ e. cc;
-        quiet = λ _. quiet;
-        tells = tells;
-      }
-
   pub stopped-memory : (mid : Option (List ℕ)) (text : List ℕ) → GoesOn logs all (went ++ text) halted rest t → Appends out.before mid went
       → (front : List ℕ) × IsPrefix front text × Appends mid out.after front
       → IsQuiet out → Tells out → Wrote (lines_output (all_lines logs all)) cause status.NoMemory out
@@ -182,45 +155,5 @@ module _ (cause : Type 0) (out : Stream) (logs : Logs) (all rest : List Command)
         write_fault = λ _. rose;
         quiet = λ never.
             absurd (never refl);
-        tells = tells;
-      }
-
-  -- all commands were answered
-  all-text : rest ≡ [] → GoesOn logs all went halted rest t → went ≡ lines_text (all_lines logs all)
-  all-text none goes = sym (append-nil went) ∙ ap (λ r. went ++ lines_text (lines_from logs goes.session r)) (sym none) ∙ goes.text
-
-  all-halts : rest ≡ [] → GoesOn logs all went halted rest t → halted ≡ list_any is_halt (all_lines logs all)
-  all-halts none goes =
-      sym (or-false halted) ∙ ap (λ r. halted || list_any is_halt (lines_from logs goes.session r)) (sym none) ∙ goes.halts
-
-  pub ended-halted : rest ≡ [] → GoesOn logs all went halted rest t → halted ≡ true → Appends out.before out.after went → IsQuiet out
-      → Tells out → Wrote (lines_output (all_lines logs all)) cause status.Halted out
-  ended-halted none goes e wrote quiet tells =
-      let met : list_any is_halt (all_lines logs all) ≡ true = sym (all-halts none goes) ∙ e in
-      record {
-        shown = (
-          sym (ap (λ b. if b then status.Halted else status.Ok) met),
-          subst (Appends out.before out.after) (all-text none goes)
-              wrote,
-        );
-        read_fault = λ e. cc;
-        write_fault = λ e. cc;
-        quiet = λ _. quiet;
-        tells = tells;
-      }
-
-  pub ended-ok : rest ≡ [] → GoesOn logs all went halted rest t → halted ≡ false → Appends out.before out.after went → IsQuiet out
-      → Tells out → Wrote (lines_output (all_lines logs all)) cause status.Ok out
-  ended-ok none goes e wrote quiet tells =
-      let met : list_any is_halt (all_lines logs all) ≡ false = sym (all-halts none goes) ∙ e in
-      record {
-        shown = (
-          sym (ap (λ b. if b then status.Halted else status.Ok) met),
-          subst (Appends out.before out.after) (all-text none goes)
-              wrote,
-        );
-        read_fault = λ e. cc;
-        write_fault = λ e. cc;
-        quiet = λ _. quiet;
         tells = tells;
       }

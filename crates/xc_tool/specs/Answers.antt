@@ -2,6 +2,7 @@
 --     Kept headers counts old new      what each command leaves of a target, which fits a feed of these headers and numbers of records
 --     KeptAlone old new      the same of a command that takes no records
 --     IsLine logs m c l t      the command c of the session m is answered by the line l alone, and leaves the target t
+--     GivesLine c old l new      the same of each session that the target `old` stands for, and of the target `new` after it
 --     IsAnswer logs m c text halted t      it is answered by the lines of this text
 -- The rest is what single functions answer; what answers a command doesn't rest on it.
 --     IsTold line text halted      the text is that of the line
@@ -14,7 +15,7 @@ use Rattle.xc_record.specs.declared.session.Command.{Command}
 use Rattle.xc_record.specs.declared.session.Line.{Line}
 use Rattle.xc_record.specs.declared.session.Line.TheVariants as line
 use Rattle.xc_record.specs.Rows.{rows}
-use Rattle.xc_record.specs.Session.{Session, safe_now}
+use Rattle.xc_record.specs.Session.{Session, IsSession, safe_now}
 use Rattle.xc_record.specs.Step.{step, row_lines}
 use Rattle.xc_script.specs.Lines.{line_text, lines_text, is_halt}
 use Rattle.xc_target.specs.Stands.{StandsForSession}
@@ -33,6 +34,9 @@ pub record KeptAlone (old new : TargetState) : Type 0 where
 pub record IsLine (logs : Logs) (m : Session) (c : Command) (l : Line) (t : TargetState) : Type 0 where
   pub line_is : (step logs m c).1 ≡ l ∷ []
   pub stands : StandsForSession logs (step logs m c).0 t
+
+abbrev pub GivesLine : Command → TargetState → Line → TargetState → Type 0
+GivesLine c old l new = (logs : Logs) (m : Session) → IsSession logs m → StandsForSession logs m old → IsLine logs m c l new
 
 pub record IsAnswer (logs : Logs) (m : Session) (c : Command) (text : List ℕ) (halted : Bool) (t : TargetState) : Type 0 where
   pub text_is : text ≡ lines_text (step logs m c).1

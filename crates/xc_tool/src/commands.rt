@@ -8,7 +8,7 @@ ghost use Rattle.xc_logs.specs.Feed.{SameFeed};
 ghost use Rattle.xc_script.specs.Allowed.{IsAllowed};
 ghost use Rattle.xc_target.specs.Stands.{StandsForSession};
 ghost use Rattle.xc_target.specs.Target.{FitsFeed};
-ghost use Rattle.xc_tool.specs.Answers.{Kept, KeptAlone, IsLine, IsAnswer, IsRestored};
+ghost use Rattle.xc_tool.specs.Answers.{Kept, KeptAlone, IsLine, GivesLine, IsAnswer, IsRestored};
 
 use crate::answer::{Answer, Unanswered, halts_answer, line_answer, rows_answer};
 use crate::report::report;
@@ -114,8 +114,7 @@ fn stop<F: Feed>(
 fn acknowledge(target: &mut Target, id: u32) -> Line
     requires { id < length target.old.pollers }
     ensures kept { KeptAlone target.old target.new }
-    ensures step { (logs : Logs) (m : Session) → IsSession logs m → StandsForSession logs m target.old
-        → IsLine logs m (Command.Ack id) result target.new }
+    ensures step { GivesLine (Command.Ack id) target.old result target.new }
 {
     match target.acknowledge(id) {
         Ok(place) => Line::Ack { id, place },
@@ -126,8 +125,7 @@ fn acknowledge(target: &mut Target, id: u32) -> Line
 fn restart(target: &mut Target, id: u32) -> Line
     requires { id < length target.old.pollers }
     ensures kept { KeptAlone target.old target.new }
-    ensures step { (logs : Logs) (m : Session) → IsSession logs m → StandsForSession logs m target.old
-        → IsLine logs m (Command.Restart id) result target.new }
+    ensures step { GivesLine (Command.Restart id) target.old result target.new }
 {
     match target.restart(id) {
         Ok(place) => Line::Restart { id, place },
@@ -153,8 +151,7 @@ fn drain<F: Feed>(alloc: Global, target: &mut Target, feed: &mut F) -> Result<An
 }
 
 fn safe(target: &Target) -> Line
-    ensures { (logs : Logs) (m : Session) → IsSession logs m → StandsForSession logs m target.now
-        → IsLine logs m Command.Safe result target.now }
+    ensures { GivesLine Command.Safe target.now result target.now }
 {
     Line::Safe { t: target.safe() }
 }
@@ -208,8 +205,7 @@ fn scan(alloc: Global, target: &Target) -> Result<Answer, Unanswered>
 
 fn prune(target: &mut Target, u: u64) -> Line
     ensures kept { KeptAlone target.old target.new }
-    ensures step { (logs : Logs) (m : Session) → IsSession logs m → StandsForSession logs m target.old
-        → IsLine logs m (Command.Prune u) result target.new }
+    ensures step { GivesLine (Command.Prune u) target.old result target.new }
 {
     match target.prune(u) {
         Ok(cutoff) => Line::Prune { cutoff },

@@ -1,8 +1,8 @@
-use Rattle.std.proofs.Common.{refl, ◌<◌, ◌+◌, ◌∙◌, [], drop, length, sym}
+use Rattle.std.proofs.Common.{refl, ◌∙◌, [], sym}
 use Rattle.std.proofs.KnownBytes.{Appends-nil, Appends-trans}
 use Rattle.std.proofs.lemmas.Option.{IfSome_then}
 use Rattle.xc_logs.proofs.FeedFacts.{same-feed, same-on}
-use Rattle.xc_tool.proofs.CommandRuns.{goes-first, on-next, next-item, if-some, same-sources, stopped-memory, stopped-writing}
+use Rattle.xc_tool.proofs.CommandRuns.{goes-first, on-next, if-some, same-sources, stopped-memory, stopped-writing}
 use Rattle.xc_tool.proofs.replay.run_commands.Goals as goal
 
 pub loop-command-init : goal.loop-command-init
@@ -21,15 +21,8 @@ loop-command-init g c =
 pub loop-command-preserved : goal.loop-command-preserved
 loop-command-preserved g c =
     let kept = c.loop-command.invariant in
-    let commands = c.args.commands.now in
-    let i = c.loop-command.command-index in
-    let within : i < length commands = c.loop-command-test.true in
-    let o = g.F.Feed.logs c.args.feed.now in
-    let goes =
-    on-next o (g.F.Feed.logs c.loop-command.feed) commands (drop (i + 1) commands) (drop i commands) c.command-item.result kept.went
-    c.as_slice.result.now c.in-Ok.answer.text c.loop-command.halted c.in-Ok.answer.halted c.args.target.now
-    c.loop-command.target c.answer.new.target kept.feed.same_logs (next-item commands i c.command-item.result within c.command-item.is)
-    c.as_slice.ensures kept.goes c.in-Ok.ensures.step in
+    let goes = on-next _ _ kept.went _ _ _ _ _ kept.feed.same_logs c.loop-command-test.true c.command-item.is c.as_slice.ensures
+    kept.goes c.in-Ok.ensures.step in
     record {
       went = _;
       out = Appends-trans _ _ _ _ _ kept.out c.in-Ok-write_all.ensures.ok;
@@ -46,34 +39,18 @@ loop-command-preserved g c =
 pub returns-in-Err-Failed : goal.returns-in-Err-Failed
 returns-in-Err-Failed g c =
     let kept = c.loop-command.invariant in
-    let commands = c.args.commands.now in
-    let i = c.loop-command.command-index in
-    let within : i < length commands = c.loop-command-test.true in
-    let o = g.F.Feed.logs c.args.feed.now in
-    let goes =
-    on-next o (g.F.Feed.logs c.loop-command.feed) commands (drop (i + 1) commands) (drop i commands) c.command-item.result kept.went
-    c.as_slice.result.now c.in-Ok.answer.text c.loop-command.halted c.in-Ok.answer.halted c.args.target.now
-    c.loop-command.target c.answer.new.target kept.feed.same_logs (next-item commands i c.command-item.result within c.command-item.is)
-    c.as_slice.ensures kept.goes c.in-Ok.ensures.step in
+    let goes = on-next _ _ kept.went _ _ _ _ _ kept.feed.same_logs c.loop-command-test.true c.command-item.is c.as_slice.ensures
+    kept.goes c.in-Ok.ensures.step in
     let rose = c.write_all.ensures.failed (cc) in
-    IfSome_then o goes
-    (λ logs f st agree. stopped-writing _ _ logs commands (drop (i + 1) commands) kept.went _ c.answer.new.target _
-    c.as_slice.result.now (f st agree) kept.out c.in-Err-Failed.ensures.err (rw (← kept.quiet) rose) (c.write_all.ensures.told
-    ∙ kept.tells))
+    IfSome_then (g.F.Feed.logs c.args.feed.now) goes
+    (λ logs f st agree. stopped-writing _ _ logs _ _ kept.went _ _ _ _ (f st agree) kept.out c.in-Err-Failed.ensures.err
+    (rw (← kept.quiet) rose) (c.write_all.ensures.told ∙ kept.tells))
 
 pub returns-in-Err-NoMemory-write_all : goal.returns-in-Err-NoMemory-write_all
 returns-in-Err-NoMemory-write_all g c =
     let kept = c.loop-command.invariant in
-    let commands = c.args.commands.now in
-    let i = c.loop-command.command-index in
-    let within : i < length commands = c.loop-command-test.true in
-    let o = g.F.Feed.logs c.args.feed.now in
-    let goes =
-    on-next o (g.F.Feed.logs c.loop-command.feed) commands (drop (i + 1) commands) (drop i commands) c.command-item.result kept.went
-    c.as_slice.result.now c.in-Ok.answer.text c.loop-command.halted c.in-Ok.answer.halted c.args.target.now
-    c.loop-command.target c.answer.new.target kept.feed.same_logs (next-item commands i c.command-item.result within c.command-item.is)
-    c.as_slice.ensures kept.goes c.in-Ok.ensures.step in
-    IfSome_then o goes
-    (λ logs f st agree. stopped-memory _ _ logs commands (drop (i + 1) commands) kept.went _ c.answer.new.target _ c.as_slice.result.now
-    (f st agree) kept.out c.in-Err-NoMemory-write_all.ensures.err
+    let goes = on-next _ _ kept.went _ _ _ _ _ kept.feed.same_logs c.loop-command-test.true c.command-item.is c.as_slice.ensures
+    kept.goes c.in-Ok.ensures.step in
+    IfSome_then (g.F.Feed.logs c.args.feed.now) goes
+    (λ logs f st agree. stopped-memory _ _ logs _ _ kept.went _ _ _ _ (f st agree) kept.out c.in-Err-NoMemory-write_all.ensures.err
     (c.write_all.ensures.quiet (λ e. cc) ∙ kept.quiet) (c.write_all.ensures.told ∙ kept.tells))

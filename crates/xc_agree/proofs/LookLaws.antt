@@ -153,6 +153,13 @@ pends-same old commits seen n c h e =
     let s : since_in commits old n ≡ (seen n c).since = h.since n ∙ ap (option_and_then (λ c. (seen n c).since)) e in
     rw (s, h.safe n c, h.floor n c) refl
 
+-- where its apply or its abort ends a transaction's wait, what is seen to wait goes by the look
+settled-since : (old : Look) (commits : List Commit) (seen after : ℕ → ℕ → Seen) (txn : ℕ)
+    → ((n c : ℕ) → (after n c).since ≡ if txn == n then None else (seen n c).since) → IsLook old commits seen → (n : ℕ) (o : Option ℕ)
+    → time_of commits n ≡ o → (if n == txn then None else since_in commits old n) ≡ option_and_then (λ c. (after n c).since) o
+settled-since old commits seen after txn ends h n None e = grind (arith, nat_tests, h.since n)
+settled-since old commits seen after txn ends h n (Some c) e = grind (arith, nat_tests, h.since n, ends n c)
+
 -- an apply of a transaction that commits
 pub take-apply : (old new : Look) (mid more : Option Found) (commits : List Commit) (txn time named commit : ℕ) (without : List ℕ)
     → time_of commits txn ≡ Some commit → Next old new → (Began old → Began new) → new.began ≡ old.began
@@ -164,7 +171,9 @@ take-apply old new mid more commits txn time named commit without is next starts
   place = λ n c. grind (arith, h.place n c, next.place);
   safe = λ n c. grind (arith, h.safe n c, next.safe);
   floor = λ n c. grind (arith, h.floor n c, next.floor);
-  since = λ n. since n ∙ sinces seen h n (time_of commits n) refl;
+  since = λ n. since n ∙ settled-since old commits seen
+      (λ n c. see_kind n c (undone_of commits n) (seen n c) time (Apply txn named without)) txn
+      (λ n c. grind (arith, nat_tests)) h n (time_of commits n) refl;
   found = least-same new.found _ _ (λ n. kinds seen h n (time_of commits n) refl)
       (third _ (second _ (first (kinds_in commits seen) h.found)));
   slots = next.slots ∙ h.slots;
@@ -172,12 +181,6 @@ take-apply old new mid more commits txn time named commit without is next starts
   waiters = rw same h.waiters;
 }
   where
-    sinces : (seen : ℕ → ℕ → Seen) → IsLook old commits seen → (n : ℕ) (o : Option ℕ) → time_of commits n ≡ o
-        → (if n == txn then None else since_in commits old n) ≡ option_and_then
-        (λ c. (see_kind n c (undone_of commits n) (seen n c) time (Apply txn named without)).since) o
-    sinces seen h n None e = grind (arith, nat_tests, h.since n)
-    sinces seen h n (Some c) e = grind (arith, nat_tests, h.since n, h.place n c)
-
     undoes : Bool
     undoes = not (bytes_eq without (undone_of commits txn))
 
@@ -230,19 +233,14 @@ take-abort old new mid commits txn time commit is next starts same since first s
   place = λ n c. grind (arith, h.place n c, next.place);
   safe = λ n c. grind (arith, h.safe n c, next.safe);
   floor = λ n c. grind (arith, h.floor n c, next.floor);
-  since = λ n. since n ∙ sinces seen h n (time_of commits n) refl;
+  since = λ n. since n ∙ settled-since old commits seen (λ n c. see_kind n c (undone_of commits n) (seen n c) time (Abort txn)) txn
+      (λ n c. grind (arith, nat_tests)) h n (time_of commits n) refl;
   found = least-same new.found _ _ (λ n. kinds seen h n (time_of commits n) refl) (second _ (first (kinds_in commits seen) h.found));
   slots = next.slots ∙ h.slots;
   began = starts h.began;
   waiters = rw same h.waiters;
 }
   where
-    sinces : (seen : ℕ → ℕ → Seen) → IsLook old commits seen → (n : ℕ) (o : Option ℕ) → time_of commits n ≡ o
-        → (if n == txn then None else since_in commits old n) ≡ option_and_then
-        (λ c. (see_kind n c (undone_of commits n) (seen n c) time (Abort txn)).since) o
-    sinces seen h n None e = grind (arith, nat_tests, h.since n)
-    sinces seen h n (Some c) e = grind (arith, nat_tests, h.since n, h.place n c)
-
     kinds : (seen : ℕ → ℕ → Seen) → IsLook old commits seen → (n : ℕ) (o : Option ℕ) → time_of commits n ≡ o
         → option_and_then (λ c. kind_seen (see_kind n c (undone_of commits n) (seen n c) time (Abort txn))) o
         ≡ (if pends_in commits commit old txn then with_kind txn Straggler (with_kind txn Aborted (kinds_in commits seen)) n else with_kind

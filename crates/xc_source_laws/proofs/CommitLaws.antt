@@ -1,6 +1,5 @@
 -- After every list of commands the commits of the logs are those that the source lists, but for transactions that no tablet applied.
-use Rattle.std.proofs.Common.{◌≡◌, ◌≢◌, ℕ, ◌<◌, true, false, Bool, List, [], ◌∷◌, ◌++◌, map, Option, Some}
-use Rattle.std.proofs.Common.{None}
+use Rattle.std.proofs.Common.{◌≡◌, ◌≢◌, ℕ, ◌<◌, true, false, Bool, List, [], ◌∷◌, ◌++◌, map}
 use Rattle.std.proofs.Common.{refl, ap, sym, ◌∙◌, subst, arith, inl, inr, ⊎_elim}
 use Rattle.std.specs.Prelude.{if◌then◌else◌, ◌==◌, ◌||◌, flat_map, filter}
 use Rattle.std.specs.List.{filter_map}
@@ -32,7 +31,7 @@ use Rattle.xc_source_laws.proofs.Steps.{run-keeps}
 use Rattle.xc_source_laws.proofs.Start.{root_books, base-start}
 use Rattle.xc_source_laws.proofs.NoBreaks.{books-accepted}
 use Rattle.xc_source_laws.proofs.Opened.{each-map, each-kept}
-use Rattle.xc_source_laws.proofs.Says.{txn_at}
+use Rattle.xc_source_laws.proofs.Says.{none-there}
 use Rattle.xc_source_laws.proofs.Agreeing.{AgreesSo}
 use Rattle.xc_source_laws.proofs.AgreeMoves.{agree-closed}
 use Rattle.xc_source_laws.proofs.LogsAgree.{start-agrees}
@@ -231,13 +230,6 @@ start-lists roots time = record {
     no-intents : (n : ℕ) (hs : List Header) → all_intents n (root_books hs) ≡ []
     no-intents n [] = refl
     no-intents n (h ∷ hs) = no-intents n hs
-
-    none-there : (n : ℕ) (t : Transaction) → txn_at [] n ≡ Some t → ⊥
-    none-there n t e = go (n == 0) None refl e
-      where
-        go : (b : Bool) (o : Option Transaction) → o ≡ None → (if b then None else o) ≡ Some t → ⊥
-        go true o z q = cc
-        go false o z q = cc
 
 -- ---- both at once
 

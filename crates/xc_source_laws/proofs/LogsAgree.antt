@@ -33,7 +33,7 @@ use Rattle.xc_source_laws.proofs.Base.{IsMachine}
 use Rattle.xc_source_laws.proofs.Steps.{run-keeps}
 use Rattle.xc_source_laws.proofs.Start.{root_book, root_books, base-start}
 use Rattle.xc_source_laws.proofs.NoBreaks.{books-accepted}
-use Rattle.xc_source_laws.proofs.Says.{txn_at, Says, KindSays}
+use Rattle.xc_source_laws.proofs.Says.{txn_at, none-there, Says, KindSays}
 use Rattle.xc_source_laws.proofs.Paths.{waits_in, straggles-part}
 use Rattle.xc_source_laws.proofs.Agreeing.{AgreesSo, key_path}
 use Rattle.xc_source_laws.proofs.AgreeMoves.{agree-closed, aborted-not}
@@ -299,13 +299,6 @@ start-agrees roots time = record {
             (λ (w : AcceptedTablet). holds w.header h) (root_books hs)) ≡ []
         go true e = e
         go false e = e
-
-    none-there : (n : ℕ) (t : Transaction) → txn_at [] n ≡ Some t → ⊥
-    none-there n t e = go (n == 0) None refl e
-      where
-        go : (b : Bool) (o : Option Transaction) → o ≡ None → (if b then None else o) ≡ Some t → ⊥
-        go true o z q = cc
-        go false o z q = cc
 
 pub logs-agree : LogsAgree
 logs-agree roots time commands r l f =

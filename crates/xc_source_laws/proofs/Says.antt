@@ -20,6 +20,13 @@ use Rattle.xc_source_laws.proofs.Opened.{get-set-same, get-set-other}
 abbrev pub txn_at : List Transaction → ℕ → Option Transaction
 txn_at ts n = if n == 0 then None else slice_get ts (n - 1)
 
+pub none-there : (n : ℕ) (t : Transaction) → txn_at [] n ≡ Some t → ⊥
+none-there n t e = go (n == 0) None refl e
+  where
+    go : (b : Bool) (o : Option Transaction) → o ≡ None → (if b then None else o) ≡ Some t → ⊥
+    go true o z q = cc
+    go false o z q = cc
+
 -- an intent of the transaction, at this time
 pub record Wrote (ts : List Transaction) (n time : ℕ) : Type 0 where
   pub t : Transaction

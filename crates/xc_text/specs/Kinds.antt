@@ -4,8 +4,10 @@
 -- The rest is what single functions answer; what a text spells doesn't rest on it.
 --     judge numbers names line      a line that has a form, if its numbers and its names fit
 --     after_numbers fit fail      a fail that was met behind numbers, which fit or don't
+--     IsInRange fits value result      a call answered the number, which is in the range of its place, or that it isn't
 --     Answers view result reading      a call answered what the reading gives, seen by view, or that memory ran out
-use Rattle.std.specs.Prelude.{◌≡◌, ℕ, Bool, true, false, List, [], ◌∷◌, Option, Some, None, Result, Ok, Err, if◌then◌else◌, codes}
+use Rattle.std.specs.Prelude.{◌≡◌, ℕ, Bool, true, false, List, [], ◌∷◌, Option, Some, None, Result, Ok, Err, MatchResult}
+use Rattle.std.specs.Prelude.{if◌then◌else◌, codes}
 use Rattle.xc_text.specs.declared.kind.LogKind.{LogKind}
 use Rattle.xc_text.specs.declared.kind.LogKind.TheVariants.{Form, Number, Key, Header, UnknownTablet, Range, AfterSplit, Limit, Orphan}
 use Rattle.xc_text.specs.declared.kind.LogKind.TheVariants.{NoEnd}
@@ -42,6 +44,10 @@ abbrev pub after_numbers : Bool → Fail → Fail
 after_numbers true e = e
 after_numbers false fail.NoMemory = fail.NoMemory
 after_numbers false (fail.Bad k) = fail.Bad (before_key k)
+
+abbrev pub IsInRange : (ℕ → Bool) → ℕ → Result ℕ Fail → Type 0
+IsInRange fits value result =
+    MatchResult result (λ number. (number ≡ value) × (fits value ≡ true)) (λ e. (e ≡ fail.Bad Number) × (fits value ≡ false))
 
 abbrev pub Refuses : {B : Type 0} → Fail → Result B LogKind → Type 0
 Refuses (fail.Bad kind) reading = reading ≡ Err kind

@@ -1,13 +1,11 @@
 // What a record's line says after its tablet and its time.
-ghost use Rattle.std.specs.Prelude.{◌≡◌, ◌<◌, ◌&&◌, true, false, IfOk, MatchResult, option_map, nat_lt, nat_le};
+ghost use Rattle.std.specs.Prelude.{◌≡◌, ◌<◌, ◌&&◌, IfOk, option_map, nat_lt, nat_le};
 ghost use Rattle.xc_record.specs.Valid.{is_time, is_txn};
 ghost use Rattle.xc_record.specs.declared.record.Kind.TheVariants.{Write};
-ghost use Rattle.xc_text.specs.Kinds.{Answers, judge};
+ghost use Rattle.xc_text.specs.Kinds.{Answers, IsInRange, judge};
 ghost use Rattle.xc_text.specs.Lines.{kind_in, kind_numbers_fit, kind_names_fit, intent_of, apply_of, abort_of};
 ghost use Rattle.xc_text.specs.Lines.{safe_of, split_of, ops_of};
 ghost use Rattle.xc_text.specs.Spans.{Describes};
-ghost use Rattle.xc_text.specs.declared.kind.LogKind.TheVariants.{Number};
-ghost use Rattle.xc_text.specs.declared.kind.Fail.TheVariants.{Bad};
 
 use crate::cut::Words;
 use crate::kind::{Fail, LogKind, after_numbers};
@@ -23,8 +21,7 @@ use xc_time::HybridTime;
 
 #[inline(always)]
 pub(crate) fn time_in(value: u64) -> Result<HybridTime, Fail>
-    ensures { MatchResult result (λ time. (time ≡ value) × (is_time value ≡ true)) (λ e. (e ≡ Bad Number)
-        × (is_time value ≡ false)) }
+    ensures { IsInRange is_time value result }
 {
     match HybridTime::new(value) {
         Some(time) => Ok(time),
@@ -48,8 +45,7 @@ pub(crate) fn is_tablet(value: u64) -> bool
 
 #[inline(always)]
 fn transaction_in(value: u64) -> Result<u32, Fail>
-    ensures { MatchResult result (λ txn. (txn ≡ value) × (is_txn value ≡ true)) (λ e. (e ≡ Bad Number)
-        × (is_txn value ≡ false)) }
+    ensures { IsInRange is_txn value result }
 {
     if !is_transaction(value) {
         return Err(Fail::Bad(LogKind::Number));
@@ -59,8 +55,7 @@ fn transaction_in(value: u64) -> Result<u32, Fail>
 
 #[inline(always)]
 pub(crate) fn tablet_in(value: u64) -> Result<u32, Fail>
-    ensures { MatchResult result (λ id. (id ≡ value) × (nat_lt value MOST_TABLETS ≡ true)) (λ e. (e ≡ Bad Number)
-        × (nat_lt value MOST_TABLETS ≡ false)) }
+    ensures { IsInRange (λ id. nat_lt id MOST_TABLETS) value result }
 {
     if !is_tablet(value) {
         return Err(Fail::Bad(LogKind::Number));
@@ -70,8 +65,7 @@ pub(crate) fn tablet_in(value: u64) -> Result<u32, Fail>
 
 #[inline(always)]
 pub(crate) fn hash_in(value: u64) -> Result<u16, Fail>
-    ensures { MatchResult result (λ hash. (hash ≡ value) × (nat_lt value 65536 ≡ true)) (λ e. (e ≡ Bad Number)
-        × (nat_lt value 65536 ≡ false)) }
+    ensures { IsInRange (λ hash. nat_lt hash 65536) value result }
 {
     if value > 65_535 {
         return Err(Fail::Bad(LogKind::Number));
@@ -88,8 +82,7 @@ fn is_sub(value: u64) -> bool
 
 #[inline(always)]
 fn sub_in(value: u64) -> Result<u8, Fail>
-    ensures { MatchResult result (λ sub. (sub ≡ value) × (nat_le value LAST_SUB ≡ true)) (λ e. (e ≡ Bad Number)
-        × (nat_le value LAST_SUB ≡ false)) }
+    ensures { IsInRange (λ sub. nat_le sub LAST_SUB) value result }
 {
     if !is_sub(value) {
         return Err(Fail::Bad(LogKind::Number));

@@ -29,7 +29,8 @@ use Rattle.xc_script.specs.Spelled.{SpelledIsRead, SpellsOne}
 use Rattle.xc_script.proofs.AllowedLaws.{Passes}
 use Rattle.xc_script.proofs.LineTextLaws.{ok_is, taken}
 use Rattle.xc_script.proofs.StepLaws.{place_inner}
-use Rattle.xc_script.proofs.SpelledWords.{above, bodies, command_said, decimal_is, key_is, lines_back, words_back, written}
+use Rattle.xc_script.proofs.SpelledWords.{above, bodies, command_said, command_keyed, room_written, decimal_is, key_is, lines_back}
+use Rattle.xc_script.proofs.SpelledWords.{words_back, written}
 
 -- ---- one line
 
@@ -47,29 +48,21 @@ below_limit n h = grind (arith, nat_tests)
 
 -- ---- commands
 
-scans_before : (before : List Command) (cs : List Command) → count_by is_scan (before ++ command.Scan ∷ cs) ≤ 8
-    → nat_le 8 (count_by is_scan before) ≡ false
-scans_before before cs h =
-    let whole : count_by is_scan (before ++ command.Scan ∷ cs) ≡ count_by is_scan before + count_by is_scan (command.Scan ∷ cs)
-    = sum_by-append (λ x. cond (is_scan x) 1 0) before (command.Scan ∷ cs) in
-    let one : count_by is_scan (command.Scan ∷ cs) ≡ 1 + count_by is_scan cs = sum_by-append
-    (λ x. cond (is_scan x) 1 0) (command.Scan ∷ []) cs in
-    grind (arith, nat_tests)
-
-drains_before : (before : List Command) (cs : List Command) → count_by is_drain (before ++ command.Drain ∷ cs) ≤ 64
-    → nat_le 64 (count_by is_drain before) ≡ false
-drains_before before cs h =
-    let whole : count_by is_drain (before ++ command.Drain ∷ cs) ≡ count_by is_drain before + count_by is_drain (command.Drain ∷ cs)
-    = sum_by-append (λ x. cond (is_drain x) 1 0) before (command.Drain ∷ cs) in
-    let one : count_by is_drain (command.Drain ∷ cs) ≡ 1 + count_by is_drain cs = sum_by-append
-    (λ x. cond (is_drain x) 1 0) (command.Drain ∷ []) cs in
+-- where at most so many are counted with this one, fewer are counted before it
+fewer_before : (is : Command → Bool) (most : ℕ) (before : List Command) (c : Command) (cs : List Command) → is c ≡ true
+    → count_by is (before ++ c ∷ cs) ≤ most → nat_le most (count_by is before) ≡ false
+fewer_before is most before c cs one h =
+    let whole : count_by is (before ++ c ∷ cs) ≡ count_by is before + count_by is (c ∷ cs)
+    = sum_by-append (λ x. cond (is x) 1 0) before (c ∷ cs) in
+    let more : count_by is (c ∷ cs) ≡ count_by is (c ∷ []) + count_by is cs = sum_by-append (λ x. cond (is x) 1 0) (c ∷ []) cs in
+    let first : count_by is (c ∷ []) ≡ 1 = ap (λ b. 0 + cond b 1 0) one in
     grind (arith, nat_tests)
 
 room_before : (before : List Command) (c : Command) (cs : List Command) → count_by is_scan (before ++ c ∷ cs) ≤ 8
     → count_by is_drain (before ++ c ∷ cs) ≤ 64
     → is_too_many before (Ask c) ≡ false
-room_before before command.Scan cs scans drains = scans_before before cs scans
-room_before before command.Drain cs scans drains = drains_before before cs drains
+room_before before command.Scan cs scans drains = fewer_before is_scan 8 before command.Scan cs refl scans
+room_before before command.Drain cs scans drains = fewer_before is_drain 64 before command.Drain cs refl drains
 room_before before c cs scans drains = refl
 
 -- what is left to ask fits behind what is read
@@ -112,17 +105,18 @@ command_step : (s : Reading) (c : Command) (cs : List Command) → Left s (c ∷
 command_step s c cs left =
     let name = and_parts (command_is_nameable s.version c) (list_all (command_is_nameable s.version) cs) left.nameable in
     let said = command_said s.version s.sources (length s.script.bounds) c left.targets left.allowed.0 name.0 in
+    let keyed = command_keyed s.version s.sources (length s.script.bounds) c left.allowed.0 name.0 in
     let lines = left.lines in
     let passes : Passes s (Ask (written s.version c)) = record {
       place = place_inner s.stage (written s.version c) left.inner;
       numbers = said.numbers;
-      keys = said.key;
+      keys = keyed.fits;
       bounds = refl;
       known = said.known;
       few = below_limit s.lines (omega (arith, lines));
-      room = said.room s.script.commands ∙ room_before s.script.commands c cs left.scans left.drains;
+      room = room_written s.version s.script.commands c ∙ room_before s.script.commands c cs left.scans left.drains;
     } in
-    by (command_words s.version c) said.above said.line passes ∙ ap (λ c. Ok (asked s c)) said.same
+    by (command_words s.version c) said.above said.line passes ∙ ap (λ c. Ok (asked s c)) keyed.same
   where
     by : (words : List (List ℕ)) → list_all above words ≡ true → line_of words ≡ Some (Ask (written s.version c))
         → Passes s (Ask (written s.version c))

@@ -197,10 +197,7 @@ pub record IsSaid (v : Version) (sources targets : ℕ) (c : Command) : Type 0 w
   pub above : list_all above (command_words v c) ≡ true
   pub line : line_of (command_words v c) ≡ Some (Ask (written v c))
   pub numbers : command_numbers_fit (written v c) ≡ true
-  pub key : command_key_fits v (written v c) ≡ true
   pub known : is_unknown sources targets (Ask (written v c)) ≡ false
-  pub room : (before : List Command) → is_too_many before (Ask (written v c)) ≡ is_too_many before (Ask c)
-  pub same : meant v (written v c) ≡ c
 
 pub is_lt : (a b : ℕ) → a < b → nat_lt a b ≡ true
 is_lt a b h = grind (arith, nat_tests)
@@ -224,10 +221,7 @@ command_said v sources targets (command.Poll id n) few is name =
       above = rw (a.above, b.above) refl;
       line = rw (a.word, b.word, a.number, b.number) refl;
       numbers = rw (is_lt id 64 is.source.small, is_le 1 n is.least, is_le n (2 ^ 20) is.most) refl;
-      key = refl;
       known = not_le id sources is.source.known;
-      room = λ before. refl;
-      same = refl;
     }
 command_said v sources targets (command.Stop id n last) few is name =
     let a = decimal_is id (small id 64 is.poll.source.small (omega arith)) in
@@ -239,43 +233,23 @@ command_said v sources targets (command.Stop id n last) few is name =
       above = rw (a.above, b.above, c.above) refl;
       line = rw (a.word, b.word, c.word, a.number, b.number, c.number) refl;
       numbers = rw (is_lt id 64 is.poll.source.small, is_le 1 n is.poll.least, is_le n (2 ^ 20) is.poll.most, is_lt last 16 low) refl;
-      key = refl;
       known = rw (not_le id sources is.poll.source.known, not_le last targets is.known) refl;
-      room = λ before. refl;
-      same = refl;
     }
 command_said v sources targets (command.Ack id) few is name =
     let a = decimal_is id (small id 64 is.small (omega arith)) in
-    record {
-      above = rw a.above refl;
-      line = rw (a.word, a.number) refl;
-      numbers = is_lt id 64 is.small;
-      key = refl;
-      known = not_le id sources is.known;
-      room = λ before. refl;
-      same = refl;
-    }
+    let known = not_le id sources is.known in
+    record { above = rw a.above refl; line = rw (a.word, a.number) refl; numbers = is_lt id 64 is.small; known = known }
 command_said v sources targets (command.Restart id) few is name =
     let a = decimal_is id (small id 64 is.small (omega arith)) in
-    record {
-      above = rw a.above refl;
-      line = rw (a.word, a.number) refl;
-      numbers = is_lt id 64 is.small;
-      key = refl;
-      known = not_le id sources is.known;
-      room = λ before. refl;
-      same = refl;
-    }
+    let known = not_le id sources is.known in
+    record { above = rw a.above refl; line = rw (a.word, a.number) refl; numbers = is_lt id 64 is.small; known = known }
 command_said v sources targets (command.Read key) few is name =
     let k = key_is v key is name in
     record {
       above = rw k.above refl;
       line = rw k.word refl;
       numbers = refl;
-      key = k.fits;
       known = refl;
-      room = λ before. refl;
-      same = ap command.Read k.same;
     }
 command_said v sources targets (command.ReadAt u key) few is name =
     let a = decimal_is u (small u (2 ^ 62) is.time (omega arith)) in
@@ -284,10 +258,7 @@ command_said v sources targets (command.ReadAt u key) few is name =
       above = rw (a.above, k.above) refl;
       line = rw (a.word, k.word, a.number) refl;
       numbers = is_lt u (2 ^ 62) is.time;
-      key = k.fits;
       known = refl;
-      room = λ before. refl;
-      same = ap (command.ReadAt u) k.same;
     }
 command_said v sources targets (command.Prune u) few is name =
     let a = decimal_is u (small u (2 ^ 62) is (omega arith)) in
@@ -295,17 +266,31 @@ command_said v sources targets (command.Prune u) few is name =
       above = rw a.above refl;
       line = rw (a.word, a.number) refl;
       numbers = is_lt u (2 ^ 62) is;
-      key = refl;
       known = refl;
-      room = λ before. refl;
-      same = refl;
     }
 command_said v sources targets c few is name = record {
   above = refl;
   line = refl;
   numbers = refl;
-  key = refl;
   known = refl;
-  room = λ before. refl;
-  same = refl;
 }
+
+-- its key's word is that of its key
+pub record IsKeyed (v : Version) (c : Command) : Type 0 where
+  pub fits : command_key_fits v (written v c) ≡ true
+  pub same : meant v (written v c) ≡ c
+
+pub command_keyed : (v : Version) (sources targets : ℕ) (c : Command) → IsAllowed sources targets c → command_is_nameable v c ≡ true
+    → IsKeyed v c
+command_keyed v sources targets (command.Read key) is name =
+    let k = key_is v key is name in record { fits = k.fits; same = ap command.Read k.same }
+command_keyed v sources targets (command.ReadAt u key) is name =
+    let k = key_is v key is.named name in record { fits = k.fits; same = ap (command.ReadAt u) k.same }
+command_keyed v sources targets c is name = record { fits = refl; same = refl }
+
+-- how many commands may stand doesn't go by the key's word
+pub room_written : (v : Version) (before : List Command) (c : Command)
+    → is_too_many before (Ask (written v c)) ≡ is_too_many before (Ask c)
+room_written v before (command.Read key) = refl
+room_written v before (command.ReadAt u key) = refl
+room_written v before c = refl

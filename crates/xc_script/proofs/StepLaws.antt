@@ -17,6 +17,7 @@ use Rattle.xc_script.specs.declared.reading.Version.{Version}
 use Rattle.xc_script.specs.Kinds.{judge}
 use Rattle.xc_script.specs.Words.{ScriptLine, First, Target, Watch, Ask, is_hash, key_fits, key_of, meant, command_numbers_fit}
 use Rattle.xc_script.specs.Words.{command_key_fits, numbers_of, some_words, version_of, end_of, command_of, command_in, bounds_in, keys_in}
+use Rattle.xc_script.specs.Words.{bare_of, with_one, with_two, with_three}
 use Rattle.xc_script.specs.Words.{line_by, numbers_fit, keys_fit}
 use Rattle.xc_script.specs.LineText.{first_kind, unless_bad}
 use Rattle.xc_script.specs.ScriptText.{misplaced, is_unknown, is_too_many, later_kinds, moved, step_by, is_inner, is_watch_line}
@@ -124,33 +125,29 @@ mapped s f (Some a) out =
 pub is_text : (word text : List ℕ) → bytes_eq word text ≡ true → word ≡ text
 is_text word text e = (bytes_eq-Decides word text).0 e
 
+-- what begins no command with any number of words
+is_no_command : (verb : List ℕ) → bare_of verb ≡ None → ((a : List ℕ) → with_one verb a ≡ None)
+    → ((a b : List ℕ) → with_two verb a b ≡ None) → ((a b c : List ℕ) → with_three verb a b c ≡ None)
+    → (words : List (List ℕ)) → command_of verb words ≡ None
+unfolding command_of
+is_no_command verb none one two three [] = none
+is_no_command verb none one two three (a ∷ []) = one a
+is_no_command verb none one two three (a ∷ b ∷ []) = two a b
+is_no_command verb none one two three (a ∷ b ∷ c ∷ []) = three a b c
+is_no_command verb none one two three (a ∷ b ∷ c ∷ d ∷ words) = refl
+
 no_command : (text word : List ℕ) (words : List (List ℕ)) → ((words : List (List ℕ)) → command_of text words ≡ None)
     → bytes_eq word text ≡ true → command_of word words ≡ None
 no_command text word words none e = ap (λ w. command_of w words) (is_text word text e) ∙ none words
 
 not_first : (words : List (List ℕ)) → command_of (codes "xcscript") words ≡ None
-unfolding command_of
-not_first [] = refl
-not_first (a ∷ []) = refl
-not_first (a ∷ b ∷ []) = refl
-not_first (a ∷ b ∷ c ∷ []) = refl
-not_first (a ∷ b ∷ c ∷ d ∷ words) = refl
+not_first = is_no_command (codes "xcscript") refl (λ a. refl) (λ a b. refl) (λ a b c. refl)
 
 not_target : (words : List (List ℕ)) → command_of (codes "target") words ≡ None
-unfolding command_of
-not_target [] = refl
-not_target (a ∷ []) = refl
-not_target (a ∷ b ∷ []) = refl
-not_target (a ∷ b ∷ c ∷ []) = refl
-not_target (a ∷ b ∷ c ∷ d ∷ words) = refl
+not_target = is_no_command (codes "target") refl (λ a. refl) (λ a b. refl) (λ a b c. refl)
 
 not_watch : (words : List (List ℕ)) → command_of (codes "watch") words ≡ None
-unfolding command_of
-not_watch [] = refl
-not_watch (a ∷ []) = refl
-not_watch (a ∷ b ∷ []) = refl
-not_watch (a ∷ b ∷ c ∷ []) = refl
-not_watch (a ∷ b ∷ c ∷ d ∷ words) = refl
+not_watch = is_no_command (codes "watch") refl (λ a. refl) (λ a b. refl) (λ a b c. refl)
 
 either : (s : Reading) (b : Bool) (x y z : Option ScriptLine) → (b ≡ true → step_by s x ≡ step_by s z) → (b ≡ false
     → step_by s y ≡ step_by s z)

@@ -6,9 +6,10 @@
 --     keys_fit version line      each key's word is
 -- The rest is what single functions answer; what a text spells doesn't rest on it.
 --     IsNumber fits word number      the number that the word spells, where it fits; None where it doesn't
+--     Spells fits word result      a call answered that number, or that the word spells none
 --     command_in, bounds_in, keys_in      a command, the bounds and the watched keys, judged by themselves
 use Rattle.std.specs.Prelude.{◌≡◌, ℕ, ◌^◌, Bool, true, false, ◌&&◌, nat_lt, nat_le, List, [], ◌∷◌, map, Option, Some, None, Result, is_none}
-use Rattle.std.specs.Prelude.{option_map, option_and_then, if◌then◌else◌, codes}
+use Rattle.std.specs.Prelude.{option_map, option_and_then, if◌then◌else◌, codes, MatchResult}
 use Rattle.std.specs.List.{list_all}
 use Rattle.std.specs.Str.{bytes_eq}
 use Rattle.xc_base.specs.Names.{key_fault}
@@ -134,8 +135,8 @@ line_of words = if list_all is_word words then line_in words else None
 
 -- ---- numbers
 
-abbrev pub is_source : ℕ → Bool
-is_source id = nat_lt id MOST_TABLETS
+abbrev pub is_tablet : ℕ → Bool
+is_tablet id = nat_lt id MOST_TABLETS
 
 abbrev pub is_target : ℕ → Bool
 is_target j = nat_lt j MOST_TARGETS
@@ -146,15 +147,15 @@ is_hash b = nat_lt b 65536
 abbrev pub is_count : ℕ → Bool
 is_count n = nat_le 1 n && nat_le n MOST_RECORDS
 
--- a time that is read or pruned at, which may be 0
+-- a time, which may be 0
 abbrev pub is_moment : ℕ → Bool
 is_moment u = nat_lt u (2 ^ 62)
 
 abbrev pub command_numbers_fit : Command → Bool
-command_numbers_fit (Poll id n) = is_source id && is_count n
-command_numbers_fit (Stop id n last) = is_source id && (is_count n && is_target last)
-command_numbers_fit (Ack id) = is_source id
-command_numbers_fit (Restart id) = is_source id
+command_numbers_fit (Poll id n) = is_tablet id && is_count n
+command_numbers_fit (Stop id n last) = is_tablet id && (is_count n && is_target last)
+command_numbers_fit (Ack id) = is_tablet id
+command_numbers_fit (Restart id) = is_tablet id
 command_numbers_fit (ReadAt u key) = is_moment u
 command_numbers_fit (Prune u) = is_moment u
 command_numbers_fit _ = true
@@ -196,6 +197,9 @@ meant version c = c
 abbrev pub IsNumber : (ℕ → Bool) → List ℕ → Option ℕ → Type 0
 IsNumber fits word (Some n) = (number_of word ≡ Some n) × (fits n ≡ true)
 IsNumber fits word None = (n : ℕ) × ((number_of word ≡ Some n) × (fits n ≡ false))
+
+abbrev pub Spells : {E : Type 0} → (ℕ → Bool) → List ℕ → Result (Option ℕ) E → Type 0
+Spells fits word result = MatchResult result (IsNumber fits word) (λ _. number_of word ≡ None)
 
 abbrev pub command_in : Version → Option Command → Result Command ScriptKind
 command_in version form = judge command_numbers_fit (command_key_fits version) (meant version) form

@@ -8,8 +8,9 @@ ghost use Rattle.xc_script.specs.Words.{with_three};
 ghost use Rattle.xc_script.specs.declared.reading.Version.{Version as Written};
 
 use crate::kind::{Fail, ScriptKind};
+use crate::numbers::{count, moment, tablet, target};
 use crate::reading::Version;
-use crate::words::{count, key, moment, source, target};
+use crate::words::key;
 use xc_record::Command;
 
 // The command that a line's first word and the others form.
@@ -66,7 +67,7 @@ fn read_ack(word: &[u8]) -> Result<Command, Fail>
     ensures { (version : Written) → Answers (λ c. c) result (command_in version (option_map command.Ack
         (number_of word.now))) }
 {
-    match source(word)? {
+    match tablet(word)? {
         Some(id) => Ok(Command::Ack { id }),
         None => Err(Fail::Bad(ScriptKind::Number)),
     }
@@ -76,7 +77,7 @@ fn read_restart(word: &[u8]) -> Result<Command, Fail>
     ensures { (version : Written) → Answers (λ c. c) result (command_in version (option_map command.Restart
         (number_of word.now))) }
 {
-    match source(word)? {
+    match tablet(word)? {
         Some(id) => Ok(Command::Restart { id }),
         None => Err(Fail::Bad(ScriptKind::Number)),
     }
@@ -107,7 +108,7 @@ fn with_two(version: Version, verb: &[u8], word: &[u8], other: &[u8]) -> Result<
 fn read_poll(word: &[u8], other: &[u8]) -> Result<Command, Fail>
     ensures { (version : Written) → Answers (λ c. c) result (command_in version (poll_of word.now other.now)) }
 {
-    match (source(word)?, count(other)?) {
+    match (tablet(word)?, count(other)?) {
         (Some(id), Some(n)) => Ok(Command::Poll { id, n }),
         _ => Err(Fail::Bad(ScriptKind::Number)),
     }
@@ -141,7 +142,7 @@ fn read_stop(word: &[u8], other: &[u8], third: &[u8]) -> Result<Command, Fail>
     ensures { (version : Written) → Answers (λ c. c) result (command_in version
         (stop_of word.now other.now third.now)) }
 {
-    match (source(word)?, count(other)?, target(third)?) {
+    match (tablet(word)?, count(other)?, target(third)?) {
         (Some(id), Some(n), Some(last)) => Ok(Command::Stop { id, n, last }),
         _ => Err(Fail::Bad(ScriptKind::Number)),
     }

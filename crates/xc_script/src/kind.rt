@@ -1,8 +1,10 @@
 // Why a script is refused.
 ghost use Rattle.std.specs.Prelude.{◌≡◌};
 ghost use Rattle.xc_script.specs.Kinds.{kind_name};
-ghost use Rattle.xc_script.specs.declared.kind.Fail.TheVariants.{NoMemory};
+ghost use Rattle.xc_script.specs.declared.kind.Fail.TheVariants.{Bad, NoMemory};
+ghost use Rattle.xc_script.specs.declared.kind.ScriptKind.TheVariants.{Form};
 
+use crate::numbers::NoNumber;
 use std::alloc::AllocError;
 
 /// Why a line of a script is bad. The rules are looked at in this order.
@@ -62,5 +64,13 @@ impl From<AllocError> for Fail {
 
     fn from(_error: AllocError) -> Fail {
         Fail::NoMemory
+    }
+}
+
+impl From<NoNumber> for Fail {
+    ghost from_gives = { λ _ e. e ≡ Bad Form };
+
+    fn from(_word: NoNumber) -> Fail {
+        Fail::Bad(ScriptKind::Form)
     }
 }

@@ -6,6 +6,7 @@
 mod command;
 mod kind;
 mod laws;
+mod numbers;
 mod print;
 mod read;
 mod reading;
@@ -16,6 +17,7 @@ mod words;
 
 pub use kind::{ScriptFail, ScriptKind};
 pub use laws::{no_text_spells_two_scripts, what_is_read_is_spelled, what_is_spelled_is_read};
+pub use numbers::{NoNumber, hash, moment, number_up_to, tablet};
 pub use print::{break_name, is_halt, print_line};
 pub use read::read_script;
 pub use script::{Bounds, Commands, Keys, Script};

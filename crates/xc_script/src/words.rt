@@ -1,18 +1,17 @@
-// The words of a line, and the numbers and keys that they spell.
-ghost use Rattle.std.specs.Prelude.{◌≡◌, true, false, nat_le, map, IfOk, MatchResult, None};
+// The words of a line, and the bounds and keys that they spell.
+ghost use Rattle.std.specs.Prelude.{◌≡◌, true, false, map, IfOk, MatchResult};
 ghost use Rattle.std.specs.List.{list_all};
-ghost use Rattle.xc_base.specs.Words.{split_on, number_of};
+ghost use Rattle.xc_base.specs.Words.{split_on};
 ghost use Rattle.xc_script.specs.Kinds.{Answers};
-ghost use Rattle.xc_script.specs.Words.{is_word, is_source, is_count, is_target, is_hash, is_moment, key_fits, key_of};
-ghost use Rattle.xc_script.specs.Words.{bounds_in, keys_in, IsNumber};
-ghost use Rattle.xc_script.specs.declared.kind.ScriptKind.TheVariants.{Form};
+ghost use Rattle.xc_script.specs.Words.{is_word, key_fits, key_of, bounds_in, keys_in};
 ghost use Rattle.xc_script.specs.declared.kind.Fail.TheVariants.{Bad};
 
 use crate::kind::{Fail, ScriptKind};
+use crate::numbers::hash;
 use crate::reading::Version;
 use crate::script::{Bounds, Keys};
 use std::alloc::{AllocError, Global};
-use xc_base::{Key, MOST_RECORDS, MOST_TABLETS, MOST_TARGETS, NumberFail, read_key, read_number};
+use xc_base::{Key, read_key};
 
 /// The bytes in pieces, cut at each separator: one at least, and an empty one where two separators touch.
 pub fn pieces<'a>(
@@ -35,65 +34,6 @@ pub fn are_words(words: &[&[u8]]) -> bool
         }
     }
     true
-}
-
-// The number that a word spells, where it is at most `most`.
-fn number_up_to(word: &[u8], most: u64) -> Result<Option<u64>, Fail>
-    ensures { MatchResult result (IsNumber (λ n. nat_le n most) word.now)
-        (λ e. (e ≡ Bad Form) × (number_of word.now ≡ None)) }
-{
-    match read_number(word, most) {
-        Ok(number) => Ok(Some(number)),
-        Err(NumberFail::TooLarge) => Ok(None),
-        Err(NumberFail::Spelling) => Err(Fail::Bad(ScriptKind::Form)),
-    }
-}
-
-// The source tablet that a word names.
-pub(crate) fn source(word: &[u8]) -> Result<Option<u32>, Fail>
-    ensures { MatchResult result (IsNumber is_source word.now) (λ e. (e ≡ Bad Form) × (number_of word.now ≡ None)) }
-{
-    match number_up_to(word, MOST_TABLETS as u64 - 1)? {
-        Some(id) => Ok(Some(id as u32)),
-        None => Ok(None),
-    }
-}
-
-// How many records a word lets a poll take.
-pub(crate) fn count(word: &[u8]) -> Result<Option<u64>, Fail>
-    ensures { MatchResult result (IsNumber is_count word.now) (λ e. (e ≡ Bad Form) × (number_of word.now ≡ None)) }
-{
-    match number_up_to(word, MOST_RECORDS as u64)? {
-        Some(n) if n >= 1 => Ok(Some(n)),
-        _ => Ok(None),
-    }
-}
-
-// The target tablet that a word names.
-pub(crate) fn target(word: &[u8]) -> Result<Option<usize>, Fail>
-    ensures { MatchResult result (IsNumber is_target word.now) (λ e. (e ≡ Bad Form) × (number_of word.now ≡ None)) }
-{
-    match number_up_to(word, MOST_TARGETS as u64 - 1)? {
-        Some(last) => Ok(Some(last as usize)),
-        None => Ok(None),
-    }
-}
-
-// The hash that a word names.
-fn hash(word: &[u8]) -> Result<Option<u16>, Fail>
-    ensures { MatchResult result (IsNumber is_hash word.now) (λ e. (e ≡ Bad Form) × (number_of word.now ≡ None)) }
-{
-    match number_up_to(word, 65_535)? {
-        Some(bound) => Ok(Some(bound as u16)),
-        None => Ok(None),
-    }
-}
-
-// The time that a word names, which may be 0.
-pub(crate) fn moment(word: &[u8]) -> Result<Option<u64>, Fail>
-    ensures { MatchResult result (IsNumber is_moment word.now) (λ e. (e ≡ Bad Form) × (number_of word.now ≡ None)) }
-{
-    number_up_to(word, 4_611_686_018_427_387_903)
 }
 
 // The key whose word this is.

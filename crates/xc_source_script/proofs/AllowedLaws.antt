@@ -14,6 +14,7 @@ use Rattle.xc_record.specs.declared.headers.Next.TheVariants.{RootAt}
 use Rattle.xc_script.proofs.AllowedLaws.{none_is, is_below, or_none, is_true}
 use Rattle.xc_script.proofs.LineTextLaws.{AllFalse, lines_found, ok_is, passed}
 use Rattle.xc_script.proofs.ReadBack.{all_with, lt_is}
+use Rattle.xc_script.specs.Words.{is_moment}
 use Rattle.xc_source.specs.declared.command.SourceCommand.{SourceCommand}
 use Rattle.xc_text.specs.declared.line.Version.{Version}
 use Rattle.xc_text.specs.Lines.{header_numbers_fit}
@@ -21,7 +22,7 @@ use Rattle.xc_source_script.specs.declared.reading.Reading.{Reading}
 use Rattle.xc_source_script.specs.declared.reading.Stage.{Stage}
 use Rattle.xc_source_script.specs.declared.reading.Stage.TheVariants as stage
 use Rattle.xc_source_script.specs.declared.script.SourceScript.{SourceScript}
-use Rattle.xc_source_script.specs.Words.{SourceLine, First, Start, Root, Ask, End, is_moment, numbers_fit, names_fit, line_of}
+use Rattle.xc_source_script.specs.Words.{SourceLine, First, Start, Root, Ask, End, numbers_fit, names_fit, line_of}
 use Rattle.xc_source_script.specs.SourceText.{begun, breaks_roots, commands_began, ending, follows, is_root, kinds}
 use Rattle.xc_source_script.specs.SourceText.{misplaced, moved, rules, source_of, step, step_by}
 use Rattle.xc_source_script.specs.Allowed.{is_allowed, IsSourceScript}

@@ -16,7 +16,7 @@ use Rattle.xc_script.proofs.ReadBack.{all_with}
 use Rattle.xc_script.proofs.LineTextLaws.{lines_found, ok_is, passed}
 use Rattle.xc_script.proofs.StepLaws.{is_text}
 use Rattle.xc_script.specs.Spelled.{words_line}
-use Rattle.xc_script.specs.Words.{is_word}
+use Rattle.xc_script.specs.Words.{is_word, is_tablet, is_hash, is_moment}
 use Rattle.xc_source.specs.declared.command.SourceCommand.{SourceCommand}
 use Rattle.xc_source.specs.declared.command.SourceCommand.TheVariants as command
 use Rattle.xc_text.proofs.ReadWords.{IsOp, op_is_word}
@@ -27,7 +27,7 @@ use Rattle.xc_source_script.specs.declared.reading.Reading.{Reading}
 use Rattle.xc_source_script.specs.declared.reading.Stage.{Stage}
 use Rattle.xc_source_script.specs.declared.reading.Stage.TheVariants as stage
 use Rattle.xc_source_script.specs.declared.script.SourceScript.{SourceScript}
-use Rattle.xc_source_script.specs.Words.{SourceLine, First, Start, Root, Ask, End, is_tablet, is_hash, is_moment, is_sub, version_of}
+use Rattle.xc_source_script.specs.Words.{SourceLine, First, Start, Root, Ask, End, is_sub, version_of}
 use Rattle.xc_source_script.specs.Words.{start_of}
 use Rattle.xc_source_script.specs.Words.{root_by, root_of, from_version_2, bare_of, with_one, with_two, write_of, pair_of, command_of}
 use Rattle.xc_source_script.specs.Words.{end_of}

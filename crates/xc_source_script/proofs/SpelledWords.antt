@@ -1,9 +1,10 @@
 -- The words of a source script are read as its lines.
 use Rattle.std.proofs.Common.{◌≡◌, ℕ, ◌+◌, ◌^◌, ◌<◌, ◌≤◌, ◌==◌, true, ◌&&◌, nat_le, nat_lt, List, [], ◌∷◌, ◌++◌, length}
-use Rattle.std.proofs.Common.{Option, Some, None, refl, sym, ap, arith}
+use Rattle.std.proofs.Common.{Option, Some, None, option_map, refl, sym, ap, ◌∙◌, codes, decimal, arith}
+use Rattle.std.specs.Prelude.{if◌then◌else◌}
 use Rattle.std.specs.List.{list_all}
 use Rattle.std.specs.Option.{option_map_or}
-use Rattle.std.proofs.lemmas.Bool.{false≢true, and_parts}
+use Rattle.std.proofs.lemmas.Bool.{false≢true, and_parts, and_from}
 use Rattle.std.proofs.lemmas.Bool.Decides.{nat_tests}
 use Rattle.xc_record.specs.Headers.{fit_from, next_after, parent_fits}
 use Rattle.xc_record.specs.Valid.{is_txn}
@@ -12,7 +13,8 @@ use Rattle.xc_record.specs.declared.record.Op.{Op}
 use Rattle.xc_record.specs.declared.headers.Next.TheVariants.{RootAt}
 use Rattle.xc_script.proofs.AllowedLaws.{none_is}
 use Rattle.xc_script.proofs.SpelledWords.{above, decimal_is, is_lt}
-use Rattle.xc_script.specs.Words.{is_word}
+use Rattle.xc_base.specs.Words.{number_of}
+use Rattle.xc_script.specs.Words.{is_word, is_tablet, is_hash, is_moment}
 use Rattle.xc_source.specs.declared.command.SourceCommand.{SourceCommand}
 use Rattle.xc_source.specs.declared.command.SourceCommand.TheVariants as command
 use Rattle.xc_text.proofs.PrintedWords.{op_is, op_plain}
@@ -20,7 +22,7 @@ use Rattle.xc_text.specs.Lines.{op_of, op_is_named, header_numbers_fit}
 use Rattle.xc_text.specs.Printed.{op_by, op_word, op_spelled}
 use Rattle.xc_text.specs.declared.line.Version.{Version}
 use Rattle.xc_text.specs.declared.line.Version.TheVariants.{One, Two}
-use Rattle.xc_source_script.specs.Words.{Root, Ask, is_tablet, is_hash, is_moment, is_sub, command_of}
+use Rattle.xc_source_script.specs.Words.{Root, Ask, is_sub, command_of, pair_of, line_in}
 use Rattle.xc_source_script.specs.Words.{line_of, root_of}
 use Rattle.xc_source_script.specs.SourceText.{follows, is_root}
 use Rattle.xc_source_script.specs.Allowed.{is_allowed}
@@ -68,6 +70,37 @@ pub record IsSaid (v : Version) (c : SourceCommand) : Type 0 where
   pub above : list_all above (command_words v c) ≡ true
   pub line : line_of v (command_words v c) ≡ Some (Ask c)
 
+-- a command of one number
+said_one : (v : Version) (verb : List ℕ) (c : ℕ → SourceCommand) (n : ℕ) → n < 2 ^ 64 → command_words v (c n) ≡ verb ∷ decimal n ∷ []
+    → above verb ≡ true → is_word verb ≡ true
+    → ((word : List ℕ) → line_in v (verb ∷ word ∷ []) ≡ option_map Ask (option_map c (number_of word))) → IsSaid v (c n)
+unfolding line_of
+said_one v verb c n small words clear word line =
+    let a = decimal_is n small in
+    record {
+      above = ap (list_all above) words ∙ and_from _ _ clear (and_from _ _ a.above refl);
+      line = ap (line_of v) words
+          ∙ ap (λ b. if b then line_in v (verb ∷ decimal n ∷ []) else None) (and_from _ _ word (and_from _ _ a.word refl))
+          ∙ line (decimal n) ∙ ap (λ o. option_map Ask (option_map c o)) a.number;
+    }
+
+-- a command of two numbers
+said_two : (v : Version) (verb : List ℕ) (c : ℕ → ℕ → SourceCommand) (m n : ℕ) → m < 2 ^ 64 → n < 2 ^ 64
+    → command_words v (c m n) ≡ verb ∷ decimal m ∷ decimal n ∷ [] → above verb ≡ true → is_word verb ≡ true
+    → ((word other : List ℕ) → line_in v (verb ∷ word ∷ other ∷ []) ≡ option_map Ask (pair_of c word other)) → IsSaid v (c m n)
+unfolding line_of
+said_two v verb c m n low high words clear word line =
+    let a = decimal_is m low in
+    let b = decimal_is n high in
+    let pair : pair_of c (decimal m) (decimal n) ≡ Some (c m n) = rw (a.number, b.number) refl in
+    record {
+      above = ap (list_all above) words ∙ and_from _ _ clear (and_from _ _ a.above (and_from _ _ b.above refl));
+      line = ap (line_of v) words
+          ∙ ap (λ b. if b then line_in v (verb ∷ decimal m ∷ decimal n ∷ []) else None)
+          (and_from _ _ word (and_from _ _ a.word (and_from _ _ b.word refl)))
+          ∙ line (decimal m) (decimal n) ∙ ap (option_map Ask) pair;
+    }
+
 pub command_said : (v : Version) (c : SourceCommand) → is_allowed c ≡ true → command_spelled v c ≡ true → IsSaid v c
 unfolding line_of command_of
 command_said v command.Begin is spelled = record { above = refl; line = refl }
@@ -80,45 +113,26 @@ command_said v (command.Write txn op) is spelled =
 command_said v (command.Put op) is spelled =
     let o = op_word_is v op is spelled in record { above = rw o.above refl; line = rw (o.word, o.read) refl }
 command_said v (command.Commit txn) is spelled =
-    let p = and_parts (is_txn txn) true is in
-    let a = decimal_is txn (txn_small txn p.0) in
-    record { above = rw a.above refl; line = rw (a.word, a.number) refl }
+    said_one v (codes "commit") command.Commit txn (txn_small txn (and_parts (is_txn txn) true is).0) refl refl refl (λ word. refl)
 command_said v (command.Abort txn) is spelled =
-    let p = and_parts (is_txn txn) true is in
-    let a = decimal_is txn (txn_small txn p.0) in
-    record { above = rw a.above refl; line = rw (a.word, a.number) refl }
+    said_one v (codes "abort") command.Abort txn (txn_small txn (and_parts (is_txn txn) true is).0) refl refl refl (λ word. refl)
 command_said v (command.Apply txn id) is spelled =
-    let p = and_parts (is_txn txn && is_tablet id) true is in
-    let q = and_parts (is_txn txn) (is_tablet id) p.0 in
-    let a = decimal_is txn (txn_small txn q.0) in
-    let b = decimal_is id (tablet_small id q.1) in
-    record { above = rw (a.above, b.above) refl; line = rw (a.word, b.word, a.number, b.number) refl }
+    let p = and_parts (is_txn txn) (is_tablet id) (and_parts (is_txn txn && is_tablet id) true is).0 in
+    said_two v (codes "apply") command.Apply txn id (txn_small txn p.0) (tablet_small id p.1) refl refl refl (λ word other. refl)
 command_said v (command.Safe id) is spelled =
-    let p = and_parts (is_tablet id) true is in
-    let a = decimal_is id (tablet_small id p.0) in
-    record { above = rw a.above refl; line = rw (a.word, a.number) refl }
+    said_one v (codes "safe") command.Safe id (tablet_small id (and_parts (is_tablet id) true is).0) refl refl refl (λ word. refl)
 command_said v (command.Split id place) is spelled =
-    let p = and_parts (is_tablet id && is_hash place) true is in
-    let q = and_parts (is_tablet id) (is_hash place) p.0 in
-    let a = decimal_is id (tablet_small id q.0) in
-    let b = decimal_is place (hash_small place q.1) in
-    record { above = rw (a.above, b.above) refl; line = rw (a.word, b.word, a.number, b.number) refl }
+    let p = and_parts (is_tablet id) (is_hash place) (and_parts (is_tablet id && is_hash place) true is).0 in
+    said_two v (codes "split") command.Split id place (tablet_small id p.0) (hash_small place p.1) refl refl refl (λ word other. refl)
 command_said v (command.Tick time) is spelled =
-    let p = and_parts (is_moment time) true is in
-    let a = decimal_is time (moment_small time p.0) in
-    record { above = rw a.above refl; line = rw (a.word, a.number) refl }
+    said_one v (codes "tick") command.Tick time (moment_small time (and_parts (is_moment time) true is).0) refl refl refl (λ word. refl)
 command_said One (command.Savepoint txn) is spelled = absurd (false≢true spelled)
 command_said Two (command.Savepoint txn) is spelled =
-    let p = and_parts (is_txn txn) true is in
-    let a = decimal_is txn (txn_small txn p.0) in
-    record { above = rw a.above refl; line = rw (a.word, a.number) refl }
+    said_one Two (codes "savepoint") command.Savepoint txn (txn_small txn (and_parts (is_txn txn) true is).0) refl refl refl (λ word. refl)
 command_said One (command.Rollback txn sub) is spelled = absurd (false≢true spelled)
 command_said Two (command.Rollback txn sub) is spelled =
-    let p = and_parts (is_txn txn && is_sub sub) true is in
-    let q = and_parts (is_txn txn) (is_sub sub) p.0 in
-    let a = decimal_is txn (txn_small txn q.0) in
-    let b = decimal_is sub (sub_small sub q.1) in
-    record { above = rw (a.above, b.above) refl; line = rw (a.word, b.word, a.number, b.number) refl }
+    let p = and_parts (is_txn txn) (is_sub sub) (and_parts (is_txn txn && is_sub sub) true is).0 in
+    said_two Two (codes "rollback") command.Rollback txn sub (txn_small txn p.0) (sub_small sub p.1) refl refl refl (λ word other. refl)
 
 -- ---- roots
 

@@ -3,10 +3,11 @@ use Rattle.std.proofs.Common.{◌≡◌, ℕ, Bool, true, false, not, nat_le, Li
 use Rattle.std.proofs.Common.{sym, ap, ◌∙◌, codes}
 use Rattle.std.specs.Prelude.{if◌then◌else◌, bytes_eq}
 use Rattle.std.proofs.lemmas.Bool.{false≢true}
-use Rattle.std.proofs.lemmas.Slice.Eq.{bytes_eq-Decides}
 use Rattle.xc_record.specs.declared.record.Header.{Header}
 use Rattle.xc_script.specs.LineText.{first_kind, unless_bad}
 use Rattle.xc_script.proofs.LineTextLaws.{then_by, judged}
+use Rattle.xc_script.proofs.StepLaws.{is_text}
+use Rattle.xc_script.specs.Words.{is_moment}
 use Rattle.xc_source.specs.declared.command.SourceCommand.{SourceCommand}
 use Rattle.xc_text.specs.declared.line.Version.{Version}
 use Rattle.xc_text.specs.Lines.{header_numbers_fit}
@@ -14,7 +15,8 @@ use Rattle.xc_source_script.specs.declared.kind.SourceKind.TheVariants as kind
 use Rattle.xc_source_script.specs.declared.reading.Reading.{Reading}
 use Rattle.xc_source_script.specs.declared.reading.Stage.{Stage}
 use Rattle.xc_source_script.specs.declared.reading.Stage.TheVariants as stage
-use Rattle.xc_source_script.specs.Words.{SourceLine, First, Start, Root, Ask, is_moment, command_numbers_fit, command_names_fit, version_of}
+use Rattle.xc_source_script.specs.Words.{SourceLine, First, Start, Root, Ask, command_numbers_fit, command_names_fit, version_of}
+use Rattle.xc_source_script.specs.Words.{bare_of, with_one, with_two}
 use Rattle.xc_source_script.specs.Words.{start_of, root_of, end_of, command_of, command_in, root_in, start_in, line_by, numbers_fit}
 use Rattle.xc_source_script.specs.Words.{names_fit}
 use Rattle.xc_source_script.specs.SourceText.{misplaced, later_kinds, moved, step_by, is_inner, is_whole, root_breaks}
@@ -84,26 +86,24 @@ mapped s f (Some a) out =
     ((not (numbers_fit (f a)), kind.Number) ∷ (not (names_fit (f a)), kind.Key)
     ∷ later_kinds s (f a))) (moved s (f a))) (out a)
 
-is_text : (word text : List ℕ) → bytes_eq word text ≡ true → word ≡ text
-is_text word text e = (bytes_eq-Decides word text).0 e
+-- what begins no command with any number of words
+is_no_command : (v : Version) (verb : List ℕ) → bare_of verb ≡ None → ((a : List ℕ) → with_one v verb a ≡ None)
+    → ((a b : List ℕ) → with_two v verb a b ≡ None) → (words : List (List ℕ)) → command_of v verb words ≡ None
+unfolding command_of
+is_no_command v verb none one two [] = none
+is_no_command v verb none one two (a ∷ []) = one a
+is_no_command v verb none one two (a ∷ b ∷ []) = two a b
+is_no_command v verb none one two (a ∷ b ∷ c ∷ words) = refl
 
 no_command : (v : Version) (text word : List ℕ) (words : List (List ℕ)) → ((words : List (List ℕ)) → command_of v text words ≡ None)
     → bytes_eq word text ≡ true → command_of v word words ≡ None
 no_command v text word words none e = ap (λ w. command_of v w words) (is_text word text e) ∙ none words
 
 not_first : (v : Version) (words : List (List ℕ)) → command_of v (codes "xcsource") words ≡ None
-unfolding command_of
-not_first v [] = refl
-not_first v (a ∷ []) = refl
-not_first v (a ∷ b ∷ []) = refl
-not_first v (a ∷ b ∷ c ∷ words) = refl
+not_first v = is_no_command v (codes "xcsource") refl (λ a. refl) (λ a b. refl)
 
 not_start : (v : Version) (words : List (List ℕ)) → command_of v (codes "start") words ≡ None
-unfolding command_of
-not_start v [] = refl
-not_start v (a ∷ []) = refl
-not_start v (a ∷ b ∷ []) = refl
-not_start v (a ∷ b ∷ c ∷ words) = refl
+not_start v = is_no_command v (codes "start") refl (λ a. refl) (λ a b. refl)
 
 either : (s : Reading) (b : Bool) (x y z : Option SourceLine) → (b ≡ true → step_by s x ≡ step_by s z) → (b ≡ false
     → step_by s y ≡ step_by s z)

@@ -4,10 +4,9 @@
 --     numbers_fit line      each number is within the range of its place
 --     names_fit line      each key and each value is well formed
 -- The rest is what single functions answer; what a text spells doesn't rest on it.
---     IsNumber fits word number      the number that the word spells, where it fits; None where it doesn't
 --     IsOp version word op      the operation that the word spells, where its names fit; None where they don't
 --     command_in, root_in, start_in      a command, a root and the start, judged by themselves
-use Rattle.std.specs.Prelude.{◌≡◌, ℕ, ◌^◌, Bool, true, false, ◌&&◌, nat_lt, nat_le, List, [], ◌∷◌, Option, Some, None, Result}
+use Rattle.std.specs.Prelude.{◌≡◌, ℕ, Bool, true, false, ◌&&◌, nat_le, List, [], ◌∷◌, Option, Some, None, Result}
 use Rattle.std.specs.Prelude.{option_map, if◌then◌else◌, codes}
 use Rattle.std.specs.List.{list_all}
 use Rattle.std.specs.Str.{bytes_eq}
@@ -15,7 +14,7 @@ use Rattle.xc_base.specs.Words.{number_of}
 use Rattle.xc_record.specs.Valid.{is_txn}
 use Rattle.xc_record.specs.declared.record.Header.{Header}
 use Rattle.xc_record.specs.declared.record.Op.{Op}
-use Rattle.xc_script.specs.Words.{is_word}
+use Rattle.xc_script.specs.Words.{is_word, is_tablet, is_hash, is_moment}
 use Rattle.xc_source.specs.declared.command.SourceCommand.{SourceCommand}
 use Rattle.xc_source.specs.declared.command.SourceCommand.TheVariants.{Begin, Write, Put, Commit, Abort, Apply, Safe, Split, Tick, Finish}
 use Rattle.xc_source.specs.declared.command.SourceCommand.TheVariants.{Savepoint, Rollback}
@@ -24,7 +23,7 @@ use Rattle.xc_text.specs.declared.line.Version.{Version}
 use Rattle.xc_text.specs.declared.line.Version.TheVariants.{One, Two}
 use Rattle.xc_source_script.specs.Kinds.{judge}
 use Rattle.xc_source_script.specs.declared.kind.SourceKind.{SourceKind}
-use Rattle.xc_base.specs.declared.limits.TheConstants.{MOST_TABLETS, LAST_SUB}
+use Rattle.xc_base.specs.declared.limits.TheConstants.{LAST_SUB}
 
 pub data SourceLine : Type 0 where
   -- the first line of a source script
@@ -130,16 +129,6 @@ line_of version words = if list_all is_word words then line_in version words els
 
 -- ---- numbers
 
-abbrev pub is_tablet : ℕ → Bool
-is_tablet id = nat_lt id MOST_TABLETS
-
-abbrev pub is_hash : ℕ → Bool
-is_hash hash = nat_lt hash 65536
-
--- a time that a clock can have, which may be 0
-abbrev pub is_moment : ℕ → Bool
-is_moment time = nat_lt time (2 ^ 62)
-
 abbrev pub is_sub : ℕ → Bool
 is_sub sub = nat_le 1 sub && nat_le sub LAST_SUB
 
@@ -173,10 +162,6 @@ names_fit (Ask c) = command_names_fit c
 names_fit _ = true
 
 -- ---- what calls answer
-
-abbrev pub IsNumber : (ℕ → Bool) → List ℕ → Option ℕ → Type 0
-IsNumber fits word (Some n) = (number_of word ≡ Some n) × (fits n ≡ true)
-IsNumber fits word None = (n : ℕ) × ((number_of word ≡ Some n) × (fits n ≡ false))
 
 -- the operation that the word spells, where its names are well formed
 abbrev pub IsOp : Version → List ℕ → Option Op → Type 0

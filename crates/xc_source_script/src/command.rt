@@ -10,8 +10,9 @@ ghost use Rattle.xc_source_script.specs.declared.kind.SourceKind.TheVariants.{Fo
 ghost use Rattle.xc_text.specs.Lines.{op_of};
 
 use crate::kind::{Fail, SourceKind};
-use crate::numbers::{hash, moment, subtransaction, tablet, transaction};
+use crate::numbers::{subtransaction, transaction};
 use xc_record::Op;
+use xc_script::{hash, moment, tablet};
 use xc_source::SourceCommand;
 use xc_text::{OpFail, Version, read_op};
 

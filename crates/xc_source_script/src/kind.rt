@@ -1,9 +1,11 @@
 // Why a source script is refused.
 ghost use Rattle.std.specs.Prelude.{◌≡◌};
 ghost use Rattle.xc_source_script.specs.Kinds.{kind_name};
-ghost use Rattle.xc_source_script.specs.declared.kind.Fail.TheVariants.{NoMemory};
+ghost use Rattle.xc_source_script.specs.declared.kind.Fail.TheVariants.{Bad, NoMemory};
+ghost use Rattle.xc_source_script.specs.declared.kind.SourceKind.TheVariants.{Form};
 
 use std::alloc::AllocError;
+use xc_script::NoNumber;
 
 /// Why a line of a source script is bad. The rules are looked at in this order.
 #[derive(Clone, Copy, PartialEq, Eq, Debug)]
@@ -60,5 +62,13 @@ impl From<AllocError> for Fail {
 
     fn from(_error: AllocError) -> Fail {
         Fail::NoMemory
+    }
+}
+
+impl From<NoNumber> for Fail {
+    ghost from_gives = { λ _ e. e ≡ Bad Form };
+
+    fn from(_word: NoNumber) -> Fail {
+        Fail::Bad(SourceKind::Form)
     }
 }

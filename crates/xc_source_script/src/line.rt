@@ -4,8 +4,8 @@ ghost use Rattle.xc_source_script.specs.Kinds.{Answers};
 ghost use Rattle.xc_source_script.specs.Words.{version_of, start_of, start_in, root_by, root_of, root_in};
 
 use crate::kind::{Fail, SourceKind};
-use crate::numbers::{hash, moment, tablet};
 use xc_record::Header;
+use xc_script::{hash, moment, tablet};
 use xc_text::Version;
 
 // The version that the words after the first one name.

@@ -13,7 +13,7 @@ use Rattle.xc_source.specs.declared.fail.SourceFail.{SourceFail}
 use Rattle.xc_source_laws.specs.Laws.{CommandFits, LogsAreValid}
 use Rattle.xc_source_script.specs.Allowed.{is_allowed, IsSourceScript}
 use Rattle.xc_source_script.specs.Made.{made_of}
-use Rattle.xc_source_script.specs.Words.{is_moment}
+use Rattle.xc_script.specs.Words.{is_moment}
 use Rattle.xc_source_script.specs.declared.script.SourceScript.{SourceScript}
 use Rattle.xc_text.specs.Lines.{op_is_named}
 use Rattle.xc_time.specs.Times.{last_time}

@@ -10,22 +10,14 @@ const ONE: &str = "xcscript 1\ntarget 0\n";
 
 const TWO: &str = "xcscript 2\ntarget 0 32768\n";
 
-fn joined(alloc: Global, parts: &[&str]) -> Result<Vec<u8>, AllocError> {
-    let mut text = Vec::new(alloc);
-    for part in parts {
-        text.extend_from_slice(part.as_bytes())?;
-    }
-    Ok(text)
-}
-
 // The first bad line of the text of two parts, for three source tablets, and why it is bad.
 fn bad_line(
     alloc: Global,
     head: &str,
     rest: &str,
 ) -> Result<Option<(u64, ScriptKind)>, AllocError> {
-    let text = joined(alloc, &[head, rest])?;
-    match read_script(alloc, &text, 3) {
+    let text = format!(in alloc; "{head}{rest}")?;
+    match read_script(alloc, text.as_bytes(), 3) {
         Ok(_) => Ok(None),
         Err(ScriptFail::Bad { line, kind }) => Ok(Some((line, kind))),
         Err(ScriptFail::NoMemory) => Err(AllocError),

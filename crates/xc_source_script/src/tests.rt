@@ -9,22 +9,14 @@ const ONE: &str = "xcsource 1\nstart 0\ntablet 0 0 65535 root\n";
 
 const TWO: &str = "xcsource 2\nstart 0\ntablet 0 0 65535 root\n";
 
-fn joined(alloc: Global, parts: &[&str]) -> Result<Vec<u8>, AllocError> {
-    let mut text = Vec::new(alloc);
-    for part in parts {
-        text.extend_from_slice(part.as_bytes())?;
-    }
-    Ok(text)
-}
-
 // The first bad line of the text of two parts, and why it is bad.
 fn bad_line(
     alloc: Global,
     head: &str,
     rest: &str,
 ) -> Result<Option<(u64, SourceKind)>, AllocError> {
-    let text = joined(alloc, &[head, rest])?;
-    match read_source(alloc, &text) {
+    let text = format!(in alloc; "{head}{rest}")?;
+    match read_source(alloc, text.as_bytes()) {
         Ok(_) => Ok(None),
         Err(SourceScriptFail::Bad { line, kind }) => Ok(Some((line, kind))),
         Err(SourceScriptFail::NoMemory) => Err(AllocError),
@@ -125,17 +117,12 @@ end
 fn a_script_ends_by_line_65536(rt: HostRuntime) -> Result<(), Fail> {
     let alloc = rt.alloc();
     for (count, want) in [(65532, None), (65533, Some((65537, Limit)))] {
-        let mut text = joined(alloc, &[ONE])?;
+        let mut rest = String::new(alloc);
         for _ in 0..count {
-            text.extend_from_slice(b"begin\n")?;
+            rest.push_str("begin\n")?;
         }
-        text.extend_from_slice(b"end\n")?;
-        let bad = match read_source(alloc, &text) {
-            Ok(_) => None,
-            Err(SourceScriptFail::Bad { line, kind }) => Some((line, kind)),
-            Err(SourceScriptFail::NoMemory) => return Err(Fail::from("memory ran out")),
-        };
-        assert_eq!(rt; bad, want);
+        rest.push_str("end\n")?;
+        assert_eq!(rt; bad_line(alloc, ONE, rest.as_str())?, want);
     }
     Ok(())
 }

@@ -65,8 +65,8 @@ fn set_closed(closed: &mut Vec<bool>, id: u32)
     }
 }
 
-// The two children of a tablet.
-fn children(headers: &[Header], id: u32) -> Option<(Header, Header)>
+/// The two children of a tablet.
+pub fn children(headers: &[Header], id: u32) -> Option<(Header, Header)>
     ensures { result ≡ children headers.now id }
 {
     for (i, header) in headers.iter().enumerate() {

@@ -4,7 +4,7 @@
 mod floor;
 mod safe_at;
 
-pub use floor::Floor;
+pub use floor::{Floor, children};
 pub use safe_at::safe_of;
 
 #[cfg(test)]

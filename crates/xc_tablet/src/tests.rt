@@ -2,7 +2,6 @@
 ghost use Rattle.std.specs.Prelude.{◌≡◌, ◌≤◌};
 ghost use Rattle.std.specs.List.{list_all};
 ghost use Rattle.xc_record.specs.Hash.{hash_of, holds};
-ghost use Rattle.xc_record.specs.Headers.{children};
 ghost use Rattle.xc_record.specs.Order.{is_split};
 ghost use Rattle.xc_record.specs.Valid.{ops_keep, keeps_header};
 ghost use Rattle.xc_tablet.specs.Batch.{splits_end, records_keep};
@@ -11,6 +10,7 @@ use super::*;
 use std::alloc::Global;
 use std::test::Fail;
 use xc_base::{Key, Value};
+use xc_floor::children;
 use xc_record::{Header, HybridTime, Kind, Op, Ops, Record, Subs, hash, hash_bytes};
 
 // ---- the conditions of a delivery, tested
@@ -50,20 +50,6 @@ fn all_keep(header: &Header, pair: &Option<(Header, Header)>, records: &[Record]
     ensures { result ≡ list_all (λ r. keeps_header header.now pair.now r.kind) records.now }
 {
     records.iter().all(|r| kind_keeps(header, pair, &r.kind))
-}
-
-fn children(headers: &[Header], id: u32) -> Option<(Header, Header)>
-    ensures { result ≡ children headers.now id }
-{
-    for (i, header) in headers.iter().enumerate() {
-        if header.parent == Some(id) {
-            return match headers.get(i + 1) {
-                Some(right) => Some((*header, *right)),
-                None => None,
-            };
-        }
-    }
-    None
 }
 
 fn is_split(kind: &Kind) -> bool

@@ -63,6 +63,7 @@ fn do_commands(
 }
 
 // Does the command.
+#[tactic(auto, using(crate::proofs::MadeLaws::did), unfolding(xc_source::specs::Commands::step))]
 fn do_command(universe: &mut SourceUniverse, command: &SourceCommand) -> Result<(), SourceFail>
     requires { is_allowed command.now ≡ true }
     ensures { Did result universe.new (step command.now universe.old) }

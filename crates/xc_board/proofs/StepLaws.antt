@@ -12,10 +12,10 @@ use Rattle.xc_board.specs.declared.tablet.BoardTablet.{BoardTablet}
 use Rattle.xc_board.specs.declared.rule.SeatView.{SeatView}
 use Rattle.xc_board.specs.Tree.{unbounded, IsTree, IsBelowEnds}
 use Rattle.xc_board.specs.Words.{lesser, least}
-use Rattle.xc_board.specs.Rule.{Fits, AreWords, AreTogether, FitsSeat, Holds}
+use Rattle.xc_board.specs.Rule.{Fits, AreWords, AreTogether, MayBe, FitsSeat, Holds}
 use Rattle.xc_board.specs.Steps.{knows, passes, renewed, sees, merged, spent, Seated, Raised, Scanned, Published, Observed}
 use Rattle.xc_board.specs.Scans.{Scanning}
-use Rattle.xc_board.proofs.WordLaws.{MayBe, is_set, rises, set_other, together_set, together_same}
+use Rattle.xc_board.proofs.WordLaws.{is_set, rises, set_other, together_set, together_same}
 use Rattle.xc_board.proofs.FitLaws.{fits_up, fits_max, fits_below-ends}
 use Rattle.xc_board.proofs.LeastLaws.{least_step}
 use Rattle.xc_board.proofs.SeatLaws.{seat_up, seat_knows, seat_passes, seat_renewed, seat_sees, seat_merged, seats_set}

@@ -14,9 +14,9 @@ use Rattle.xc_board.specs.declared.rule.SeatView.{SeatView}
 use Rattle.xc_board.specs.Tree.{unbounded, IsTree}
 use Rattle.xc_board.specs.Words.{gone, state_of, least}
 use Rattle.xc_board.specs.States.{IsPast, KnowsAll, later}
-use Rattle.xc_board.specs.Rule.{AreWords, HasNoGap}
+use Rattle.xc_board.specs.Rule.{AreWords, HasNoGap, AreTogether, MayBe, MayRise}
 use Rattle.xc_board.specs.Steps.{Seated, Raised, merged}
-use Rattle.xc_board.specs.Seats.{BoardValue, SeatValue, IsSeatOf, KeepsSeat, known_at, least_known}
+use Rattle.xc_board.specs.Seats.{BoardValue, SeatValue, IsSeatOf, KeepsSeat, RaisedSeat, known_at, least_known}
 use Rattle.xc_board.specs.Inside.{value_of_view}
 use Rattle.xc_board.proofs.WordLaws.{is_set, rises, word_le-gone}
 use Rattle.xc_board.proofs.StateLaws.{state_at-words, state_gone, state_time, waiting_word, past_of, later_of, least_states}
@@ -26,7 +26,7 @@ pub known_word : (id : TableId) (v : SeatView) (i : ℕ) → known_at (value_of_
 known_word id v i = state_at-words v.known i
 
 -- a tablet that is known not to wait has another word than 0
-pub known_active : (id : TableId) (v : SeatView) (i : ℕ) → known_at (value_of_view id v) i ≢ Waiting → slice_index v.known i ≢ 0
+known_active : (id : TableId) (v : SeatView) (i : ℕ) → known_at (value_of_view id v) i ≢ Waiting → slice_index v.known i ≢ 0
 known_active id v i ne e = ne (known_word id v i ∙ ap state_of e)
 
 -- what a seat knows of a tablet is a word
@@ -54,11 +54,19 @@ keeps_seat b s id id' v w tree is seat same tablets seen size words up =
           (known_le-gone b.tablets w.known i tree (subst (λ l. AreWords l (slice_index w.known)) ts words) (size ∙ ap length ts)))));
     }
 
--- the seat s of the board b raised the word of the tablet i from n to the greater of n and k, and is w
-pub record RaisedSeat (b : BoardValue) (s w : SeatValue) (i k n : ℕ) : Type 0 where
-  pub keeps : KeepsSeat b s w
-  pub here : known_at w i ≡ state_of (max n k)
-  pub others : (j : ℕ) → j ≢ i → known_at w j ≡ known_at s j
+-- what a seat s allows a word in states, it allows it in words
+pub may_of : (ts ts' : List BoardTablet) (s : SeatValue) (id : TableId) (v : SeatView) (i k : ℕ) → ts' ≡ ts → value_of_view id v ≡ s
+    → MayRise ts (known_at s) i k
+    → (word : ℕ → ℕ) → IsTree ts' → AreTogether ts' word → ((j : ℕ) → j < length ts' → slice_index v.known j ≤ word j)
+    → MayBe ts' word i (max (word i) k)
+may_of ts ts' s id v i k same is may word =
+    subst
+    (λ l. IsTree l → AreTogether l word → ((j : ℕ) → j < length l → slice_index v.known j ≤ word j) → MayBe l word i (max (word i) k))
+    (sym same)
+    (λ tree h past. may word tree h
+    (λ j within. subst (λ (t : SeatValue). IsPast (known_at t j) (state_of (word j))) is
+    (subst (λ t. IsPast t (state_of (word j))) (sym (known_word id v j))
+    (past_of (slice_index v.known j) (word j) (past j within) (word_le-gone ts word j tree h.words within)))))
 
 pub raised_seat : (b : BoardValue) (s : SeatValue) (id id' : TableId) (slots i k n : ℕ) (me me' : Seated) → IsTree b.tablets
     → value_of_view id me.0 ≡ s → IsSeatOf b s → length me.0.known ≡ length me.0.tablets → i < length b.tablets → id' ≡ id
@@ -81,6 +89,7 @@ raised_seat b s id id' slots i k n me me' tree is seat size inside same told =
       here = known_word id' me'.0 i ∙ ap (λ (l : List ℕ). state_of (slice_index l i)) known ∙ ap state_of put.here;
       others = λ j ne. known_word id' me'.0 j ∙ ap (λ (l : List ℕ). state_of (slice_index l j)) known ∙ ap state_of (put.others j ne)
           ∙ sym (known_word id me.0 j) ∙ ap (λ (t : SeatValue). known_at t j) is;
+      seen = seen ∙ ap (λ (t : SeatValue). t.seen) is;
     }
 
 -- what the seat then knows of that tablet: it is at or past the time that was put, and doesn't wait; or it is gone

@@ -1,13 +1,16 @@
 -- What the words of a board may become. A board of any words `word : ℕ → ℕ` is meant, on threads or not.
-use Rattle.std.proofs.Common.{◌≡◌, ◌≢◌, ℕ, ◌+◌, ◌<◌, ◌≤◌, max, Some, List, length, set, sym, ap, ◌∙◌, subst, arith, get_or-set_same}
-use Rattle.std.proofs.Common.{get_or-set_other}
+use Rattle.std.proofs.Common.{◌≡◌, ◌≢◌, ℕ, ◌+◌, ◌<◌, ◌≤◌, max, Some, List, length, set, refl, sym, ap, ◌∙◌, subst, arith}
+use Rattle.std.proofs.Common.{get_or-set_same, get_or-set_other}
 use Rattle.std.specs.Prelude.{slice_index}
 use mathlib.Core.Logic.{dite}
 use native.Mathlib.Decide.{ℕ_discrete}
+use Rattle.xc_board.specs.declared.tablet.WordState.{WordState}
+use Rattle.xc_board.specs.declared.tablet.WordState.TheVariants.{Waiting, At, Gone}
 use Rattle.xc_board.specs.declared.tablet.BoardTablet.{BoardTablet}
 use Rattle.xc_board.specs.Tree.{unbounded, parent_of, ends_of, start_of, HasChild, IsTree}
-use Rattle.xc_board.specs.Words.{gone}
-use Rattle.xc_board.specs.Rule.{AreWords, AreTogether}
+use Rattle.xc_board.specs.Words.{gone, state_of}
+use Rattle.xc_board.specs.States.{IsPast}
+use Rattle.xc_board.specs.Rule.{AreWords, AreTogether, MayBe, MayRise}
 use Rattle.xc_board.proofs.TreeLaws.{child_inside, start_le-ends}
 
 pub set_same : (l : List ℕ) (i n : ℕ) → i < length l → slice_index (set l i n) i ≡ n
@@ -23,14 +26,6 @@ pub record IsSet (word word' : ℕ → ℕ) (i n : ℕ) : Type 0 where
 
 pub is_set : (l : List ℕ) (i n : ℕ) → i < length l → IsSet (slice_index l) (slice_index (set l i n)) i n
 is_set l i n h = record { here = set_same l i n h; others = λ j ne. set_other l i j n ne }
-
--- the word of the tablet i may become n
-pub record MayBe (ts : List BoardTablet) (word : ℕ → ℕ) (i n : ℕ) : Type 0 where
-  pub up : word i ≤ n
-  pub ends : n ≢ gone → n ≤ ends_of ts i + 1
-  pub starts : n ≢ 0 → start_of ts i < n
-  pub childless : n ≡ gone → HasChild ts i
-  pub children : (c : ℕ) → n ≡ gone → parent_of ts c ≡ Some i → word c ≢ 0
 
 -- a fact of each word holds of the new ones, where it holds of n at i and held of the others
 pub at_each : (word word' : ℕ → ℕ) (i n : ℕ) (F : ℕ → ℕ → Type 0) → IsSet word word' i n → F i n → ((j : ℕ) → j ≢ i → F j (word j))
@@ -102,27 +97,29 @@ may_time ts word i k within tree h k_le start =
       children = λ c e. h.all.children i c (was e);
     }
 
+-- a word at or past a state that doesn't wait isn't 0
+past_active : (s : WordState) (x : ℕ) → IsPast s (state_of x) → s ≢ Waiting → x ≢ 0
+past_active Waiting x past active = absurd (active refl)
+past_active (At t) x past active = λ e. subst (λ y. IsPast (At t) (state_of y)) e past
+past_active Gone x past active = λ e. subst (λ y. IsPast Gone (state_of y)) e past
+
 -- a word that is known not to wait may rise to a time
-pub may_raise : (ts : List BoardTablet) (known : ℕ → ℕ) (i t : ℕ) → i < length ts → t ≤ ends_of ts i → known i ≢ 0
-    → (word : ℕ → ℕ) → IsTree ts → AreTogether ts word → ((j : ℕ) → j < length ts → known j ≤ word j)
-    → MayBe ts word i (max (word i) (t + 1))
-may_raise ts known i t within end is word tree h past =
-    let a = past i within in
-    let b : start_of ts i < word i = h.words.starts i within (λ e. is (omega arith)) in
+pub may_raise : (ts : List BoardTablet) (state : ℕ → WordState) (i t : ℕ) → i < length ts → t ≤ ends_of ts i → state i ≢ Waiting
+    → MayRise ts state i (t + 1)
+may_raise ts state i t within end active = λ word tree h past.
+    let b : start_of ts i < word i = h.words.starts i within (past_active (state i) (word i) (past i within) active) in
     may_time ts word i (t + 1) within tree h (omega arith) (omega arith)
 
 -- a word may become active at the start of its tablet
-pub may_start : (ts : List BoardTablet) (i : ℕ) → i < length ts → (word : ℕ → ℕ) → IsTree ts → AreTogether ts word
-    → MayBe ts word i (max (word i) (start_of ts i + 1))
-may_start ts i within word tree h =
+pub may_start : (ts : List BoardTablet) (state : ℕ → WordState) (i : ℕ) → i < length ts → MayRise ts state i (start_of ts i + 1)
+may_start ts state i within = λ word tree h past.
     let a = start_le-ends ts tree i in
     may_time ts word i (start_of ts i + 1) within tree h (omega arith) (omega arith)
 
 -- a parent may be gone, where none of its children is known to wait
-pub may_retire : (ts : List BoardTablet) (known : ℕ → ℕ) (i : ℕ) → i < length ts → HasChild ts i
-    → ((c : ℕ) → parent_of ts c ≡ Some i → known c ≢ 0)
-    → (word : ℕ → ℕ) → IsTree ts → AreTogether ts word → ((j : ℕ) → j < length ts → known j ≤ word j) → MayBe ts word i (max (word i) gone)
-may_retire ts known i within has kids word tree h past =
+pub may_retire : (ts : List BoardTablet) (state : ℕ → WordState) (i : ℕ) → i < length ts → HasChild ts i
+    → ((c : ℕ) → parent_of ts c ≡ Some i → state c ≢ Waiting) → MayRise ts state i gone
+may_retire ts state i within has active = λ word tree h past.
     let end : ends_of ts i < unbounded = tree.ends i in
     let start = start_le-ends ts tree i in
     let is : max (word i) gone ≡ gone = dite (ℕ_discrete (word i) gone) (λ e. omega arith)
@@ -132,7 +129,7 @@ may_retire ts known i within has kids word tree h past =
       ends = λ ne. absurd (ne is);
       starts = λ _. omega arith;
       childless = λ _. has;
-      children = λ c _ e zero'. kids c e (let a = past c (child_inside ts c i e) in omega arith);
+      children = λ c _ e. past_active (state c) (word c) (past c (child_inside ts c i e)) (active c e);
     }
 
 -- no word of a tablet is above that of one that is gone

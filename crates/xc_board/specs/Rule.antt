@@ -1,12 +1,14 @@
 -- What holds of a board between any two steps. Its words are those of the tablets, and last the watermark.
-use Rattle.std.specs.Prelude.{◌≡◌, ◌≢◌, ℕ, ◌+◌, ◌<◌, ◌≤◌, true, Some, None, List, length, slice_index}
+use Rattle.std.specs.Prelude.{◌≡◌, ◌≢◌, ℕ, ◌+◌, ◌<◌, ◌≤◌, max, true, Some, None, List, length, slice_index}
 use mathlib.Core.Option.{some}
 use lib.ListN.{get_elem?}
 use Rattle.atomic_table.specs.Table.{State}
+use Rattle.xc_board.specs.declared.tablet.WordState.{WordState}
 use Rattle.xc_board.specs.declared.tablet.BoardTablet.{BoardTablet}
 use Rattle.xc_board.specs.declared.rule.SeatView.{SeatView}
 use Rattle.xc_board.specs.Tree.{unbounded, parent_of, ends_of, start_of, HasChild, IsTree}
-use Rattle.xc_board.specs.Words.{gone, words_of, least}
+use Rattle.xc_board.specs.Words.{gone, state_of, words_of, least}
+use Rattle.xc_board.specs.States.{IsPast}
 
 -- the number b is at most what the word x of the tablet i counts for: one implication for the three cases of `FitsState`, which
 -- `fitting_has_three_cases` proves to be the same. A word that rises keeps it
@@ -28,6 +30,19 @@ pub record AreTogether (ts : List BoardTablet) (word : ℕ → ℕ) : Type 0 whe
   pub words : AreWords ts word
   pub all : HasNoGap ts word
   pub childless : (i : ℕ) → i < length ts → word i ≡ gone → HasChild ts i
+
+-- the word of the tablet i may become n
+pub record MayBe (ts : List BoardTablet) (word : ℕ → ℕ) (i n : ℕ) : Type 0 where
+  pub up : word i ≤ n
+  pub ends : n ≢ gone → n ≤ ends_of ts i + 1
+  pub starts : n ≢ 0 → start_of ts i < n
+  pub childless : n ≡ gone → HasChild ts i
+  pub children : (c : ℕ) → n ≡ gone → parent_of ts c ≡ Some i → word c ≢ 0
+
+-- it may rise to k, whatever the words are, at or past these states
+abbrev pub MayRise : List BoardTablet → (ℕ → WordState) → ℕ → ℕ → Type 0
+MayRise ts state i k = (word : ℕ → ℕ) → IsTree ts → AreTogether ts word
+    → ((j : ℕ) → j < length ts → IsPast (state j) (state_of (word j))) → MayBe ts word i (max (word i) k)
 
 -- what holds of one seat: each word is at or past what it knows of it, and its bound fits each word that its scan has passed
 pub record FitsSeat (ts : List BoardTablet) (word : ℕ → ℕ) (mark : ℕ) (v : SeatView) : Type 0 where

@@ -1,9 +1,10 @@
 -- What contracts see of a board and of a seat at it.
-use Rattle.std.specs.Prelude.{◌≡◌, ℕ, ◌≤◌, List}
+use Rattle.std.specs.Prelude.{◌≡◌, ◌≢◌, ℕ, ◌≤◌, List, max}
 use Rattle.atomic_table.specs.Seated.{TableId}
 use Rattle.xc_board.specs.declared.tablet.WordState.{WordState}
 use Rattle.xc_board.specs.declared.tablet.BoardTablet.{BoardTablet}
 use Rattle.xc_board.specs.Tree.{unbounded}
+use Rattle.xc_board.specs.Words.{state_of}
 use Rattle.xc_board.specs.States.{IsPast, state_at, least_time}
 
 -- which board it is, and the tablets that it was made of
@@ -35,3 +36,10 @@ pub record KeepsSeat (b : BoardValue) (v w : SeatValue) : Type 0 where
   pub seat : IsSeatOf b w
   pub seen : v.seen ≤ w.seen
   pub known : (i : ℕ) → IsPast (known_at v i) (known_at w i)
+
+-- the seat v of the board raised the word of the tablet i from n to the greater of n and k, and is w
+pub record RaisedSeat (b : BoardValue) (v w : SeatValue) (i k n : ℕ) : Type 0 where
+  pub keeps : KeepsSeat b v w
+  pub here : known_at w i ≡ state_of (max n k)
+  pub others : (j : ℕ) → j ≢ i → known_at w j ≡ known_at v j
+  pub seen : w.seen ≡ v.seen

@@ -5,8 +5,9 @@ ghost use Rattle.xc_board.specs.Tree.{unbounded, parent_of, ends_of, start_of, H
 ghost use Rattle.xc_board.specs.declared.tablet.WordState.TheVariants.{Waiting, At, Gone};
 ghost use Rattle.xc_board.specs.Words.{least, lesser, words_of};
 ghost use Rattle.xc_board.specs.States.{IsPast, IsStart, KnowsAll, later, least_time, states_of};
+ghost use Rattle.xc_board.specs.Rule.{MayRise};
 ghost use Rattle.xc_board.specs.Scans.{Scanning};
-ghost use Rattle.xc_board.specs.Seats.{IsSeatOf, KeepsSeat, known_at, least_known};
+ghost use Rattle.xc_board.specs.Seats.{IsSeatOf, KeepsSeat, RaisedSeat, known_at, least_known};
 
 use crate::rule::{Copies, Law, Merges, Observes, Publishes, Raises, Scans, SeatView};
 use crate::tablet::{BoardTablet, BoardTablets, word};
@@ -87,9 +88,9 @@ impl Board {
         ensures others { (i : ℕ) → i ≢ id → known_at seat.new i ≡ known_at seat.old i }
         ensures seen { seat.new.seen ≡ seat.old.seen }
     {
-        self.table
-            .shared
-            .fetch_max::<Raises>(&mut seat.seat, id as usize, t + 1);
+        // The check knows the board's invariant in a function that reads a field.
+        let _ = &self.tablets;
+        self.raise_word(seat, id, t + 1);
     }
 
     /// Makes the word of a waiting child active, at the end of its parent. Any other word stays.
@@ -104,9 +105,7 @@ impl Board {
         ensures seen { seat.new.seen ≡ seat.old.seen }
     {
         let start = self.start_of(id);
-        self.table
-            .shared
-            .fetch_max::<Raises>(&mut seat.seat, id as usize, start + 1);
+        self.raise_word(seat, id, start + 1);
     }
 
     /// Takes out the word of a parent whose children all are known to be active, so that it doesn't count any more.
@@ -120,9 +119,7 @@ impl Board {
         ensures others { (i : ℕ) → i ≢ id → known_at seat.new i ≡ known_at seat.old i }
         ensures seen { seat.new.seen ≡ seat.old.seen }
     {
-        self.table
-            .shared
-            .fetch_max::<Raises>(&mut seat.seat, id as usize, u64::MAX);
+        self.raise_word(seat, id, u64::MAX);
     }
 
     /// Loads each tablet's word, raises the watermark to the least active time that was loaded, and answers the
@@ -191,6 +188,19 @@ impl Board {
         let last = closed.word(tablets.as_slice().len());
         closed.free();
         last
+    }
+
+    // Raises a tablet's word to a number that it may become, and answers what it was. A greater word stays.
+    #[inline]
+    fn raise_word(&self, seat: &mut BoardSeat, id: u32, number: u64) -> u64
+        requires seat { IsSeatOf self.now seat.old }
+        requires id { id < length self.now.tablets }
+        requires may { MayRise self.now.tablets (known_at seat.old) id number }
+        ensures { RaisedSeat self.now seat.old seat.new id number result }
+    {
+        self.table
+            .shared
+            .fetch_max::<Raises>(&mut seat.seat, id as usize, number)
     }
 
     // The end of the tablet's parent, at which its word starts.

@@ -1,7 +1,7 @@
 -- What a poll makes of a step, whatever the feed tells, and of logs.
 use Rattle.std.proofs.Common.{◌≡◌, ℕ, ◌+◌, ◌-◌, ◌≤◌, ◌^◌, max, List, [], ◌∷◌, length, get_or, take, drop, refl, sym, ap, ◌∙◌, subst, arith}
 use Rattle.std.proofs.Common.{◌⊎◌, ⊎_elim, inl, inr}
-use Rattle.std.specs.Prelude.{Option, Some, None, IfSome, Result, Ok, Err, All, slice_index}
+use Rattle.std.specs.Prelude.{Option, Some, None, IfSome, IfOk, IsErrOf, Result, Ok, Err, All, slice_index}
 use Rattle.std.specs.List.{AllZip, AllByRecursion}
 use Rattle.std.specs.Option.{option_map_or}
 use Rattle.std.proofs.lemmas.List.Elements.{All-from_recursion, recursion_from_All}
@@ -13,15 +13,16 @@ use Rattle.xc_model.specs.Stands.{TargetTablet, StandsFor as TabletStandsFor}
 use Rattle.xc_model.proofs.DeliverLaw.{batches-keep}
 use Rattle.xc_tablet.specs.Batch.{CanTake}
 use Rattle.xc_change.specs.declared.batch.NextFail.{NextFail}
+use Rattle.xc_change.specs.declared.batch.NextFail.TheVariants as fail
 use Rattle.xc_change.specs.declared.batch.Batch.{Batch}
 use Rattle.xc_change.specs.Reader.{FitsFeed}
 use Rattle.xc_poller.specs.declared.step.Step.{Step}
 use Rattle.xc_poller.specs.declared.step.Step.TheVariants as step
-use Rattle.xc_logs.specs.Feed.{IsFeed}
+use Rattle.xc_logs.specs.Feed.{IsFeed, SameFeed, CountsFault}
 use Rattle.xc_poller.specs.Poller.{PollerState, IsPoller, StandsFor, Rises}
-use Rattle.xc_poller.specs.Polled.{CanPoll, Looked, IsStep, IsStepOf, Took, TookAll, TookFirst, KeepStanding, Moved, Stood, OutOfMemory}
-use Rattle.xc_poller.specs.Polled.{IsPolled, IsStopped, answer_of}
-use Rattle.xc_poller.specs.Delivery.{CanGive, Refused, IsGiven, IsCutOff}
+use Rattle.xc_poller.specs.Polled.{CanPoll, CanPollAll, Looked, IsStep, IsStepOf, Took, TookAll, TookFirst, KeepStanding}
+use Rattle.xc_poller.specs.Polled.{Moved, Stood, OutOfMemory, IsPolled, IsStopped, PollsLogs, PollCall, answer_of}
+use Rattle.xc_poller.specs.Delivery.{CanGive, IsIdle, Refused, IsGiven, IsCutOff}
 use Rattle.xc_poller.proofs.BatchLaws.{Offered, can-take, still-took, still-same}
 use Rattle.xc_poller.proofs.StandLaws.{done-stands, done-rises}
 use Rattle.xc_tablet.proofs.Zips.{zip-refl, zip-with, zip-to, zip-first}
@@ -80,22 +81,34 @@ TabletsCame looked new olds news (step.Batch batch) =
     AllZip (TookOrStayed looked new batch) olds news × (new.applied ≤ max looked.applied (looked.reader.cursor + length batch.records))
 TabletsCame looked new olds news s = (news ≡ olds) × (new.applied ≤ looked.applied)
 
-pub record Came (looked new : PollerState) (olds news : List TargetTablet) (s : Step) : Type 0 where
+pub record Came (looked new : PollerState) (olds news : List TargetTablet) (s : Step) (result : Result PollAnswer NextFail) : Type 0 where
   pub at : ℕ
   pub reader : new.reader ≡ record looked.reader { cursor = at }
   pub header : new.header ≡ looked.header
   pub is_open : new.is_open ≡ looked.is_open
   pub tablets : TabletsCame looked new olds news s
+  pub answer : IfOk result (λ a. a ≡ answer_of s)
+  pub quiet : ¬ IsErrOf result fail.ReadFault
 
-idle-came : (looked new : PollerState) (olds news : List TargetTablet) (s : Step) → new ≡ looked → TabletsCame looked new olds news s
-    → Came looked new olds news s
-idle-came looked new olds news s e t = record {
+idle-came : (looked new : PollerState) (olds news : List TargetTablet) (s : Step) (result : Result PollAnswer NextFail) → new ≡ looked
+    → TabletsCame looked new olds news s → IfOk result (λ a. a ≡ answer_of s) → ¬ IsErrOf result fail.ReadFault
+    → Came looked new olds news s result
+idle-came looked new olds news s result e t answer quiet = record {
   at = looked.reader.cursor;
   reader = ap (λ (p : PollerState). p.reader) e;
   header = ap (λ (p : PollerState). p.header) e;
   is_open = ap (λ (p : PollerState). p.is_open) e;
   tablets = t;
+  answer = answer;
+  quiet = quiet;
 }
+
+-- nothing was given
+stayed-came : (looked new : PollerState) (olds news : List TargetTablet) (s : Step) (result : Result PollAnswer NextFail)
+    → IsIdle looked new olds news s result → TabletsCame looked new olds news s → Came looked new olds news s result
+stayed-came looked new olds news s result g t =
+    idle-came looked new olds news s result g.1.0 t (subst (λ r. IfOk r (λ a. a ≡ answer_of s)) (sym g.0) refl)
+    (subst (λ r. ¬ IsErrOf r fail.ReadFault) (sym g.0) (λ e. cc))
 
 same-applied : (looked new : PollerState) → new ≡ looked → new.applied ≤ looked.applied
 same-applied looked new e = let a = ap (λ (p : PollerState). p.applied) e in omega arith
@@ -115,13 +128,13 @@ first-came looked new olds news batch k low t = (
     each-unit (x ∷ xs) = (tt, each-unit xs)
 
 refused-came : (looked new : PollerState) (olds news : List TargetTablet) (batch : Batch) (e : NextFail)
-    → Refused looked new olds news batch e → Came looked new olds news (step.Batch batch)
+    → Refused looked new olds news batch e → Came looked new olds news (step.Batch batch) (Err e)
 refused-came looked new olds news batch e g =
-    idle-came looked new olds news (step.Batch batch) g.1.0
-    (first-came looked new olds news batch g.1.1.0 (same-applied looked new g.1.0) g.1.1.1)
+    idle-came looked new olds news (step.Batch batch) (Err e) g.1.0
+    (first-came looked new olds news batch g.1.1.0 (same-applied looked new g.1.0) g.1.1.1) tt (λ f. cc)
 
 pub given-came : (looked new : PollerState) (olds news : List TargetTablet) (s : Step) (result : Result PollAnswer NextFail)
-    → IsGiven looked new olds news s result → Came looked new olds news s
+    → IsGiven looked new olds news s result → Came looked new olds news s result
 given-came looked new olds news (step.Batch batch) (Ok answer) g = record {
   at = looked.reader.cursor + length batch.records;
   reader = ap (λ (p : PollerState). p.reader) g.1.0;
@@ -132,39 +145,38 @@ given-came looked new olds news (step.Batch batch) (Ok answer) g = record {
         (each-unit olds) g.1.1,
     let a = ap (λ (p : PollerState). p.applied) g.1.0 in omega arith,
   );
+  answer = g.0;
+  quiet = λ e. cc;
 }
   where
     each-unit : (xs : List TargetTablet) → AllByRecursion (λ x. Unit {0}) xs
     each-unit [] = tt
     each-unit (x ∷ xs) = (tt, each-unit xs)
 given-came looked new olds news (step.Batch batch) (Err e) g = refused-came looked new olds news batch e g
-given-came looked new olds news s result g = idle-came looked new olds news s g.1.0 (g.1.1, same-applied looked new g.1.0)
+given-came looked new olds news s result g = stayed-came looked new olds news s result g (g.1.1, same-applied looked new g.1.0)
 
 pub cut-came : (last : ℕ) (looked new : PollerState) (olds news : List TargetTablet) (s : Step) (result : Result PollAnswer NextFail)
-    → IsCutOff last looked new olds news s result → Came looked new olds news s
+    → IsCutOff last looked new olds news s result → Came looked new olds news s result
 cut-came last looked new olds news (step.Batch batch) (Ok answer) g = record {
   at = looked.acknowledged;
   reader = ap (λ (p : PollerState). p.reader) g.1.0;
   header = ap (λ (p : PollerState). p.header) g.1.0;
   is_open = ap (λ (p : PollerState). p.is_open) g.1.0;
   tablets = first-came looked new olds news batch (last + 1) (let a = ap (λ (p : PollerState). p.applied) g.1.0 in omega arith) g.1.1;
+  answer = g.0;
+  quiet = λ e. cc;
 }
 cut-came last looked new olds news (step.Batch batch) (Err e) g = refused-came looked new olds news batch e g
-cut-came last looked new olds news s result g = idle-came looked new olds news s g.1.0 (g.1.1, same-applied looked new g.1.0)
+cut-came last looked new olds news s result g = stayed-came looked new olds news s result g (g.1.1, same-applied looked new g.1.0)
 
 -- ---- whatever the feed tells
 
-pub fits-still : (headers : List Header) (counts : List ℕ) (asked : ℕ) (old looked new : PollerState) (olds news : List TargetTablet)
-    (s : Step) → Ready headers counts asked old looked olds s → Came looked new olds news s
-    → FitsFeed headers counts new.reader
-fits-still headers counts asked old looked new olds news s r c =
-    subst (FitsFeed headers counts) (sym c.reader) (record { tablet = r.fits.tablet; within = r.fits.within; split = r.fits.split })
-
-pub tablets-still : (headers : List Header) (counts : List ℕ) (asked : ℕ) (old looked new : PollerState) (olds news : List TargetTablet)
-    (s : Step) → Ready headers counts asked old looked olds s → Came looked new olds news s
+tablets-still : (headers : List Header) (counts : List ℕ) (asked : ℕ) (old looked new : PollerState) (olds news : List TargetTablet)
+    (s : Step) (result : Result PollAnswer NextFail)
+    → Ready headers counts asked old looked olds s → Came looked new olds news s result
     → All (CanPoll headers counts new) news
-tablets-still headers counts asked old looked new olds news s r c =
-    All-from_recursion (CanPoll headers counts new) news (go s r c c.tablets)
+tablets-still headers counts asked old looked new olds news s result r c =
+    All-from_recursion (CanPoll headers counts new) news (go s r c.tablets)
   where
     header : new.header ≡ old.header
     header = c.header ∙ header-same old looked r.looked_is
@@ -186,9 +198,9 @@ tablets-still headers counts asked old looked new olds news s r c =
         (λ x y p e. subst (CanPoll headers counts new) (sym e) (still-same headers counts old new x p header is_open low)) before
         (zip-refl (λ x y. y ≡ x) olds (λ x. refl)))
 
-    go : (s : Step) → Ready headers counts asked old looked olds s → Came looked new olds news s → TabletsCame looked new olds news s
+    go : (s : Step) → Ready headers counts asked old looked olds s → TabletsCame looked new olds news s
         → AllByRecursion (CanPoll headers counts new) news
-    go (step.Batch batch) r c t =
+    go (step.Batch batch) r t =
         let o = offered headers counts asked old looked olds batch r in
         let most : new.applied ≤ max old.applied (old.reader.cursor + length batch.records) =
         let a = applied in let b = t.1 in let d = r.looked_is.reader.cursor in omega arith in
@@ -198,7 +210,15 @@ tablets-still headers counts asked old looked new olds news s r c =
         (subst (λ i. Took i batch.from batch.records x y) (id-same old looked r.looked_is) took) header is_open most)
         (λ e. let low : new.applied ≤ old.applied = let a = applied in let b = e.1 in omega arith in
         subst (CanPoll headers counts new) (sym e.0) (still-same headers counts old new x p header is_open low)) h) before t.0
-    go s r c t = same t
+    go s r t = same t
+
+can-again : (headers : List Header) (counts : List ℕ) (asked : ℕ) (old looked new : PollerState) (olds news : List TargetTablet) (s : Step)
+    (result : Result PollAnswer NextFail)
+    → Ready headers counts asked old looked olds s → Came looked new olds news s result → CanPollAll headers counts new news
+can-again headers counts asked old looked new olds news s result r c = record {
+  reader = subst (FitsFeed headers counts) (sym c.reader) (record { tablet = r.fits.tablet; within = r.fits.within; split = r.fits.split });
+  tablets = tablets-still headers counts asked old looked new olds news s result r c;
+}
 
 stood : (headers : List Header) (counts : List ℕ) (asked : ℕ) (old looked new : PollerState) (olds news : List TargetTablet) (s : Step)
     → Ready headers counts asked old looked olds s → new ≡ looked → news ≡ olds
@@ -282,23 +302,17 @@ stopped headers counts asked last old looked new olds news s result r g =
 
 -- ---- where the feed tells its logs
 
-pub answers : (logs : Logs) (b : AcceptedTablet) (asked : ℕ) (old looked new : PollerState) (olds news : List TargetTablet) (s : Step)
-    (answer : PollAnswer)
-    → IsGiven looked new olds news s (Ok answer) → answer ≡ answer_of s
-answers logs b asked old looked new olds news (step.Batch batch) answer g = g.0
-answers logs b asked old looked new olds news s answer g = cc
-
-pub unmoved : (logs : Logs) (olds news : List TargetTablet) → news ≡ olds → KeepStanding logs olds news
+unmoved : (logs : Logs) (olds news : List TargetTablet) → news ≡ olds → KeepStanding logs olds news
 unmoved logs olds news e =
     subst (KeepStanding logs olds) (sym e)
     (zip-refl (λ x y. (u : ℕ) → TabletStandsFor logs u x → TabletStandsFor logs u y) olds (λ x u stands. stands))
 
 -- the tablets that were delivered to stand as before
-pub tablets-stand : (logs : Logs) (b : AcceptedTablet) (headers : List Header) (counts : List ℕ) (asked : ℕ) (old looked new : PollerState)
+tablets-stand : (logs : Logs) (b : AcceptedTablet) (headers : List Header) (counts : List ℕ) (asked : ℕ) (old looked new : PollerState)
     (olds news : List TargetTablet) (s : Step)
-    → Ready headers counts asked old looked olds s → StandsFor logs old b → IsStepOf logs b asked old s → Came looked new olds news s
+    → Ready headers counts asked old looked olds s → StandsFor logs old b → IsStepOf logs b asked old s → TabletsCame looked new olds news s
     → KeepStanding logs olds news
-tablets-stand logs b headers counts asked old looked new olds news (step.Batch batch) r st of c =
+tablets-stand logs b headers counts asked old looked new olds news (step.Batch batch) r st of came =
     let o = offered headers counts asked old looked olds batch r in
     let from : batch.from - 1 ≡ old.reader.cursor = let e = o.given.from in omega arith in
     let there : accepted logs old.header.id ≡ b.records =
@@ -313,8 +327,8 @@ tablets-stand logs b headers counts asked old looked new olds news (step.Batch b
     batches-keep logs x y u old.header.id batch.from batch.records stands can.started can.first can.next are
     (subst (λ i. Took i batch.from batch.records x y) (id-same old looked r.looked_is) took).taken)
     (λ e. subst (TabletStandsFor logs u) (sym e.0) stands) h)
-    (recursion_from_All (CanPoll headers counts old) olds r.tablets) c.tablets.0
-tablets-stand logs b headers counts asked old looked new olds news s r st of c = unmoved logs olds news c.tablets.0
+    (recursion_from_All (CanPoll headers counts old) olds r.tablets) came.0
+tablets-stand logs b headers counts asked old looked new olds news s r st of came = unmoved logs olds news came.0
 
 pub given-stands : (logs : Logs) (b : AcceptedTablet) (headers : List Header) (counts : List ℕ) (asked : ℕ) (old looked new : PollerState)
     (olds news : List TargetTablet) (s : Step) (result : Result PollAnswer NextFail)
@@ -345,14 +359,78 @@ cut-stands logs b last looked new olds news (step.Batch batch) (Ok answer) st g 
 cut-stands logs b last looked new olds news (step.Batch batch) (Err e) st g = subst (λ (p : PollerState). StandsFor logs p b) (sym g.1.0) st
 cut-stands logs b last looked new olds news s result st g = subst (λ (p : PollerState). StandsFor logs p b) (sym g.1.0) st
 
+-- what a poll makes of logs, where its step leaves the poller standing for them
+polls-logs : (o : Option Logs) (headers : List Header) (counts : List ℕ) (asked : ℕ) (old looked new : PollerState)
+    (olds news : List TargetTablet) (s : Step) (result : Result PollAnswer NextFail)
+    → Ready headers counts asked old looked olds s → Came looked new olds news s result
+    → ((logs : Logs) (b : AcceptedTablet) → StandsFor logs looked b → IsStepOf logs b asked old s → StandsFor logs new b)
+    → IfSome o (λ logs. (b : AcceptedTablet) → StandsFor logs old b → StandsFor logs looked b)
+    → IfSome o (λ logs. (b : AcceptedTablet) → StandsFor logs old b → IsStepOf logs b asked old s)
+    → IfSome o (λ logs. (b : AcceptedTablet) → StandsFor logs old b → PollsLogs logs b asked old new olds news result)
+polls-logs None headers counts asked old looked new olds news s result r c stays stood is = tt
+polls-logs (Some logs) headers counts asked old looked new olds news s result r c stays stood is = λ b st. record {
+  answer = λ is_open. answer-is (answer_of s) _ result c.answer ((is b st).answer is_open);
+  stands = stays logs b (stood b st) (is b st);
+  tablets = tablets-stand logs b headers counts asked old looked new olds news s r st (is b st) c.tablets;
+}
+  where
+    answer-is : (x y : PollAnswer) (result : Result PollAnswer NextFail) → IfOk result (λ a. a ≡ x) → x ≡ y → IfOk result (λ a. a ≡ y)
+    answer-is x y (Ok a) h e = h ∙ e
+    answer-is x y (Err f) h e = tt
+
+-- and where it fails before anything is delivered
+fails-logs : (o : Option Logs) (asked : ℕ) (old new : PollerState) (xs : List TargetTablet) (e : NextFail)
+    → IfSome o (λ logs. (b : AcceptedTablet) → StandsFor logs old b → StandsFor logs new b)
+    → IfSome o (λ logs. (b : AcceptedTablet) → StandsFor logs old b → PollsLogs logs b asked old new xs xs (Err e))
+fails-logs None asked old new xs e stood = tt
+fails-logs (Some logs) asked old new xs e stood =
+    λ b st. record { answer = λ is_open. tt; stands = stood b st; tablets = unmoved logs xs xs refl }
+
+-- ---- a call
+
+module _ {Of : Type 0} (headers : Of → List Header) (counts : Of → List ℕ) (logs : Of → Option Logs) (faults : Of → ℕ) (asked : ℕ)
+    (before after : Of) (old : PollerState) (olds : List TargetTablet) (same : SameFeed headers counts logs faults before after) where
+  can-now : (p : PollerState) (xs : List TargetTablet) → CanPollAll (headers before) (counts before) p xs
+      → CanPollAll (headers after) (counts after) p xs
+  can-now p xs can = subst (λ hs. CanPollAll hs (counts after) p xs) (sym same.same_headers)
+      (subst (λ cs. CanPollAll (headers before) cs p xs) (sym same.same_counts) can)
+
+  pub poll-call : (looked new : PollerState) (news : List TargetTablet) (s : Step) (result : Result PollAnswer NextFail)
+      → Ready (headers before) (counts before) asked old looked olds s → Came looked new olds news s result
+      → ((told : Logs) (b : AcceptedTablet) → StandsFor told looked b → IsStepOf told b asked old s → StandsFor told new b)
+      → IfSome (logs before) (λ told. (b : AcceptedTablet) → StandsFor told old b → StandsFor told looked b)
+      → IfSome (logs before) (λ told. (b : AcceptedTablet) → StandsFor told old b → IsStepOf told b asked old s)
+      → faults after ≡ faults before
+      → PollCall headers counts logs faults asked before after old new olds news result
+  poll-call looked new news s result r c stays stood is quiet = record {
+    can = can-now new news (can-again (headers before) (counts before) asked old looked new olds news s result r c);
+    told = polls-logs (logs before) (headers before) (counts before) asked old looked new olds news s result r c stays stood is;
+    fault = record { rose = λ e. absurd (c.quiet e); quiet = λ _. quiet };
+    feed = same;
+  }
+
+  pub failed-call : (new : PollerState) (e : NextFail) → new ≡ old → CanPollAll (headers before) (counts before) old olds
+      → IfSome (logs before) (λ told. (b : AcceptedTablet) → StandsFor told old b → StandsFor told new b)
+      → CountsFault (IsErrOf {T = Step} (Err e) fail.ReadFault) (faults before) (faults after)
+      → PollCall headers counts logs faults asked before after old new olds olds (Err e)
+  failed-call new e is can stood fault = record {
+    can = can-now new olds (subst (λ p. CanPollAll (headers before) (counts before) p olds) (sym is) can);
+    told = fails-logs (logs before) asked old new olds e stood;
+    fault = record { rose = λ h. fault.rose (err-of e fail.ReadFault h); quiet = λ n. fault.quiet (λ h. n (err-of e fail.ReadFault h)) };
+    feed = same;
+  }
+    where
+      err-of : {S T : Type 0} (e f : NextFail) → IsErrOf {T = S} (Err e) f → IsErrOf {T = T} (Err e) f
+      err-of e f h = let is : e ≡ f = cc in ap Err is
+
 -- ---- the premises, as a call has them
 
 pub ready-of : (headers headers' : List Header) (counts counts' : List ℕ) (asked : ℕ) (logs : Option Logs) (old looked : PollerState)
     (olds : List TargetTablet) (s : Step)
     → IsFeed headers counts logs → IsPoller old → headers' ≡ headers → counts' ≡ counts → Looked old looked
     → FitsFeed headers' counts' looked.reader → IsStep headers counts asked old looked s
-    → All (CanPoll headers counts old) olds → Ready headers counts asked old looked olds s
-ready-of headers headers' counts counts' asked logs old looked olds s feed is same_headers same_counts look fits steps tablets = record {
+    → CanPollAll headers counts old olds → Ready headers counts asked old looked olds s
+ready-of headers headers' counts counts' asked logs old looked olds s feed is same_headers same_counts look fits steps can = record {
   small = feed.small old.reader.id;
   id = is.id;
   cursor = is.cursor;
@@ -360,18 +438,8 @@ ready-of headers headers' counts counts' asked logs old looked olds s feed is sa
   looked_is = look;
   fits = subst (λ hs. FitsFeed hs counts looked.reader) same_headers (subst (λ cs. FitsFeed headers' cs looked.reader) same_counts fits);
   step_is = steps;
-  tablets = tablets;
+  tablets = can.tablets;
 }
-
-pub still-at : (headers headers' : List Header) (counts counts' : List ℕ) (new : PollerState) (news : List TargetTablet)
-    → headers' ≡ headers → counts' ≡ counts
-    → All (CanPoll headers counts new) news → All (CanPoll headers' counts' new) news
-still-at headers headers' counts counts' new news same_headers same_counts h =
-    subst (λ hs. All (CanPoll hs counts' new) news) (sym same_headers) (subst (λ cs. All (CanPoll headers cs new) news) (sym same_counts) h)
-
-pub if-both : {A : Type 0} (P Q R : A → Type 0) (o : Option A) → IfSome o P → IfSome o Q → ((x : A) → P x → Q x → R x) → IfSome o R
-if-both P Q R None p q h = tt
-if-both P Q R (Some x) p q h = h x p q
 
 rises-same : (old looked new : PollerState) → Looked old looked → new ≡ looked → Rises old new
 rises-same old looked new look e =

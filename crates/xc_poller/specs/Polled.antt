@@ -1,6 +1,7 @@
 -- What a poll does to a poller and to the target tablets.
 --     CanPoll headers counts p x      the target tablet x can take in what the poller p gets from a feed with these headers and numbers of
 --         records
+--     CanPollAll headers counts p xs      so can each of the tablets xs, and the reader of p fits the feed
 --     Looked old new      the reader of the poller looked further, and nothing else changed
 --     IsStep headers counts max old new step      what comes next of a poller, whatever the feed tells
 --     IsStepOf logs b max old step      what comes next of the logs
@@ -10,7 +11,11 @@
 --     IsStopped headers counts max last old new olds news result      what a poll does that is cut off after the tablet of the number
 --         `last`
 --     KeepStanding logs olds news      each tablet stands for the logs as it did before
+--     PollsLogs logs b max old new olds news result      what a poll does of logs that the poller stands for
+--     PollCall headers counts logs faults max before after old new olds news result      what a poll does of a feed, as these show it,
+--         whether or not it is cut off
 use Rattle.std.specs.Prelude.{◌≡◌, ◌⊎◌, ℕ, ◌+◌, ◌≤◌, true, false, List, [], length, take, drop, Some, Result, Ok, Err, is_some, slice_index}
+use Rattle.std.specs.Prelude.{Option, All, IfOk, IfSome, IsErrOf}
 use Rattle.std.specs.List.{AllZip}
 use Rattle.xc_record.specs.declared.record.Header.{Header}
 use Rattle.xc_record.specs.declared.record.Logs.{Logs}
@@ -20,6 +25,7 @@ use Rattle.xc_record.specs.declared.session.PollAnswer.TheVariants as poll
 use Rattle.xc_record.specs.Headers.{children}
 use Rattle.xc_record.specs.Accepted.{AcceptedTablet, records}
 use Rattle.xc_record.specs.Step.{answer_from}
+use Rattle.xc_logs.specs.Feed.{SameFeed, CountsFault}
 use Rattle.xc_model.specs.Floors.{has_closed, has_started}
 use Rattle.xc_model.specs.Stands.{TargetTablet, TakesBatch, StandsFor as TabletStandsFor}
 use Rattle.xc_model.specs.Laws.{BatchTaken}
@@ -29,10 +35,10 @@ use Rattle.xc_change.specs.declared.batch.NextFail.TheVariants as fail
 use Rattle.xc_change.specs.declared.batch.Next.{Next}
 use Rattle.xc_change.specs.declared.batch.Next.TheVariants as next
 use Rattle.xc_change.specs.declared.batch.Batch.{Batch}
-use Rattle.xc_change.specs.Reader.{Stays, IsBatch, IsNext}
+use Rattle.xc_change.specs.Reader.{FitsFeed as ReaderFits, Stays, IsBatch, IsNext}
 use Rattle.xc_poller.specs.declared.step.Step.{Step}
 use Rattle.xc_poller.specs.declared.step.Step.TheVariants as step
-use Rattle.xc_poller.specs.Poller.{PollerState, done, restarted}
+use Rattle.xc_poller.specs.Poller.{PollerState, StandsFor, done, restarted}
 
 -- ---- before a poll
 
@@ -43,6 +49,10 @@ pub record CanPoll (headers : List Header) (counts : List ℕ) (p : PollerState)
   pub childless : (s : ℕ) → is_some (children headers s) ≡ false → has_closed x.floors s ≡ false
   pub applied : p.applied ≤ slice_index x.places p.header.id
   pub started : p.is_open ≡ true → has_started x.floors p.header.id ≡ true
+
+pub record CanPollAll (headers : List Header) (counts : List ℕ) (p : PollerState) (xs : List TargetTablet) : Type 0 where
+  pub reader : ReaderFits headers counts p.reader
+  pub tablets : All (CanPoll headers counts p) xs
 
 -- ---- what comes next
 
@@ -95,6 +105,25 @@ pub record TookFirst (id from : ℕ) (rs : List Record) (k : ℕ) (olds news : L
 
 abbrev pub KeepStanding : Logs → List TargetTablet → List TargetTablet → Type 0
 KeepStanding logs olds news = AllZip (λ x y. (u : ℕ) → TabletStandsFor logs u x → TabletStandsFor logs u y) olds news
+
+-- an open poller answers what comes of its tablet, and it and the tablets stand for the logs as before
+pub record PollsLogs (logs : Logs) (b : AcceptedTablet) (max : ℕ) (old new : PollerState) (olds news : List TargetTablet)
+    (result : Result PollAnswer NextFail) : Type 0 where
+  pub answer : old.is_open ≡ true → IfOk result (λ a. a ≡ answer_from b (records logs old.header.id) old.reader.cursor max)
+  pub stands : StandsFor logs new b
+  pub tablets : KeepStanding logs olds news
+
+pub record PollCall {Of : Type 0} (headers : Of → List Header) (counts : Of → List ℕ) (logs : Of → Option Logs) (faults : Of → ℕ)
+    (max : ℕ) (before after : Of) (old new : PollerState) (olds news : List TargetTablet) (result : Result PollAnswer NextFail) : Type 0
+  where
+    -- it can go on, whatever the feed tells
+    pub can : CanPollAll (headers after) (counts after) new news
+    -- where the feed tells logs that the poller stands for
+    pub told : IfSome (logs before) (λ told. (b : AcceptedTablet) → StandsFor told old b → PollsLogs told b max old new olds news result)
+    -- a read fault has its cause in the feed
+    pub fault : CountsFault (IsErrOf result fail.ReadFault) (faults before) (faults after)
+    -- what each call of a feed keeps
+    pub feed : SameFeed headers counts logs faults before after
 
 -- ---- a whole poll
 

@@ -1,18 +1,17 @@
 // A poller.
 ghost use Rattle.std.specs.Prelude.{◌≡◌, ◌≤◌, ◌<◌, ◌+◌, ℕ, true, false, Some, None, List, length, take, drop};
-ghost use Rattle.std.specs.Prelude.{Option, All, IfOk, IfSome, OnErr, IsErrOf};
+ghost use Rattle.std.specs.Prelude.{Option, IfOk, IfSome, OnErr, IsErrOf};
 ghost use Rattle.xc_record.specs.declared.record.Header.{Header as HeaderOf};
 ghost use Rattle.xc_record.specs.declared.record.Logs.{Logs};
-ghost use Rattle.xc_record.specs.Accepted.{AcceptedTablet, accepted_tablet, records};
+ghost use Rattle.xc_record.specs.Accepted.{AcceptedTablet, accepted_tablet};
 ghost use Rattle.xc_record.specs.SafeTime.{is_closed_at};
 ghost use Rattle.xc_record.specs.Session.{IsInOrder};
-ghost use Rattle.xc_record.specs.Step.{answer_from};
 ghost use Rattle.xc_record.specs.Valid.{is_valid};
 ghost use Rattle.xc_logs.specs.Feed.{IsFeed, SameFeed, CountsFault};
 ghost use Rattle.xc_change.specs.Reader.{FitsFeed};
 ghost use Rattle.xc_poller.specs.Poller.{position_of, is_closed, new_poller, opened, done, confirmed, restarted};
 ghost use Rattle.xc_poller.specs.Poller.{StandsFor, HasNotBegun, KeepsFeeds, Rises};
-ghost use Rattle.xc_poller.specs.Polled.{CanPoll, Looked, IsStep, IsStepOf, IsPolled, IsStopped, KeepStanding};
+ghost use Rattle.xc_poller.specs.Polled.{CanPollAll, Looked, IsStep, IsStepOf, PollCall, IsPolled, IsStopped};
 ghost use Rattle.xc_poller.specs.Delivery.{CanGive, IsGiven, IsCutOff};
 
 use crate::delivery::deliver_first;
@@ -274,31 +273,14 @@ impl Poller {
         n: u64,
         tablets: &mut [TargetTablet],
     ) -> Result<PollAnswer, NextFail>
-        requires fits { FitsFeed (F.headers feed.old) (F.counts feed.old) self.old.reader }
+        requires can { CanPollAll (F.headers feed.old) (F.counts feed.old) self.old tablets.old }
         requires some { 1 ≤ n }
-        requires tablets { All (CanPoll (F.headers feed.old) (F.counts feed.old) self.old) tablets.old }
-
-        // Whatever the feed tells.
-        ensures fits { FitsFeed (F.headers feed.new) (F.counts feed.new) self.new.reader }
-        ensures tablets { All (CanPoll (F.headers feed.new) (F.counts feed.new) self.new) tablets.new }
+        // What stands whether or not it is cut off.
+        ensures call { PollCall F.headers F.counts F.logs F.faults n feed.old feed.new self.old self.new tablets.old
+            tablets.new result }
         ensures polled { IsPolled (F.headers feed.old) (F.counts feed.old) n self.old self.new tablets.old tablets.new
             result }
         ensures rises { Rises self.old self.new }
-
-        // Where it tells logs that the poller stands for.
-        ensures answer { IfSome (F.logs feed.old) (λ logs. (b : AcceptedTablet) → StandsFor logs self.old b
-            → self.old.is_open ≡ true
-            → IfOk result (λ a. a ≡ answer_from b (records logs self.old.header.id) self.old.reader.cursor n)) }
-        ensures stands { IfSome (F.logs feed.old) (λ logs. (b : AcceptedTablet) → StandsFor logs self.old b
-            → StandsFor logs self.new b) }
-        ensures keep_standing { IfSome (F.logs feed.old) (λ logs. (b : AcceptedTablet) → StandsFor logs self.old b
-            → KeepStanding logs tablets.old tablets.new) }
-
-        // A read fault has its cause in the feed.
-        ensures fault { CountsFault (IsErrOf result NextFail.ReadFault) (F.faults feed.old) (F.faults feed.new) }
-
-        // What each call of a feed keeps.
-        ensures feed { SameFeed F.headers F.counts F.logs F.faults feed.old feed.new }
     {
         // The check knows the poller's invariant in a function that reads a field.
         let _ = &self.header;
@@ -317,32 +299,15 @@ impl Poller {
         tablets: &mut [TargetTablet],
         last: usize,
     ) -> Result<PollAnswer, NextFail>
-        requires fits { FitsFeed (F.headers feed.old) (F.counts feed.old) self.old.reader }
+        requires can { CanPollAll (F.headers feed.old) (F.counts feed.old) self.old tablets.old }
         requires some { 1 ≤ n }
-        requires tablets { All (CanPoll (F.headers feed.old) (F.counts feed.old) self.old) tablets.old }
         requires last { last < length tablets.old }
-
-        // Whatever the feed tells.
-        ensures fits { FitsFeed (F.headers feed.new) (F.counts feed.new) self.new.reader }
-        ensures tablets { All (CanPoll (F.headers feed.new) (F.counts feed.new) self.new) tablets.new }
+        // What stands whether or not it is cut off.
+        ensures call { PollCall F.headers F.counts F.logs F.faults n feed.old feed.new self.old self.new tablets.old
+            tablets.new result }
         ensures stopped { IsStopped (F.headers feed.old) (F.counts feed.old) n last self.old self.new tablets.old
             tablets.new result }
         ensures others { drop (last + 1) tablets.new ≡ drop (last + 1) tablets.old }
-
-        // Where it tells logs that the poller stands for.
-        ensures answer { IfSome (F.logs feed.old) (λ logs. (b : AcceptedTablet) → StandsFor logs self.old b
-            → self.old.is_open ≡ true
-            → IfOk result (λ a. a ≡ answer_from b (records logs self.old.header.id) self.old.reader.cursor n)) }
-        ensures stands { IfSome (F.logs feed.old) (λ logs. (b : AcceptedTablet) → StandsFor logs self.old b
-            → StandsFor logs self.new b) }
-        ensures keep_standing { IfSome (F.logs feed.old) (λ logs. (b : AcceptedTablet) → StandsFor logs self.old b
-            → KeepStanding logs tablets.old tablets.new) }
-
-        // A read fault has its cause in the feed.
-        ensures fault { CountsFault (IsErrOf result NextFail.ReadFault) (F.faults feed.old) (F.faults feed.new) }
-
-        // What each call of a feed keeps.
-        ensures feed { SameFeed F.headers F.counts F.logs F.faults feed.old feed.new }
     {
         // The check knows the poller's invariant in a function that reads a field.
         let _ = &self.header;

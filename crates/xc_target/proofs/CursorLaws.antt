@@ -77,7 +77,7 @@ module _ (hs : List Header) (cs : List ℕ) (o : Option Logs) (n id k : ℕ) (t 
       let far : p.reader.cursor + length batch.records ≤ looked.reader.checked = mv.given.checked in
       let all : q.reader.checked ≤ slice_index cs id =
       subst (λ (i : ℕ). q.reader.checked ≤ slice_index cs i)
-      (came.kept.reader ∙ reader-is hs cs o t id p feed f c.at) c.reader.within in
+      (came.kept.reader ∙ reader-is hs cs o t id p feed f c.at) c.can.reader.within in
       omega arith
 
   pub moves-there : (new : TargetState) → slice_get new.pollers id ≡ Some q → MovesOn cs id t new (poll.Polled k)

@@ -1,7 +1,7 @@
 -- The step of a session that a poll makes, whole or cut off, from what is known of one call of its poller.
 use Rattle.std.proofs.Common.{◌≡◌, ℕ, ◌<◌, true, false, cond, List, [], ◌∷◌, map, length, Option, Some, None, Result, Ok, Err, refl, ap}
 use Rattle.std.proofs.Common.{sym, ◌∙◌, subst, arith, get_or}
-use Rattle.std.specs.Prelude.{All, IfOk, IfSome, MatchResult, IsErrAnd, slice_get, slice_set}
+use Rattle.std.specs.Prelude.{IfOk, IfSome, MatchResult, IsErrAnd, slice_get, slice_set}
 use Rattle.std.specs.List.{AllZip}
 use Rattle.std.proofs.lemmas.List.Elements.{recursion_from_All, length_all_zip}
 use Rattle.std.proofs.lemmas.Option.{slice_get_within}
@@ -18,11 +18,11 @@ use Rattle.xc_model.specs.Rows.{range_of}
 use Rattle.xc_model.specs.Stands.{TargetTablet}
 use Rattle.xc_model.proofs.Parents.{each-get, get-id}
 use Rattle.xc_logs.specs.Feed.{IsFeed}
-use Rattle.xc_change.specs.Reader.{FitsFeed as ReaderFits}
 use Rattle.xc_change.specs.declared.batch.NextFail.{NextFail}
 use Rattle.xc_change.specs.declared.batch.NextFail.TheVariants as next
 use Rattle.xc_poller.specs.Poller.{PollerState, position_of, is_closed, StandsFor as PollerStandsFor}
-use Rattle.xc_poller.specs.Polled.{CanPoll, KeepStanding, IsPolled as PollerPolled, IsStopped as PollerStopped}
+use Rattle.xc_poller.specs.Polled.{CanPoll, CanPollAll, PollsLogs, PollCall, KeepStanding}
+use Rattle.xc_poller.specs.Polled.{IsPolled as PollerPolled, IsStopped as PollerStopped}
 use Rattle.xc_target.specs.declared.answers.TargetFail.{TargetFail}
 use Rattle.xc_target.specs.Target.{TargetState, headers_of_pollers, opened_by, FitsFeed, Opens}
 use Rattle.xc_target.specs.Stands.{Polls, StandsForSession}
@@ -39,13 +39,9 @@ pub record Called (hs : List Header) (cs : List ℕ) (o : Option Logs) (n id : �
     (ys : List TargetTablet) (r : Result PollAnswer NextFail) : Type 0 where
   pub still_open : t.closed ≡ None
   pub at : slice_get t.pollers id ≡ Some p
-  pub reader : ReaderFits hs cs q.reader
-  pub tablets : All (CanPoll hs cs q) ys
+  pub can : CanPollAll hs cs q ys
   pub ended : Ended p q t.tablets ys r
-  pub answer : IfSome o (λ logs. (b : AcceptedTablet) → PollerStandsFor logs p b → p.is_open ≡ true
-      → IfOk r (λ a. a ≡ answer_from b (records logs p.header.id) p.reader.cursor n))
-  pub stands : IfSome o (λ logs. (b : AcceptedTablet) → PollerStandsFor logs p b → PollerStandsFor logs q b)
-  pub keep : IfSome o (λ logs. (b : AcceptedTablet) → PollerStandsFor logs p b → KeepStanding logs t.tablets ys)
+  pub polls : IfSome o (λ logs. (b : AcceptedTablet) → PollerStandsFor logs p b → PollsLogs logs b n p q t.tablets ys r)
 
 abbrev pub put_in : TargetState → ℕ → PollerState → List TargetTablet → TargetState
 put_in t id q ys = record { tablets = ys; pollers = slice_set t.pollers id q; cutoff = t.cutoff; closed = t.closed }
@@ -98,7 +94,7 @@ after-shut q ps shut = ap (λ b. cond b (map (opened_by q) ps) ps) shut
 
 module _ (hs : List Header) (cs : List ℕ) (n id : ℕ) (t : TargetState) (p q : PollerState) (ys : List TargetTablet) where
   can : (o : Option Logs) (r : Result PollAnswer NextFail) → Called hs cs o n id t p q ys r → Each (CanPoll hs cs q) ys
-  can o r c = recursion_from_All (CanPoll hs cs q) ys c.tablets
+  can o r c = recursion_from_All (CanPoll hs cs q) ys c.can.tablets
 
   grows : (o : Option Logs) (r : Result PollAnswer NextFail) → Called hs cs o n id t p q ys r → AllZip Grows t.tablets ys
   grows o r c = grows-of p q t.tablets ys c.ended.kept
@@ -120,7 +116,7 @@ module _ (hs : List Header) (cs : List ℕ) (n id : ℕ) (t : TargetState) (p q 
       → FitsFeed hs cs t → FitsFeed hs cs (put_in t id q ys)
   fits-called o r feed c f =
       let k = c.ended.kept in
-      fits-polled hs cs o feed t id p q c.at k.header k.reader c.reader f ys (can o r c) (grows o r c)
+      fits-polled hs cs o feed t id p q c.at k.header k.reader c.can.reader f ys (can o r c) (grows o r c)
 
   -- its children are opened
   pub fits-children : (o : Option Logs) (r : Result PollAnswer NextFail) → IsFeed hs cs o → Called hs cs o n id t p q ys r
@@ -130,7 +126,7 @@ module _ (hs : List Header) (cs : List ℕ) (n id : ℕ) (t : TargetState) (p q 
       let before = fits-called o r feed c f in
       let here = get-set-here t.pollers id p q c.at in
       let own = each-get (λ (p : PollerState). p.reader.id ≡ p.header.id) (slice_set t.pollers id q) id q before.numbers here in
-      fits-opened hs cs o feed q own closed c.reader (put_in t id q ys) id rs here z before
+      fits-opened hs cs o feed q own closed c.can.reader (put_in t id q ys) id rs here z before
 
   -- ---- where it tells logs
 
@@ -144,7 +140,7 @@ module _ (hs : List Header) (cs : List ℕ) (n id : ℕ) (t : TargetState) (p q 
         let number : p.header.id ≡ id = ap (λ (h : Header). h.id) polls.header ∙ get-id logs id b st.valid found.1 in
         which a c.ended.says
         (λ parent w e. waits-answer logs m t id p b st c.at found.1 n parent w e)
-        (λ o. c.answer b (polls.stands o) o ∙ ap (λ i. answer_from b (records logs i) p.reader.cursor n) number
+        (λ o. (c.polls b (polls.stands o)).answer o ∙ ap (λ i. answer_from b (records logs i) p.reader.cursor n) number
         ∙ sym (open-answer logs m t id p b st c.at found.1 n o))
       where
         which : (a : PollAnswer) → Says p a
@@ -160,7 +156,8 @@ module _ (hs : List Header) (cs : List ℕ) (n id : ℕ) (t : TargetState) (p q 
         → Made logs m (with_position id (position_of q) m) (put_in t id q ys)
     rested-step r i c =
         let found = there logs m t id p is st c.at in
-        rested-made logs m t id p q found.0 st c.still_open c.at found.1 ys i (c.stands found.0) (c.keep found.0)
+        rested-made logs m t id p q found.0 st c.still_open c.at found.1 ys i (λ st. (c.polls found.0 st).stands)
+        (λ st. (c.polls found.0 st).tablets)
 
     idle-step : (r : Result PollAnswer NextFail) → IsIdle r → Called hs cs (Some logs) n id t p q ys r → Made logs m m (put_in t id q ys)
     idle-step r i c =
@@ -176,11 +173,12 @@ module _ (hs : List Header) (cs : List ℕ) (n id : ℕ) (t : TargetState) (p q 
         let b = found.0 in
         let polls : Polls logs m b p = st.pollers id b p found.1 c.at in
         let before : PollerStandsFor logs p b = polls.stands d.was_open in
-        let left = left-all logs hs cs q t.tablets ys (grows (Some logs) (Ok (poll.Polled k)) c) (c.keep b before)
+        let after = c.polls b before in
+        let left = left-all logs hs cs q t.tablets ys (grows (Some logs) (Ok (poll.Polled k)) c) after.tablets
         (can (Some logs) (Ok (poll.Polled k)) c) in
         let made = polled-made logs m t id p q b is st c.still_open c.at found.1 d.kept.header d.was_open
         (d.kept.is_open ∙ d.was_open) d.rises
-        (d.checked polls.found) (c.stands b before) ys left in
+        (d.checked polls.found) after.stands ys left in
         subst (λ (w : Position). Made logs m (with_position id w m) (with_pollers t ys (after_poll q (slice_set t.pollers id q))))
         (d.position ∙ ap (moved k) (sym (position-is t.pollers m id p st.positions c.at))) made
 
@@ -229,25 +227,21 @@ module _ (hs : List Header) (cs : List ℕ) (n id : ℕ) (t : TargetState) (p q 
 
 -- ---- the facts of a call, as the call gives them
 
-pub make-called : (hs hs' : List Header) (cs cs' : List ℕ) (o : Option Logs) (n id : ℕ) (t now : TargetState) (p q : PollerState)
-    (xs ys : List TargetTablet) (r : Result PollAnswer NextFail) → t ≡ now → t.closed ≡ None
-    → id < length now.pollers → p ≡ get_or t.pollers id p → xs ≡ t.tablets → hs' ≡ hs → cs' ≡ cs
-    → ReaderFits hs' cs' q.reader → All (CanPoll hs' cs' q) ys → Ended p q xs ys r
-    → IfSome o (λ logs. (b : AcceptedTablet) → PollerStandsFor logs p b → p.is_open ≡ true
-    → IfOk r (λ a. a ≡ answer_from b (records logs p.header.id) p.reader.cursor n))
-    → IfSome o (λ logs. (b : AcceptedTablet) → PollerStandsFor logs p b → PollerStandsFor logs q b)
-    → IfSome o (λ logs. (b : AcceptedTablet) → PollerStandsFor logs p b → KeepStanding logs xs ys)
-    → Called hs cs o n id t p q ys r
-make-called hs hs' cs cs' o n id t now p q xs ys r view still_open known here ex eh ec fits tablets ended answer stands keep =
+pub make-called : {Of : Type 0} (headers : Of → List Header) (counts : Of → List ℕ) (logs : Of → Option Logs) (faults : Of → ℕ) (n id : ℕ)
+    (before after : Of) (t now : TargetState) (p q : PollerState) (xs ys : List TargetTablet) (r : Result PollAnswer NextFail)
+    → t ≡ now → t.closed ≡ None → id < length now.pollers → p ≡ get_or t.pollers id p → xs ≡ t.tablets
+    → PollCall headers counts logs faults n before after p q xs ys r → Ended p q xs ys r
+    → Called (headers before) (counts before) (logs before) n id t p q ys r
+make-called headers counts logs faults n id before after t now p q xs ys r view still_open known here same call ended =
     record {
       still_open = still_open;
       at = poller-read t now id p view known here;
-      reader = subst (λ h. ReaderFits h cs q.reader) eh (subst (λ c. ReaderFits hs' c q.reader) ec fits);
-      tablets = subst (λ h. All (CanPoll h cs q) ys) eh (subst (λ c. All (CanPoll hs' c q) ys) ec tablets);
-      ended = subst (λ w. Ended p q w ys r) ex ended;
-      answer = answer;
-      stands = stands;
-      keep = subst (λ w. IfSome o (λ logs. (b : AcceptedTablet) → PollerStandsFor logs p b → KeepStanding logs w ys)) ex keep;
+      can = subst (λ hs. CanPollAll hs (counts before) q ys) call.feed.same_headers
+          (subst (λ cs. CanPollAll (headers after) cs q ys) call.feed.same_counts call.can);
+      ended = subst (λ w. Ended p q w ys r) same ended;
+      polls = subst
+          (λ w. IfSome (logs before) (λ told. (b : AcceptedTablet) → PollerStandsFor told p b → PollsLogs told b n p q w ys r)) same
+          call.told;
     }
 
 -- a failure told as the target's own

@@ -1,7 +1,7 @@
-use Rattle.std.proofs.Common.{subst, refl}
-use Rattle.std.proofs.lemmas.Option.{IfSome_then}
+use Rattle.std.proofs.Common.{subst}
+use Rattle.std.proofs.lemmas.Result.{err_from_is_err_and}
 use Rattle.xc_poller.specs.Poller.{IsPoller}
-use Rattle.xc_poller.proofs.PollLaws.{Ready, ready-of, Came, still-at, can-give, cut-came, tablets-still, tablets-stand, unmoved}
+use Rattle.xc_poller.proofs.PollLaws.{Ready, ready-of, Came, can-give, poll-call, failed-call, cut-came, cut-stands}
 use Rattle.xc_poller.proofs.poller.Poller.stopped_poll.Given.{Over}
 use Rattle.xc_poller.proofs.poller.Poller.stopped_poll.Goals as goal
 use Rattle.xc_poller.proofs.poller.Poller.stopped_poll.Goals.{In_ok-step, After-cut_off}
@@ -12,28 +12,27 @@ ready : (g : Over) (c : In_ok-step g)
 ready g c =
     let k = c.next_batch.ensures in
     ready-of _ _ _ _ _ _ _ _ _ _ (g.met.F.Feed.shape c.args.feed.now) (subst IsPoller c.self.view_is c.self.invariant)
-    k.feed.same_headers k.feed.same_counts k.looked k.fits c.in_ok-step.ensures.step c.requires.tablets
+    k.feed.same_headers k.feed.same_counts k.looked k.fits c.in_ok-step.ensures.step c.requires.can
 
 came : (g : Over) (c : After-cut_off g)
-    → Came c.next_batch.new.self c.cut_off.new.self c.args.tablets.now c.cut_off.new.tablets c.in_ok-step.step
-came g c = cut-came c.args.last _ _ _ _ _ c.cut_off.result c.cut_off.ensures.cut_off
+    → Came c.next_batch.new.self c.cut_off.new.self c.args.tablets.now c.cut_off.new.tablets c.in_ok-step.step c.cut_off.result
+came g c = cut-came c.args.last _ _ _ _ _ _ c.cut_off.ensures.cut_off
 
-pub returns-in_err-step-clause-keep_standing : goal.returns-in_err-step-clause-keep_standing
-returns-in_err-step-clause-keep_standing g c =
-    IfSome_then (g.F.Feed.logs c.args.feed.now) c.in_err-step.ensures.stands
-    (λ logs held b st. unmoved logs c.args.tablets.now c.args.tablets.now refl)
+pub returns-in_err-step-clause-call : goal.returns-in_err-step-clause-call
+returns-in_err-step-clause-call g c =
+    let k = c.in_err-step.ensures in
+    let p = err_from_is_err_and c.from_residual.result c.from_residual.ensures.1 in
+    rw (p.1, p.2) (failed-call _ _ _ _ _ _ _ _ _ k.feed _ _ k.failed c.requires.can k.stands k.fault)
 
 pub cut_off-requires-clause-can : goal.cut_off-requires-clause-can
 cut_off-requires-clause-can g c = can-give _ _ _ _ _ _ _ (ready g (goal.at.cut_off-requires-clause-can g c).In_ok-step)
 
-pub returns-clause-tablets : goal.returns-clause-tablets
-returns-clause-tablets g c =
-    let a = goal.at.returns-clause-tablets g c in
-    still-at _ _ _ _ c.cut_off.new.self c.cut_off.new.tablets c.next_batch.ensures.feed.same_headers c.next_batch.ensures.feed.same_counts
-    (tablets-still _ _ _ _ _ _ _ _ _ (ready g a.In_ok-step) (came g a.After-cut_off))
-
-pub returns-clause-keep_standing : goal.returns-clause-keep_standing
-returns-clause-keep_standing g c =
-    let a = goal.at.returns-clause-keep_standing g c in
-    IfSome_then (g.F.Feed.logs c.args.feed.now) c.in_ok-step.ensures.step_of
-    (λ logs held b st. tablets-stand logs b _ _ _ _ _ _ _ _ _ (ready g a.In_ok-step) st (held b st) (came g a.After-cut_off))
+pub returns-clause-call : goal.returns-clause-call
+returns-clause-call g c =
+    let a = goal.at.returns-clause-call g c in
+    let k = c.in_ok-step.ensures in
+    let r = ready g a.In_ok-step in
+    poll-call _ _ _ _ _ _ _ _ _ k.feed _ _ _ _ _ r (came g a.After-cut_off)
+    (λ logs b st of. cut-stands logs b c.args.last _ _ c.args.tablets.now c.cut_off.new.tablets _ c.cut_off.result st
+    c.cut_off.ensures.cut_off)
+    k.stands k.step_of (k.fault.quiet (λ e. cc))

@@ -39,9 +39,8 @@ called : (g : Over) (c : After-poll-polled g)
     (before g c) c.index_mut-poller.result.now c.poll-polled.new.self c.poll-polled.new.tablets c.poll-polled.result
 called g c =
     let k = c.poll-polled.ensures in
-    make-called _ _ _ _ _ _ _ (before g c) c.args.self.now _ _ c.deref_mut.result.now _ _ c.self.view_is c.in_default.is
-    c.requires.known c.index_mut-poller.ensures.value c.deref_mut.ensures.value k.feed.same_headers k.feed.same_counts k.fits k.tablets
-    (polled-ended _ _ _ _ _ _ _ _ k.polled) k.answer k.stands k.keep_standing
+    make-called _ _ _ _ _ _ _ _ (before g c) c.args.self.now _ _ c.deref_mut.result.now _ _ c.self.view_is c.in_default.is
+    c.requires.known c.index_mut-poller.ensures.value c.deref_mut.ensures.value k.call (polled-ended _ _ _ _ _ _ _ _ k.polled)
 
 -- the tablets after it
 abbrev tablets : (g : Over) → After-poll-polled g → List TargetTablet
@@ -77,7 +76,7 @@ fits-after : (g : Over) (c : After-poll-polled g) (ps : List PollerState)
     → FitsFeed (g.F.Feed.headers c.poll-polled.new.feed) (g.F.Feed.counts c.poll-polled.new.feed)
     (with_pollers (before g c) (tablets g c) ps)
 fits-after g c ps f =
-    let k = c.poll-polled.ensures in
+    let k = c.poll-polled.ensures.call in
     fits-now _ _ _ _ _ k.feed.same_headers k.feed.same_counts
     (subst (λ (w : List TargetTablet). FitsFeed (g.F.Feed.headers c.args.feed.now) (g.F.Feed.counts c.args.feed.now)
     (with_pollers (before g c) w ps)) (sym (tablets-are g c)) f)

@@ -28,9 +28,8 @@ called : (g : Over) (c : After-stopped_poll-stopped g)
     c.stopped_poll-stopped.result
 called g c =
     let k = c.stopped_poll-stopped.ensures in
-    make-called _ _ _ _ _ _ _ (before g c) c.args.self.now _ _ c.deref_mut.result.now _ _ c.self.view_is c.in_default.is
-    c.requires.known c.index_mut-poller.ensures.value c.deref_mut.ensures.value k.feed.same_headers k.feed.same_counts k.fits k.tablets
-    (stopped-ended _ _ _ _ _ _ _ _ _ k.stopped) k.answer k.stands k.keep_standing
+    make-called _ _ _ _ _ _ _ _ (before g c) c.args.self.now _ _ c.deref_mut.result.now _ _ c.self.view_is c.in_default.is
+    c.requires.known c.index_mut-poller.ensures.value c.deref_mut.ensures.value k.call (stopped-ended _ _ _ _ _ _ _ _ _ k.stopped)
 
 -- the tablets after it
 tablets-are : (g : Over) (c : After-stopped_poll-stopped g)
@@ -50,7 +49,7 @@ pub returns-clause-fits : goal.returns-clause-fits
 returns-clause-fits g c =
     let a = (goal.at.returns-clause-fits g c).After-stopped_poll-stopped in
     let q = a.stopped_poll-stopped.new.self in
-    let k = a.stopped_poll-stopped.ensures in
+    let k = a.stopped_poll-stopped.ensures.call in
     let fitted = subst (FitsFeed (g.F.Feed.headers a.args.feed.now) (g.F.Feed.counts a.args.feed.now))
     (sym a.self.view_is) a.requires.fits in
     subst (λ (w : List TargetTablet). FitsFeed (g.F.Feed.headers a.stopped_poll-stopped.new.feed)

@@ -159,31 +159,39 @@ restarted-polls logs m b p h = record {
       record { reads = record { tablet = r.tablet; reached = r.reached; checked = r.checked; order = r.order }; floor = s.floor };
 }
 
-module _ (logs : Logs) (m : Session) (t : TargetState) (id : ℕ) (p q : PollerState) (st : StandsForSession logs m t)
-    (open_ : t.closed ≡ None) (at : slice_get t.pollers id ≡ Some p) where
-  pub is-acknowledged : (place : ℕ) → place ≡ p.reader.cursor → q ≡ confirmed p
-      → (place ≡ (position m id).cursor) × Made logs m (with_position id (acknowledge (position m id)) m)
-      (record t { pollers = slice_set t.pollers id q })
-  is-acknowledged place e f =
-      let here = position-is t.pollers m id p st.positions at in
-      let made = poller-moved logs m t id p q st open_ at (ap (λ (p : PollerState). p.applied) f)
-      (λ b e h. subst (Polls logs m b) (sym f) (confirmed-polls logs m b p h)) in (
-        e ∙ ap (λ (p : Position). p.cursor) (sym here),
-        subst (λ (w : Position). Made logs m (with_position id w m) (record t { pollers = slice_set t.pollers id q }))
-            (ap position_of f ∙ ap acknowledge (sym here)) made,
+-- a poller of an open target, as a call reads it
+module _ (t now : TargetState) (id : ℕ) (p q : PollerState) (view : t ≡ now) (open_ : t.closed ≡ None) (known : id < length now.pollers)
+    (here : p ≡ get_or t.pollers id p) where
+  abbrev put_back : TargetState
+  put_back = record t { pollers = slice_set t.pollers id q }
+
+  at : slice_get t.pollers id ≡ Some p
+  at = poller-read t now id p view known here
+
+  -- its position became another one, of which the answer tells
+  is-placed : (logs : Logs) (m : Session) → StandsForSession logs m now → (told : Position → ℕ) (after : Position → Position) (place : ℕ)
+      → place ≡ told (position_of p) → position_of q ≡ after (position_of p) → q.applied ≡ p.applied
+      → ((b : AcceptedTablet) → Polls logs m b p → Polls logs m b q)
+      → (place ≡ told (position m id)) × Made logs m (with_position id (after (position m id)) m) put_back
+  is-placed logs m st told after place e moves applied kept =
+      let stood = subst (StandsForSession logs m) (sym view) st in
+      let now_at = position-is t.pollers m id p stood.positions at in (
+        e ∙ ap told (sym now_at),
+        subst (λ (w : Position). Made logs m (with_position id w m) put_back) (moves ∙ ap after (sym now_at))
+            (poller-moved logs m t id p q stood open_ at applied (λ b _. kept b)),
       )
 
-  pub is-restarted : (place : ℕ) → place ≡ p.acknowledged → q ≡ restarted p
-      → (place ≡ (position m id).acknowledged) × Made logs m (with_position id (set_back (position m id)) m)
-      (record t { pollers = slice_set t.pollers id q })
-  is-restarted place e f =
-      let here = position-is t.pollers m id p st.positions at in
-      let made = poller-moved logs m t id p q st open_ at (ap (λ (p : PollerState). p.applied) f)
-      (λ b e h. subst (Polls logs m b) (sym f) (restarted-polls logs m b p h)) in (
-        e ∙ ap (λ (p : Position). p.acknowledged) (sym here),
-        subst (λ (w : Position). Made logs m (with_position id w m) (record t { pollers = slice_set t.pollers id q }))
-            (ap position_of f ∙ ap set_back (sym here)) made,
-      )
+  pub is-acknowledged : (logs : Logs) (m : Session) → StandsForSession logs m now → (place : ℕ) → place ≡ p.reader.cursor → q ≡ confirmed p
+      → (place ≡ (position m id).cursor) × Made logs m (with_position id (acknowledge (position m id)) m) put_back
+  is-acknowledged logs m st place e f =
+      is-placed logs m st (λ (w : Position). w.cursor) acknowledge place e (ap position_of f) (ap (λ (p : PollerState). p.applied) f)
+      (λ b h. subst (Polls logs m b) (sym f) (confirmed-polls logs m b p h))
+
+  pub is-restarted : (logs : Logs) (m : Session) → StandsForSession logs m now → (place : ℕ) → place ≡ p.acknowledged → q ≡ restarted p
+      → (place ≡ (position m id).acknowledged) × Made logs m (with_position id (set_back (position m id)) m) put_back
+  is-restarted logs m st place e f =
+      is-placed logs m st (λ (w : Position). w.acknowledged) set_back place e (ap position_of f) (ap (λ (p : PollerState). p.applied) f)
+      (λ b h. subst (Polls logs m b) (sym f) (restarted-polls logs m b p h))
 
 -- ---- feeds
 

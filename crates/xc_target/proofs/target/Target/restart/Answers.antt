@@ -1,23 +1,15 @@
-use Rattle.std.proofs.Common.{◌≡◌, rules, subst, sym, Some}
-use Rattle.std.specs.Prelude.{slice_get}
+use Rattle.std.proofs.Common.{rules, subst, sym}
 use Rattle.xc_target.specs.Target.{FitsFeed}
-use Rattle.xc_target.specs.Stands.{StandsForSession}
 use Rattle.xc_target.proofs.MoveLaws.{seen, poller-read, is-restarted, fits-placed}
 use Rattle.xc_target.proofs.target.Target.restart.Goals as goal
-use Rattle.xc_target.proofs.target.Target.restart.Goals.{After-restart}
-
-there : (c : After-restart) → slice_get (seen c.self.inside).pollers c.args.id ≡ Some c.index_mut-poller.result.now
-there c = poller-read (seen c.self.inside) c.args.self.now c.args.id _ c.self.view_is c.requires c.index_mut-poller.ensures.value
 
 pub returns-clause-step : goal.returns-clause-step
 returns-clause-step c = λ logs m is st.
-    is-restarted logs m (seen c.self.inside) c.args.id c.index_mut-poller.result.now c.restart.new.self
-    (subst (StandsForSession logs m) (sym c.self.view_is) st)
-    (search rules) (there (goal.at.returns-clause-step c).After-restart)
-    c.restart.result c.restart.ensures.answer c.restart.ensures.restarted
+    is-restarted (seen c.self.inside) c.args.self.now c.args.id _ c.restart.new.self c.self.view_is (search rules) c.requires
+    c.index_mut-poller.ensures.value logs m st c.restart.result c.restart.ensures.answer c.restart.ensures.restarted
 
 pub returns-clause-fits : goal.returns-clause-fits
 returns-clause-fits c = λ headers counts f.
     fits-placed headers counts (seen c.self.inside) c.args.id c.index_mut-poller.result.now c.restart.new.self _ _
-    (there (goal.at.returns-clause-fits c).After-restart) c.restart.ensures.restarted (c.restart.ensures.fits headers counts)
-    (subst (FitsFeed headers counts) (sym c.self.view_is) f)
+    (poller-read (seen c.self.inside) c.args.self.now c.args.id _ c.self.view_is c.requires c.index_mut-poller.ensures.value)
+    c.restart.ensures.restarted (c.restart.ensures.fits headers counts) (subst (FitsFeed headers counts) (sym c.self.view_is) f)

@@ -24,12 +24,13 @@ use Rattle.xc_record.proofs.ListLaws.{Each}
 use Rattle.xc_record.proofs.OrderLaws.{accepted-length}
 use Rattle.xc_model.proofs.Parents.{length-logs, get-id, get-under, closed-of, none-closed, each-get}
 use Rattle.xc_model.proofs.SessionLaws.{places-at, steps-keep, is-open}
+use Rattle.xc_logs.proofs.FeedFacts.{same-on}
 use Rattle.xc_poller.specs.Poller.{PollerState, new_poller}
 use Rattle.xc_target.specs.declared.answers.TargetFail.{TargetFail}
 use Rattle.xc_target.specs.declared.answers.TargetFail.TheVariants as fail
 use Rattle.xc_target.specs.Target.{TargetState, FitsFeed}
 use Rattle.xc_target.specs.Stands.{Polls, StandsForSession}
-use Rattle.xc_target.specs.Answers.{Made, IsPolled, halt_named, halted_at, halt_at, polled_on, ArePolls, IsDrainedOne, IsDrainFail}
+use Rattle.xc_target.specs.Answers.{Keeps, Made, IsPolled, halt_named, halted_at, halt_at, polled_on, ArePolls, IsDrainedOne, IsDrainFail}
 use Rattle.xc_target.proofs.SessionLaws.{get-there, length-pollers, position-is, poller-there}
 use Rattle.xc_target.proofs.MoveLaws.{get-set-there}
 use Rattle.xc_target.proofs.PollFacts.{waits-answer, open-answer, IsIdle}
@@ -433,6 +434,18 @@ polls-end (Some logs) o' s a old t new e i w h =
     are-polls logs m s t new so (idle-made logs m s t new so a i once.1)
 
 -- the source tablets stay as many
+-- what two calls keep after one another
+pub keeps-on : {Of : Type 0} (headers : Of → List Header) (counts : Of → List ℕ) (logs : Of → Option Logs) (faults : Of → ℕ)
+    (first next last : Of) (old mid new : TargetState)
+    → Keeps headers counts logs faults first next old mid → Keeps headers counts logs faults next last mid new
+    → Keeps headers counts logs faults first last old new
+keeps-on headers counts logs faults first next last old mid new a b = record {
+  fits = b.fits;
+  ranges = b.ranges ∙ a.ranges;
+  closed = b.closed ∙ a.closed;
+  feed = same-on _ _ _ a.feed b.feed;
+}
+
 pub count-still : (hs hs' : List Header) (cs cs' : List ℕ) (t new : TargetState) → hs' ≡ hs → FitsFeed hs cs t → FitsFeed hs' cs' new
     → length new.pollers ≡ length t.pollers
 count-still hs hs' cs cs' t new e f g =

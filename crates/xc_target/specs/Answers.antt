@@ -1,6 +1,6 @@
 -- What each call of a target makes of the session that it stands for, and what it answers.
 use Rattle.std.specs.Prelude.{◌≡◌, ℕ, ◌+◌, ◌<◌, ◌≤◌, max, true, false, List, [], ◌∷◌, Option, None, Some, Result, Ok, Err, slice_get}
-use Rattle.std.specs.Prelude.{slice_index, length, IsErrOf}
+use Rattle.std.specs.Prelude.{slice_index, length, map, IsErrOf}
 use Rattle.std.specs.List.{filter_map}
 use Rattle.std.specs.Option.{option_map, option_map_or}
 use Rattle.xc_record.specs.declared.record.Break.{Break}
@@ -12,6 +12,9 @@ use Rattle.xc_record.specs.SafeTime.{is_started}
 use Rattle.xc_record.specs.Session.{Session, position, places_of, safe_now}
 use Rattle.xc_record.specs.Step.{with_position, acknowledge, set_back, poll_answer, poll_step, stop_step, drained_to}
 use Rattle.xc_record.specs.Accepted.{AcceptedTablet, accepted_tablets, halt}
+use Rattle.xc_record.specs.declared.record.Header.{Header}
+use Rattle.xc_logs.specs.Feed.{SameFeed, CountsFault}
+use Rattle.xc_model.specs.Rows.{range_of}
 use Rattle.xc_change.specs.declared.batch.NextFail.{NextFail}
 use Rattle.xc_change.specs.declared.batch.NextFail.TheVariants as next
 use Rattle.xc_poller.specs.Poller.{PollerState}
@@ -24,13 +27,24 @@ use Rattle.xc_target.specs.declared.answers.PruneFail.{PruneFail}
 use Rattle.xc_target.specs.declared.answers.PruneFail.TheVariants as prune
 use Rattle.xc_target.specs.declared.answers.TargetFail.{TargetFail}
 use Rattle.xc_target.specs.declared.answers.TargetFail.TheVariants as fail
-use Rattle.xc_target.specs.Target.{TargetState}
+use Rattle.xc_target.specs.Target.{TargetState, FitsFeed}
 use Rattle.xc_target.specs.Stands.{StandsForSession}
 
--- a call is refused exactly where the session is closed, and leaves the target as it is
-pub record RefusesClosed {A : Type 0} (old new : TargetState) (result : Result A TargetFail) : Type 0 where
+-- what a call on a feed keeps, as these show the feed: the target fits it, its tablets have their ranges, and its session is open or closed
+-- as before
+pub record Keeps {Of : Type 0} (headers : Of → List Header) (counts : Of → List ℕ) (logs : Of → Option Logs) (faults : Of → ℕ)
+    (before after : Of) (old new : TargetState) : Type 0 where
+  pub fits : FitsFeed (headers after) (counts after) new
+  pub ranges : map range_of new.tablets ≡ map range_of old.tablets
+  pub closed : new.closed ≡ old.closed
+  pub feed : SameFeed headers counts logs faults before after
+
+-- how a call on a feed fails: it is refused exactly where the session is closed, and leaves the target as it is; a read fault has its cause
+-- in the feed, whose count of faults was `before` and is `after`
+pub record Fails {A : Type 0} (before after : ℕ) (old new : TargetState) (result : Result A TargetFail) : Type 0 where
   pub refused : (t : ℕ) → old.closed ≡ Some t → IsErrOf result (fail.Closed t) × (new ≡ old)
   pub refusal : (t : ℕ) → IsErrOf result (fail.Closed t) → old.closed ≡ Some t
+  pub fault : CountsFault (IsErrOf result fail.ReadFault) before after
 
 -- a closed session stays as it is
 pub record Refused (logs : Logs) (m : Session) (t : ℕ) (new : TargetState) : Type 0 where

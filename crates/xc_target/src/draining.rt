@@ -1,12 +1,11 @@
 // How one source tablet is drained.
-ghost use Rattle.std.specs.Prelude.{◌≡◌, ◌<◌, ℕ, Some, length, map, IfOk, IfErr, IfSome, IsErrOf};
+ghost use Rattle.std.specs.Prelude.{◌≡◌, ◌<◌, ℕ, Some, length, IfOk, IfErr, IfSome, IsErrOf};
 ghost use Rattle.xc_record.specs.Accepted.{AcceptedTablet, accepted_tablet};
 ghost use Rattle.xc_record.specs.Session.{Session, IsSession};
-ghost use Rattle.xc_logs.specs.Feed.{SameFeed, CountsFault};
-ghost use Rattle.xc_model.specs.Rows.{range_of};
+ghost use Rattle.xc_logs.specs.Feed.{CountsFault};
 ghost use Rattle.xc_target.specs.Target.{FitsFeed};
 ghost use Rattle.xc_target.specs.Stands.{StandsForSession};
-ghost use Rattle.xc_target.specs.Answers.{halted_at, IsDrainedOne, ArePolls, IsDrainFail};
+ghost use Rattle.xc_target.specs.Answers.{Keeps, halted_at, IsDrainedOne, ArePolls, IsDrainFail};
 
 use crate::answers::{Halt, TargetFail};
 use crate::target::Target;
@@ -37,8 +36,7 @@ pub(crate) fn drain_tablet<F: Feed>(
 ) -> Result<Option<Halt>, TargetFail>
     requires known { id < length target.old.pollers }
     requires fits { FitsFeed (F.headers feed.old) (F.counts feed.old) target.old }
-    ensures fits { FitsFeed (F.headers feed.new) (F.counts feed.new) target.new }
-    ensures ranges { map range_of target.new.tablets ≡ map range_of target.old.tablets }
+    ensures keeps { Keeps F.headers F.counts F.logs F.faults feed.old feed.new target.old target.new }
     ensures drained { IfSome (F.logs feed.old) (λ logs. (m : Session) (b : AcceptedTablet) → IsSession logs m
         → StandsForSession logs m target.old → accepted_tablet logs id ≡ Some b
         → IfOk result (IsDrainedOne logs m id b target.new)) }
@@ -47,13 +45,9 @@ pub(crate) fn drain_tablet<F: Feed>(
     ensures failed { IfSome (F.logs feed.old) (λ logs. (m : Session) → IsSession logs m
         → StandsForSession logs m target.old → IfErr result (IsDrainFail logs m target.new)) }
     ensures refusal { (t : ℕ) → IsErrOf result (TargetFail.Closed t) → target.old.closed ≡ Some t }
-    ensures same_closed { target.new.closed ≡ target.old.closed }
 
     // A read fault has its cause in the feed.
     ensures fault { CountsFault (IsErrOf result TargetFail.ReadFault) (F.faults feed.old) (F.faults feed.new) }
-
-    // What each call of a feed keeps.
-    ensures feed { SameFeed F.headers F.counts F.logs F.faults feed.old feed.new }
 {
     'polls: loop {
         let answer = target.poll(alloc, feed, id, BATCH)?;

@@ -1,10 +1,10 @@
 // The target of a replication session.
 ghost use Rattle.std.specs.Prelude.{◌≡◌, ◌<◌, ◌≤◌, ◌+◌, ℕ, true, map, drop, Option, None, Some, length, List};
-ghost use Rattle.std.specs.Prelude.{IfOk, IfErr, IfSome, IsErrOf};
+ghost use Rattle.std.specs.Prelude.{IfOk, IfErr, IfSome};
 ghost use Rattle.xc_record.specs.Bounds.{are_bounds};
 ghost use Rattle.xc_record.specs.Headers.{are_headers};
 ghost use Rattle.xc_record.specs.Valid.{is_valid, headers_of};
-ghost use Rattle.xc_logs.specs.Feed.{IsFeed, SameFeed, CountsFault};
+ghost use Rattle.xc_logs.specs.Feed.{IsFeed};
 ghost use Rattle.xc_record.specs.declared.record.Logs.{Logs};
 ghost use Rattle.xc_record.specs.declared.record.Header.{Header as HeaderOf};
 ghost use Rattle.xc_model.specs.Rows.{range_of};
@@ -15,7 +15,7 @@ ghost use Rattle.xc_record.specs.Step.{drained};
 ghost use Rattle.xc_target.specs.Target.{new_target, of_parts, IsTarget, FitsFeed};
 ghost use Rattle.xc_target.specs.Stands.{StandsForSession};
 ghost use Rattle.xc_target.specs.Answers.{Made, IsAcknowledged, IsRestarted, IsNotReadable, IsPruned, IsClosed};
-ghost use Rattle.xc_target.specs.Answers.{RefusesClosed, IsPolled, IsStopped, GaveFirst, MovesOn, halts, IsDrainFail};
+ghost use Rattle.xc_target.specs.Answers.{Keeps, Fails, IsPolled, IsStopped, GaveFirst, MovesOn, halts, IsDrainFail};
 
 use crate::answers::{Closed, Halt, PruneFail, SessionLine, TargetFail};
 use crate::draining::drain_tablet;
@@ -127,23 +127,13 @@ impl Target {
         requires known { id < length self.old.pollers }
         requires some { 1 ≤ n }
         requires fits { FitsFeed (F.headers feed.old) (F.counts feed.old) self.old }
-        ensures fits { FitsFeed (F.headers feed.new) (F.counts feed.new) self.new }
-        ensures ranges { map range_of self.new.tablets ≡ map range_of self.old.tablets }
+        ensures keeps { Keeps F.headers F.counts F.logs F.faults feed.old feed.new self.old self.new }
+        ensures fails { Fails (F.faults feed.old) (F.faults feed.new) self.old self.new result }
         ensures step { IfSome (F.logs feed.old) (λ logs. (m : Session) → IsSession logs m
             → StandsForSession logs m self.old → IsPolled logs m id n self.new result) }
 
         // Whatever the feed tells, a poll that delivers moves on.
         ensures moves { IfOk result (MovesOn (F.counts feed.old) id self.old self.new) }
-        ensures same_closed { self.new.closed ≡ self.old.closed }
-
-        // Closed exactly where the session is.
-        ensures refuses { RefusesClosed self.old self.new result }
-
-        // A read fault has its cause in the feed.
-        ensures fault { CountsFault (IsErrOf result TargetFail.ReadFault) (F.faults feed.old) (F.faults feed.new) }
-
-        // What each call of a feed keeps.
-        ensures feed { SameFeed F.headers F.counts F.logs F.faults feed.old feed.new }
     {
         if let Some(t) = self.closed {
             return Err(TargetFail::Closed(t));
@@ -176,24 +166,14 @@ impl Target {
         requires some { 1 ≤ n }
         requires last { last < length self.old.tablets }
         requires fits { FitsFeed (F.headers feed.old) (F.counts feed.old) self.old }
-        ensures fits { FitsFeed (F.headers feed.new) (F.counts feed.new) self.new }
-        ensures ranges { map range_of self.new.tablets ≡ map range_of self.old.tablets }
+        ensures keeps { Keeps F.headers F.counts F.logs F.faults feed.old feed.new self.old self.new }
+        ensures fails { Fails (F.faults feed.old) (F.faults feed.new) self.old self.new result }
         ensures step { IfSome (F.logs feed.old) (λ logs. (m : Session) → IsSession logs m
             → StandsForSession logs m self.old → IsStopped logs m id n self.new result) }
 
         // Whatever the feed tells, each of the tablets up to `last` gets the records, and no tablet past it.
         ensures given { IfOk result (GaveFirst id last self.old self.new) }
         ensures others { drop (last + 1) self.new.tablets ≡ drop (last + 1) self.old.tablets }
-        ensures same_closed { self.new.closed ≡ self.old.closed }
-
-        // Closed exactly where the session is.
-        ensures refuses { RefusesClosed self.old self.new result }
-
-        // A read fault has its cause in the feed.
-        ensures fault { CountsFault (IsErrOf result TargetFail.ReadFault) (F.faults feed.old) (F.faults feed.new) }
-
-        // What each call of a feed keeps.
-        ensures feed { SameFeed F.headers F.counts F.logs F.faults feed.old feed.new }
     {
         if let Some(t) = self.closed {
             return Err(TargetFail::Closed(t));
@@ -210,22 +190,13 @@ impl Target {
     /// fault, or where memory is out, the polls made so far stand.
     pub fn drain<F: Feed>(&mut self, alloc: Global, feed: &mut F) -> Result<Vec<Halt>, TargetFail>
         requires fits { FitsFeed (F.headers feed.old) (F.counts feed.old) self.old }
-        ensures fits { FitsFeed (F.headers feed.new) (F.counts feed.new) self.new }
-        ensures ranges { map range_of self.new.tablets ≡ map range_of self.old.tablets }
+        ensures keeps { Keeps F.headers F.counts F.logs F.faults feed.old feed.new self.old self.new }
+        ensures fails { Fails (F.faults feed.old) (F.faults feed.new) self.old self.new result }
         ensures drained { IfSome (F.logs feed.old) (λ logs. (m : Session) → IsSession logs m
             → StandsForSession logs m self.old
             → IfOk result (λ found. (found.items ≡ halts logs) × Made logs m (drained logs m) self.new)) }
         ensures failed { IfSome (F.logs feed.old) (λ logs. (m : Session) → IsSession logs m
             → StandsForSession logs m self.old → IfErr result (IsDrainFail logs m self.new)) }
-
-        // Closed exactly where the session is.
-        ensures refuses { RefusesClosed self.old self.new result }
-
-        // A read fault has its cause in the feed.
-        ensures fault { CountsFault (IsErrOf result TargetFail.ReadFault) (F.faults feed.old) (F.faults feed.new) }
-
-        // What each call of a feed keeps.
-        ensures feed { SameFeed F.headers F.counts F.logs F.faults feed.old feed.new }
     {
         if let Some(t) = self.closed {
             return Err(TargetFail::Closed(t));

@@ -1,19 +1,13 @@
-use Rattle.std.proofs.Common.{◌≡◌, ◌<◌, ◌-◌, length, map}
+use Rattle.std.proofs.Common.{◌≡◌, ◌<◌, ◌-◌, length}
 use Rattle.std.specs.Prelude.{IfSome, slice_index}
-use Rattle.xc_logs.specs.Feed.{SameFeed}
-use Rattle.xc_model.specs.Rows.{range_of}
-use Rattle.xc_target.specs.Target.{FitsFeed}
-use Rattle.xc_target.specs.Answers.{cursor_at}
+use Rattle.xc_target.specs.Answers.{Keeps, cursor_at}
 use Rattle.xc_target.proofs.DrainLaws.{Polling}
 use Rattle.xc_target.proofs.draining.drain_tablet.Given as goal
 
 abbrev pub invariant-polls : goal.invariant-polls
 invariant-polls g l = record {
   known : l.id < length l.target.pollers;
-  fits : FitsFeed (g.F.Feed.headers l.feed) (g.F.Feed.counts l.feed) l.target;
-  closed : l.target.closed ≡ l.fn.target.closed;
-  ranges : map range_of l.target.tablets ≡ map range_of l.fn.target.tablets;
-  feed : SameFeed g.F.Feed.headers g.F.Feed.counts g.F.Feed.logs g.F.Feed.faults l.fn.feed l.feed;
+  keeps : Keeps g.F.Feed.headers g.F.Feed.counts g.F.Feed.logs g.F.Feed.faults l.fn.feed l.feed l.fn.target l.target;
   faults : g.F.Feed.faults l.feed ≡ g.F.Feed.faults l.fn.feed;
   polled : IfSome (g.F.Feed.logs l.fn.feed) (Polling l.id l.fn.target l.target);
 }

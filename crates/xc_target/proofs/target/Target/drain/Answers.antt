@@ -3,9 +3,8 @@ use Rattle.std.specs.Prelude.{IfSome}
 use Rattle.std.specs.List.{cons_option}
 use Rattle.std.proofs.lemmas.Grind.{common_steps}
 use Rattle.std.proofs.lemmas.List.{append-nil}
-use Rattle.xc_logs.proofs.FeedFacts.{same-on}
 use Rattle.xc_target.specs.Target.{TargetState}
-use Rattle.xc_target.proofs.DrainLaws.{count-still}
+use Rattle.xc_target.proofs.DrainLaws.{count-still, keeps-on}
 use Rattle.xc_target.proofs.PassLaws.{Draining, draining-goes-on, draining-fails, draining-stops, draining-ends, few-pollers}
 use Rattle.xc_target.proofs.target.Target.drain.Goals.{in-Some-2+else-is_err, in_default-2}
 use Rattle.xc_target.proofs.target.Target.drain.Goals as goal
@@ -18,12 +17,18 @@ overflow_cast-id-end g c =
     ap (λ (t : TargetState). length t.pollers) c.self.view_is in
     omega (arith, few, same, c.len-id-end.ensures)
 
+pub returns-in_err-halt-clause-keeps : goal.returns-in_err-halt-clause-keeps
+returns-in_err-halt-clause-keeps g c = keeps-on _ _ _ _ _ _ _ _ _ _ c.loop-id.invariant.keeps c.in_err-halt.ensures.keeps
+
+pub returns-then-is_err-clause-keeps : goal.returns-then-is_err-clause-keeps
+returns-then-is_err-clause-keeps g c = keeps-on _ _ _ _ _ _ _ _ _ _ c.loop-id.invariant.keeps c.in_ok-halt.ensures.keeps
+
 pub returns-in_err-halt-clause-failed : goal.returns-in_err-halt-clause-failed
 returns-in_err-halt-clause-failed g c =
     let so = c.loop-id.invariant in
     let e = c.in_err-halt.field-0.0 in
     let fails = draining-fails (g.F.Feed.logs c.args.feed.now) (g.F.Feed.logs c.loop-id.feed) c.loop-id.id c.args.self.now c.loop-id.self
-    c.drain_tablet.new.target c.loop-id.halts.items e so.feed.same_logs so.was_open so.drained c.in_err-halt.ensures.failed in
+    c.drain_tablet.new.target c.loop-id.halts.items e so.keeps.feed.same_logs so.was_open so.drained c.in_err-halt.ensures.failed in
     let is : c.from_residual.result ≡ Err e = grind (arith, common_steps) in
     rw is fails
 
@@ -31,7 +36,7 @@ pub returns-then-is_err-clause-failed : goal.returns-then-is_err-clause-failed
 returns-then-is_err-clause-failed g c =
     let so = c.loop-id.invariant in
     draining-stops (g.F.Feed.logs c.args.feed.now) (g.F.Feed.logs c.loop-id.feed) c.loop-id.id c.args.self.now c.loop-id.self
-    c.drain_tablet.new.target c.loop-id.halts.items so.feed.same_logs so.drained c.in_ok-halt.ensures.polls
+    c.drain_tablet.new.target c.loop-id.halts.items so.keeps.feed.same_logs so.drained c.in_ok-halt.ensures.polls
 
 pub loop-id-preserved : goal.loop-id-preserved
 loop-id-preserved g c =
@@ -43,7 +48,7 @@ loop-id-preserved g c =
     let found = c.in_ok-halt.field-0 in
     let hs = g.F.Feed.headers c.loop-id.feed in
     let cs = g.F.Feed.counts c.loop-id.feed in
-    let count = count-still hs _ cs _ c.loop-id.self new k.feed.same_headers so.fits k.fits in
+    let count = count-still hs _ cs _ c.loop-id.self new k.keeps.feed.same_headers so.keeps.fits k.keeps.fits in
     let known = so.known in
     let quiet = k.fault.quiet (λ e. cc) in
     let more : c.match-branch-2.halts.items ≡ c.loop-id.halts.items ++ cons_option found [] =
@@ -57,15 +62,12 @@ loop-id-preserved g c =
       within = omega (arith, c.loop-id-test.true);
       known = so.known ∙ sym count;
       all = so.all;
-      fits = k.fits;
+      keeps = keeps-on _ _ _ _ _ _ _ _ _ _ so.keeps k.keeps;
       was_open = so.was_open;
-      is_open = k.same_closed ∙ so.is_open;
-      ranges = k.ranges ∙ so.ranges;
-      feed = same-on _ _ _ so.feed k.feed;
       faults = quiet ∙ so.faults;
       drained = subst (λ items. IfSome o (Draining (c.loop-id.id + 1) old new items)) (sym more)
           (draining-goes-on o (g.F.Feed.logs c.loop-id.feed) c.loop-id.id old c.loop-id.self new c.loop-id.halts.items found
-          so.feed.same_logs (omega (arith, c.loop-id-test.true)) so.drained k.drained k.polls);
+          so.keeps.feed.same_logs (omega (arith, c.loop-id-test.true)) so.drained k.drained k.polls);
     }
 
 pub returns-clause-drained : goal.returns-clause-drained

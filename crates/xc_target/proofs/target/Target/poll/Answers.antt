@@ -19,7 +19,7 @@ use Rattle.xc_poller.specs.Poller.{PollerState, is_closed}
 use Rattle.xc_target.specs.declared.answers.TargetFail.{TargetFail}
 use Rattle.xc_target.specs.Target.{TargetState, headers_of_pollers, FitsFeed, Opens}
 use Rattle.xc_target.specs.Stands.{StandsForSession}
-use Rattle.xc_target.specs.Answers.{IsPolled, MovesOn}
+use Rattle.xc_target.specs.Answers.{Keeps, IsPolled, MovesOn}
 use Rattle.xc_target.proofs.CursorLaws.{moves-there, opened-there}
 use Rattle.xc_target.proofs.MoveLaws.{seen, get-set-here}
 use Rattle.xc_target.proofs.PollFacts.{polled-ended}
@@ -81,10 +81,22 @@ fits-after g c ps f =
     (subst (λ (w : List TargetTablet). FitsFeed (g.F.Feed.headers c.args.feed.now) (g.F.Feed.counts c.args.feed.now)
     (with_pollers (before g c) w ps)) (sym (tablets-are g c)) f)
 
-fits-put : (g : Over) (c : After-poll-polled g)
-    → FitsFeed (g.F.Feed.headers c.poll-polled.new.feed) (g.F.Feed.counts c.poll-polled.new.feed)
+-- what the call keeps, where the target fits the feed with these pollers
+keeps : (g : Over) (c : After-poll-polled g) (ps : List PollerState)
+    → FitsFeed (g.F.Feed.headers c.args.feed.now) (g.F.Feed.counts c.args.feed.now) (with_pollers (before g c) c.poll-polled.new.tablets ps)
+    → Keeps g.F.Feed.headers g.F.Feed.counts g.F.Feed.logs g.F.Feed.faults c.args.feed.now c.poll-polled.new.feed c.args.self.now
+    (with_pollers (before g c) (tablets g c) ps)
+keeps g c ps fits = record {
+  fits = fits-after g c ps fits;
+  ranges = ranges-are g c;
+  closed = ap (λ (t : TargetState). t.closed) c.self.view_is;
+  feed = c.poll-polled.ensures.call.feed;
+}
+
+keeps-put : (g : Over) (c : After-poll-polled g)
+    → Keeps g.F.Feed.headers g.F.Feed.counts g.F.Feed.logs g.F.Feed.faults c.args.feed.now c.poll-polled.new.feed c.args.self.now
     (with_pollers (before g c) (tablets g c) (put g c))
-fits-put g c = fits-after g c (put g c) (fits-called _ _ _ _ _ _ _ _ _ _ (g.met.F.Feed.shape c.args.feed.now) (called g c) (fitted g c))
+keeps-put g c = keeps g c (put g c) (fits-called _ _ _ _ _ _ _ _ _ _ (g.met.F.Feed.shape c.args.feed.now) (called g c) (fitted g c))
 
 -- the step of the session, by what it told
 steps : (g : Over) (c : After-poll-polled g) (s : Result PollAnswer TargetFail) → told c.poll-polled.result ≡ s
@@ -134,14 +146,14 @@ invariant_of-self-then-closed g c = record { ranges = shares-out g (goal.at.inva
 pub invariant_of-self-else-closed : goal.invariant_of-self-else-closed
 invariant_of-self-else-closed g c = record { ranges = shares-out g (goal.at.invariant_of-self-else-closed g c).After-poll-polled }
 
-pub returns-in_err-answer-clause-fits : goal.returns-in_err-answer-clause-fits
-returns-in_err-answer-clause-fits g c = fits-put g (goal.at.returns-in_err-answer-clause-fits g c).After-poll-polled
+pub returns-in_err-answer-clause-keeps : goal.returns-in_err-answer-clause-keeps
+returns-in_err-answer-clause-keeps g c = keeps-put g (goal.at.returns-in_err-answer-clause-keeps g c).After-poll-polled
 
-pub returns-in_default-answer-clause-fits : goal.returns-in_default-answer-clause-fits
-returns-in_default-answer-clause-fits g c = fits-put g (goal.at.returns-in_default-answer-clause-fits g c).After-poll-polled
+pub returns-in_default-answer-clause-keeps : goal.returns-in_default-answer-clause-keeps
+returns-in_default-answer-clause-keeps g c = keeps-put g (goal.at.returns-in_default-answer-clause-keeps g c).After-poll-polled
 
-pub returns-else-closed-clause-fits : goal.returns-else-closed-clause-fits
-returns-else-closed-clause-fits g c = fits-put g (goal.at.returns-else-closed-clause-fits g c).After-poll-polled
+pub returns-else-closed-clause-keeps : goal.returns-else-closed-clause-keeps
+returns-else-closed-clause-keeps g c = keeps-put g (goal.at.returns-else-closed-clause-keeps g c).After-poll-polled
 
 pub returns-in_err-answer-clause-step : goal.returns-in_err-answer-clause-step
 returns-in_err-answer-clause-step g c =
@@ -169,17 +181,17 @@ open_children-requires-clause-headers g c =
     (get-set-here _ a.args.id _ q (called g a).at) whole here
     ∙ ap headers_of_pollers (sym c.deref_mut-then-closed.ensures.value)
 
-pub returns-then-closed-clause-fits : goal.returns-then-closed-clause-fits
-returns-then-closed-clause-fits g c =
-    let a = (goal.at.returns-then-closed-clause-fits g c).After-poll-polled in
+pub returns-then-closed-clause-keeps : goal.returns-then-closed-clause-keeps
+returns-then-closed-clause-keeps g c =
+    let a = (goal.at.returns-then-closed-clause-keeps g c).After-poll-polled in
     let q = a.poll-polled.new.self in
     let rs = c.open_children.new.pollers in
     let opens = subst (λ (w : List PollerState). AllZip (Opens q) w rs) c.deref_mut-then-closed.ensures.value c.open_children.ensures in
     let shut : is_closed q ≡ true = sym c.closed.ensures.closed ∙ c.if-closed.true in
-    subst (λ (w : List PollerState). FitsFeed (g.F.Feed.headers a.poll-polled.new.feed) (g.F.Feed.counts a.poll-polled.new.feed)
-    (with_pollers (before g a) (tablets g a) w)) (sym (pollers-are (with_item a.self.inside.pollers a.args.id q) q rs opens))
-    (fits-after g a rs
-    (fits-children _ _ _ _ _ _ _ _ _ _ (g.met.F.Feed.shape a.args.feed.now) (called g a) (fitted g a) shut rs opens))
+    subst (λ (w : List PollerState). Keeps g.F.Feed.headers g.F.Feed.counts g.F.Feed.logs g.F.Feed.faults a.args.feed.now
+    a.poll-polled.new.feed a.args.self.now (with_pollers (before g a) (tablets g a) w))
+    (sym (pollers-are (with_item a.self.inside.pollers a.args.id q) q rs opens))
+    (keeps g a rs (fits-children _ _ _ _ _ _ _ _ _ _ (g.met.F.Feed.shape a.args.feed.now) (called g a) (fitted g a) shut rs opens))
 
 pub returns-then-closed-clause-step : goal.returns-then-closed-clause-step
 returns-then-closed-clause-step g c =
@@ -219,15 +231,3 @@ returns-else-closed-clause-moves g c =
     let a = (goal.at.returns-else-closed-clause-moves g c).After-poll-polled in
     moves g a c.in-Polled.count (put g a) (ap told c.in_ok-answer.was ∙ ap Ok c.in-Polled.is)
     (get-set-here _ a.args.id _ a.poll-polled.new.self (called g a).at)
-
-pub returns-in_err-answer-clause-ranges : goal.returns-in_err-answer-clause-ranges
-returns-in_err-answer-clause-ranges g c = ranges-are g (goal.at.returns-in_err-answer-clause-ranges g c).After-poll-polled
-
-pub returns-in_default-answer-clause-ranges : goal.returns-in_default-answer-clause-ranges
-returns-in_default-answer-clause-ranges g c = ranges-are g (goal.at.returns-in_default-answer-clause-ranges g c).After-poll-polled
-
-pub returns-else-closed-clause-ranges : goal.returns-else-closed-clause-ranges
-returns-else-closed-clause-ranges g c = ranges-are g (goal.at.returns-else-closed-clause-ranges g c).After-poll-polled
-
-pub returns-then-closed-clause-ranges : goal.returns-then-closed-clause-ranges
-returns-then-closed-clause-ranges g c = ranges-are g (goal.at.returns-then-closed-clause-ranges g c).After-poll-polled

@@ -45,17 +45,23 @@ invariant_of-self g c =
           (ranges-called _ _ _ _ _ _ _ _ _ _ (called g a) a.self.invariant.ranges);
     }
 
-pub returns-clause-fits : goal.returns-clause-fits
-returns-clause-fits g c =
-    let a = (goal.at.returns-clause-fits g c).After-stopped_poll-stopped in
+pub returns-clause-keeps : goal.returns-clause-keeps
+returns-clause-keeps g c =
+    let a = (goal.at.returns-clause-keeps g c).After-stopped_poll-stopped in
     let q = a.stopped_poll-stopped.new.self in
     let k = a.stopped_poll-stopped.ensures.call in
     let fitted = subst (FitsFeed (g.F.Feed.headers a.args.feed.now) (g.F.Feed.counts a.args.feed.now))
     (sym a.self.view_is) a.requires.fits in
-    subst (λ (w : List TargetTablet). FitsFeed (g.F.Feed.headers a.stopped_poll-stopped.new.feed)
-    (g.F.Feed.counts a.stopped_poll-stopped.new.feed) (put_in (before g a) a.args.id q w)) (sym (tablets-are g a))
-    (fits-now _ _ _ _ _ k.feed.same_headers k.feed.same_counts
-    (fits-called _ _ _ _ _ _ _ _ _ _ (g.met.F.Feed.shape a.args.feed.now) (called g a) fitted))
+    record {
+      fits = subst (λ (w : List TargetTablet). FitsFeed (g.F.Feed.headers a.stopped_poll-stopped.new.feed)
+          (g.F.Feed.counts a.stopped_poll-stopped.new.feed) (put_in (before g a) a.args.id q w)) (sym (tablets-are g a))
+          (fits-now _ _ _ _ _ k.feed.same_headers k.feed.same_counts
+          (fits-called _ _ _ _ _ _ _ _ _ _ (g.met.F.Feed.shape a.args.feed.now) (called g a) fitted));
+      ranges = ap (map range_of) (tablets-are g a) ∙ same-ranges _ _ _ _ _ _ _ _ _ _ (called g a)
+          ∙ ap (λ (t : TargetState). map range_of t.tablets) a.self.view_is;
+      closed = ap (λ (t : TargetState). t.closed) a.self.view_is;
+      feed = k.feed;
+    }
 
 pub returns-clause-step : goal.returns-clause-step
 returns-clause-step g c =
@@ -96,9 +102,3 @@ returns-clause-others g c =
     let past = a.args.last + 1 in
     ap (drop past) (tablets-are g a) ∙ a.stopped_poll-stopped.ensures.others ∙ ap (drop past) a.deref_mut.ensures.value
     ∙ ap (λ (t : TargetState). drop past t.tablets) a.self.view_is
-
-pub returns-clause-ranges : goal.returns-clause-ranges
-returns-clause-ranges g c =
-    let a = (goal.at.returns-clause-ranges g c).After-stopped_poll-stopped in
-    ap (map range_of) (tablets-are g a) ∙ same-ranges _ _ _ _ _ _ _ _ _ _ (called g a)
-    ∙ ap (λ (t : TargetState). map range_of t.tablets) a.self.view_is

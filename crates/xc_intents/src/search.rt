@@ -1,6 +1,6 @@
-// The chains of the transactions. As long as they stand in rising order of these, as most often they do, one is searched
-// for by halves, and the first chain has no branch. From the first on that comes out of order they are in a tree, whose
-// top that chain is.
+// The chains of the transactions. As long as they stand in rising order of these, as most often they do, one is
+// searched for by halves, and the first chain has no branch. From the first on that comes out of order they are in a
+// tree, whose top the first chain is.
 ghost use Rattle.std.specs.Prelude.{◌≡◌, ◌≢◌, ◌<◌, ◌≤◌, ◌+◌, ◌++◌, ◌∷◌, ℕ, List, [], length, map, filter};
 ghost use Rattle.std.specs.Prelude.{MatchOption, true};
 ghost use Rattle.std.specs.Vec.{vec_len, vec_capacity};
@@ -75,8 +75,8 @@ fn is_of(chains: &[Chain], e: usize, txn: u32) -> bool
     e < chains.len() && chains[e].txn == txn
 }
 
-// The chain of the transaction, if it has one, where they are in a tree. The one that was asked for last is tried first,
-// and those beside it, since transactions are most often applied in the order in which they came.
+// The chain of the transaction, if it has one, where they are in a tree. The one that was asked for last is tried
+// first, and those beside it, since transactions are most often applied in the order in which they came.
 fn search_planted(chains: &[Chain], recent: usize, txn: u32) -> Option<usize>
     requires { IsTree chains.now (length chains.now) }
     ensures { MatchOption result (NoChain chains.now txn)

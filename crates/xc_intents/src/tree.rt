@@ -1,6 +1,6 @@
 // The tree in which the chain of a transaction is found where they stand in no order: each chain is a node of it, and
-// the bits of the transaction's number say, from the highest on, on which side of a node it is. So no more than 33 nodes
-// are gone through, whatever the numbers are, and a chain that is added moves no other.
+// the bits of the transaction's number say, from the highest on, on which side of a node it is. So no more than 33
+// nodes are gone through, whatever the numbers are, and a chain that is added moves no other.
 ghost use Rattle.std.specs.Prelude.{◌≡◌, ◌≢◌, ◌<◌, ◌≤◌, ◌+◌, ◌^◌, ℕ, length, map, MatchOption, None};
 ghost use Rattle.xc_intents.specs.Slots.{IsTree, Distinct, NoChain, chain_at, is_right, behind_bit, below, hung, loose};
 ghost use Rattle.xc_intents.specs.declared.limits.TheConstants.{MOST_LINKED};

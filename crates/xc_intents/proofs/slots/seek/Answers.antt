@@ -22,7 +22,8 @@ returns-then-in_walk-clause-found c =
     record {
       below = reached.below;
       found = ap (λ (d : Chain). in_walk d (at xs i)) (sym (chain-read cs c.args.e c.index-chains-e-in-Some.result inv.chain))
-          ∙ ap (in_walk (get_or cs c.args.e c.index-chains-e-in-Some.result)) (sym (slot-read xs i c.index-slots-i.result reached.below)) ∙ sym c.in_walk.ensures ∙ c.if-in_walk.true;
+          ∙ ap (in_walk (get_or cs c.args.e c.index-chains-e-in-Some.result)) (sym (slot-read xs i c.index-slots-i.result reached.below))
+          ∙ sym c.in_walk.ensures ∙ c.if-in_walk.true;
       none = reached.none;
     }
 

@@ -23,6 +23,7 @@ pub use xc_time::HybridTime;
 mod tests {
     use super::*;
     use std::alloc::{AllocError, Global};
+    use std::test::Fail;
     use xc_base::Key;
 
     #[test]
@@ -37,6 +38,23 @@ mod tests {
             let hashed = Key::new(name.as_bytes()).ok().map(|key| hash(&key));
             assert!(rt; hashed == Some(want), "{name}");
         }
+    }
+
+    #[test]
+    fn operations_are_copied_one_by_one_and_all_at_once(rt: HostRuntime) -> Result<(), Fail> {
+        let mut ops = Ops::new(rt.alloc());
+        for name in ["aaa", "bbb"] {
+            let key = Key::new(name.as_bytes())?;
+            ops.push(Op { key, value: None })?;
+        }
+        let mut copy = Ops::new(rt.alloc());
+        for op in ops.iter() {
+            copy.push_at(&op)?;
+        }
+        copy.append(&ops)?;
+        assert!(rt; copy.len() == 4);
+        assert!(rt; copy.op(1) == ops.op(1) && copy.op(2) == ops.op(0));
+        Ok(())
     }
 
     // One tablet of this range, with one record at time 10.

@@ -44,6 +44,15 @@ fn push_op(bytes: &mut Vec<u8>, op: &Op) -> Result<(), AllocError>
     Ok(())
 }
 
+// Puts an operation last as it lies in other bytes, or leaves the bytes as they are.
+#[inline]
+fn copy_op(bytes: &mut Vec<u8>, op: &OpAt<'_>) -> Result<(), AllocError>
+    ensures items { bytes.new.items ≡ (if is_ok result then bytes.old.items ++ encode_op op.now else bytes.old.items) }
+    ensures well { OnOk result (is_op op.now ≡ true) }
+{
+    bytes.extend_from_slice(op.bytes())
+}
+
 // Puts the operation of a key and a value last, or of a key and None, or leaves the bytes as they are.
 #[inline]
 fn push_parts(bytes: &mut Vec<u8>, key: &[u8], value: Option<&[u8]>) -> Result<(), AllocError>
@@ -87,6 +96,22 @@ impl Ops {
             self.old) }
     {
         push_parts(&mut self.bytes, key, value)
+    }
+
+    /// Puts an operation last as it lies in other bytes. After an error they are as before.
+    #[inline]
+    pub fn push_at(&mut self, op: &OpAt<'_>) -> Result<(), AllocError>
+        ensures { self.new ≡ (if is_ok result then self.old ++ op.now ∷ [] else self.old) }
+    {
+        copy_op(&mut self.bytes, op)
+    }
+
+    /// Puts other operations last, as they lie. After an error they are as before.
+    #[inline]
+    pub fn append(&mut self, ops: &Ops) -> Result<(), AllocError>
+        ensures { self.new ≡ (if is_ok result then self.old ++ ops.now else self.old) }
+    {
+        self.bytes.extend_from_slice(&ops.bytes)
     }
 
     /// Removes them all, and keeps the memory.

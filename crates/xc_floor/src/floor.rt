@@ -65,7 +65,7 @@ fn set_closed(closed: &mut Vec<bool>, id: u32)
     }
 }
 
-/// The two children of a tablet.
+/// The two children of a tablet by these headers, the left one first, or None where it has none.
 pub fn children(headers: &[Header], id: u32) -> Option<(Header, Header)>
     ensures { result ≡ children headers.now id }
 {

@@ -41,20 +41,18 @@ impl Model for Commits {
     ghost invariant = { λ c. AreCommits c.places.items c.ops c.count };
 }
 
-// Puts the operations behind the others, which are counted. After an error some of them may be there.
+// Puts the operations behind the others, which are counted. After an error the others stay.
 fn append(to: &mut Ops, count: &mut usize, ops: &Ops) -> Result<(), AllocError>
     requires counted { count.old ≡ length to.old }
     ensures ok { OnOk result (to.new ≡ to.old ++ ops.now) }
     ensures kept { to.old ++ drop (length to.old) to.new ≡ to.new }
     ensures counted { count.new ≡ length to.new }
 {
-    for op in ops.iter() {
-        let Some(next) = count.checked_add(1) else {
-            return Err(AllocError);
-        };
-        to.push(op.get())?;
-        *count = next;
-    }
+    let Some(next) = count.checked_add(ops.len()) else {
+        return Err(AllocError);
+    };
+    to.append(ops)?;
+    *count = next;
     Ok(())
 }
 
@@ -69,7 +67,7 @@ fn part(alloc: Global, ops: &Ops, first: usize, count: usize) -> Result<Ops, All
         if before > 0 {
             before -= 1;
         } else if left > 0 {
-            part.push(op.get())?;
+            part.push_at(&op)?;
             left -= 1;
         }
     }
@@ -106,8 +104,8 @@ impl Commits {
         self.places.len()
     }
 
-    /// The commit of this number, from 0, with its operations in memory of their own. The operations of all commits are
-    /// gone over.
+    /// The commit of this number, from 0, with its operations in memory of their own, or None past the last. An error
+    /// says that memory is out. The operations of all commits are gone over.
     pub fn commit(&self, alloc: Global, n: usize) -> Result<Option<Commit>, AllocError>
         ensures { IfOk result (λ commit. commit ≡ slice_get self.now n) }
     {

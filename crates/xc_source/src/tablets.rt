@@ -50,7 +50,7 @@ pub(crate) fn owner(tablets: &[Tablet], hash: u16) -> usize
     ensures { result ≡ position_or_len (λ t. is_open t && holds t.header hash) tablets.now }
 {
     for (id, tablet) in tablets.iter().enumerate() {
-        if is_open(tablet) && tablet.header.holds(hash) {
+        if tablet.header.holds(hash) && is_open(tablet) {
             return id;
         }
     }

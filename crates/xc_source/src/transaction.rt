@@ -14,8 +14,8 @@ use crate::write::Write;
 use std::alloc::{AllocError, Global};
 use std::collections::BTreeMap;
 use std::marker::Model;
-use xc_base::{Key, LAST_SUB, Value};
-use xc_record::{Header, HybridTime, Op, Ops, Subs};
+use xc_base::{Key, LAST_SUB};
+use xc_record::{Header, HybridTime, Op, OpAt, Ops, Subs};
 
 // So many writes of a transaction get room two at a time, since most transactions have few.
 const FEW_WRITES: usize = 4;
@@ -149,20 +149,14 @@ impl Transaction {
         self.writes.len() == 0
     }
 
-    // Puts a write behind the others. Its operation is packed into the room first. After an error they are as before.
-    pub(crate) fn push_write(
-        &mut self,
-        alloc: Global,
-        room: &mut Vec<u8>,
-        key: &Key,
-        value: &Option<Value>,
-    ) -> Result<(), AllocError>
+    // Puts a write behind the others. After an error they are as before.
+    pub(crate) fn push_write(&mut self, alloc: Global, op: &OpAt<'_>) -> Result<(), AllocError>
         requires { is_live self.old.stage ≡ true }
-        ensures ok { OnOk result (self.new ≡ written (record { key = key.now; value = value.now }) self.old) }
+        ensures ok { OnOk result (self.new ≡ written op.now self.old) }
         ensures err { OnErr result (self.new ≡ self.old) }
     {
         make_room(&mut self.writes)?;
-        let write = Write::new(alloc, room, self.current, key, value)?;
+        let write = Write::new(alloc, self.current, op)?;
         match self.writes.push(write) {
             Ok(()) => Ok(()),
             Err(_) => Err(AllocError),
@@ -224,7 +218,7 @@ impl Transaction {
         room.clear();
         for write in &self.writes {
             if !self.undone.contains(write.sub()) {
-                room.push(write.op())?;
+                room.push_at(&write.op())?;
             }
         }
         Ok(())

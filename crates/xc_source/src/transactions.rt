@@ -26,7 +26,7 @@ use std::alloc::{AllocError, Global};
 use std::collections::{BTreeMap, BTreeSet};
 use std::marker::Model;
 use xc_base::Key;
-use xc_record::{Header, HybridTime, Op};
+use xc_record::{Header, HybridTime, OpAt};
 
 // The begun transactions. Contracts see them as a list, in which the one of number n stands at the place n - 1.
 #[derive(Drop, Debug)]
@@ -39,8 +39,6 @@ pub(crate) struct Transactions {
     waiting: BTreeMap<u64, u32>,
     // for tablets, by the first hash of the range, where to look on for a commit that waits there
     cursors: BTreeMap<u16, Cursor>,
-    // where an operation is packed before it goes into its write
-    room: Vec<u8>,
 }
 
 impl Model for Transactions {
@@ -161,7 +159,6 @@ impl Transactions {
             holders: BTreeMap::new(alloc),
             waiting: BTreeMap::new(alloc),
             cursors: BTreeMap::new(alloc),
-            room: Vec::new(alloc),
         }
     }
 
@@ -267,16 +264,15 @@ impl Transactions {
     }
 
     // Puts a write of the transaction behind its others. After an error all is as before.
-    pub(crate) fn write(&mut self, txn: u32, op: Op) -> Result<(), AllocError>
+    pub(crate) fn write(&mut self, txn: u32, op: &OpAt<'_>) -> Result<(), AllocError>
         requires live { live_at (numbered self.old txn) ≡ true }
-        requires free { (n : ℕ) → is_holder self.old op.key n ≡ true → n ≡ txn }
-        ensures ok { OnOk result (self.new ≡ changed (written op) txn self.old) }
+        requires free { (n : ℕ) → is_holder self.old op.now.key n ≡ true → n ≡ txn }
+        ensures ok { OnOk result (self.new ≡ changed (written op.now) txn self.old) }
         ensures err { OnErr result (self.new ≡ self.old) }
     {
         let at = txn as usize - 1;
-        let Op { key, value } = op;
-        self.items[at].push_write(self.alloc, &mut self.room, &key, &value)?;
-        if self.holders.insert(key, txn).is_err() {
+        self.items[at].push_write(self.alloc, op)?;
+        if self.holders.insert(op.key(), txn).is_err() {
             self.items[at].pop_write();
             return Err(AllocError);
         }

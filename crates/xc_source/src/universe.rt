@@ -16,6 +16,7 @@ ghost use Rattle.xc_source.specs.Calls.{apply, apply_refusal, applied, all_appli
 ghost use Rattle.xc_source.specs.Calls.{safe_refusal, safe_on, safe_value, with_safe, all_safe, finish};
 ghost use Rattle.xc_source.specs.Calls.{finish_count, abort, abort_after, tablets_with, split, split_refusal};
 ghost use Rattle.xc_source.specs.Calls.{bad_place};
+ghost use Rattle.xc_record.specs.declared.record.Op.{Op as OpOf};
 
 use crate::commit::{list, unlist};
 use crate::commits::Commits;
@@ -28,7 +29,7 @@ use crate::transactions::Transactions;
 use std::alloc::{AllocError, Global};
 use std::marker::Model;
 use xc_base::{Key, LAST_SUB, MOST_RECORDS, MOST_TABLETS, NoMemory};
-use xc_record::{Header, HybridTime, Kind, Logs, Op, Ops};
+use xc_record::{Header, HybridTime, Kind, Logs, Op, OpAt, Ops};
 use xc_time::LAST_TIME;
 
 // Transactions are numbered from 1 to 2^32 - 1.
@@ -89,6 +90,14 @@ fn one_op(alloc: Global, room: &mut Ops, op: Op) -> Result<Ops, AllocError>
     room.clear();
     room.push(op)?;
     room.clone_in(alloc)
+}
+
+// The first of the operations, where it lies.
+fn first(ops: &Ops) -> OpAt<'_>
+    requires { 0 < length ops.now }
+    ensures { (op : OpOf) (rest : List OpOf) → ops.now ≡ op ∷ rest → result ≡ op }
+{
+    ops.iter().next().unwrap()
 }
 
 impl SourceUniverse {
@@ -348,7 +357,7 @@ impl SourceUniverse {
         let ops = one_op(self.alloc, &mut self.room, op)?;
         let sub = self.txns.at(txn).current();
         let time = self.journal.log(id, Kind::Intent { txn, sub, ops })?;
-        if self.txns.write(txn, op).is_err() {
+        if self.txns.write(txn, &first(&self.room)).is_err() {
             self.journal.unlog(id);
             return Err(AllocError);
         }

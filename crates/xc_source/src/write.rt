@@ -6,9 +6,9 @@ ghost use Rattle.xc_source.specs.Waiting.{is_waiting, taken_write};
 use smallvec::SmallVec;
 use std::alloc::{AllocError, Global};
 use std::marker::Model;
-use xc_arena::{key as key_at, put_op, reserve_ops, value_of};
-use xc_base::{Key, Value};
-use xc_record::{Header, Op, hash};
+use xc_arena::{key as key_at, op as op_at};
+use xc_base::Key;
+use xc_record::{Header, OpAt, hash_bytes};
 
 // An operation of so many bytes lies in its write, and a longer one in memory of its own.
 const SHORT_OP: usize = 16;
@@ -37,26 +37,14 @@ impl Model for Write {
 }
 
 impl Write {
-    // A write of the subtransaction that waits. Its operation is packed into the room first.
-    pub(crate) fn new(
-        alloc: Global,
-        room: &mut Vec<u8>,
-        sub: u8,
-        key: &Key,
-        value: &Option<Value>,
-    ) -> Result<Write, AllocError>
-        ensures { IfOk result (λ w. w
-            ≡ record { sub = sub; op = record { key = key.now; value = value.now }; waits = true }) }
+    // A write of the subtransaction that waits. Its operation is copied as it lies.
+    pub(crate) fn new(alloc: Global, sub: u8, op: &OpAt<'_>) -> Result<Write, AllocError>
+        ensures { IfOk result (λ w. w ≡ record { sub = sub; op = op.now; waits = true }) }
     {
-        room.clear();
-        if reserve_ops(room, 1).is_err() {
-            return Err(AllocError);
-        }
-        put_op(room, key, value);
-        let bytes = SmallVec::from_slice(alloc, room.as_slice())?;
+        let bytes = SmallVec::from_slice(alloc, op.bytes())?;
         Ok(Write {
             bytes,
-            hash: hash(key),
+            hash: hash_bytes(op.key_bytes()),
             sub,
             waits: true,
         })
@@ -89,14 +77,11 @@ impl Write {
         key_at(self.bytes.as_slice(), 0)
     }
 
-    pub(crate) fn op(&self) -> Op
+    // Its operation, where it lies.
+    pub(crate) fn op(&self) -> OpAt<'_>
         ensures { result ≡ self.now.op }
     {
-        let bytes = self.bytes.as_slice();
-        Op {
-            key: key_at(bytes, 0),
-            value: value_of(bytes, 0),
-        }
+        op_at(self.bytes.as_slice(), 0)
     }
 
     // It waits no more.

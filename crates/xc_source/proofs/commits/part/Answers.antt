@@ -25,7 +25,7 @@ loop-op-preserved-then-before-gt0 c =
 
 pub loop-op-preserved-then-left-gt0 : goal.loop-op-preserved-then-left-gt0
 loop-op-preserved-then-left-gt0 c =
-    let pushed : c.push.new.self ≡ c.loop-op.part ++ c.in-Some.op ∷ [] = search rules in
+    let pushed : c.push_at.new.self ≡ c.loop-op.part ++ c.in-Some.op ∷ [] = search rules in
     ap (λ part. part ++ take (c.loop-op.left - 1) (drop c.loop-op.before c.next.new.self)) pushed
     ∙ sym (take-one c.loop-op.before c.loop-op.left c.loop-op.part c.next.new.self c.in-Some.op (omega arith) c.if-left-gt0.true)
     ∙ sym (ap (λ ops. c.loop-op.part ++ take c.loop-op.left (drop c.loop-op.before ops)) c.in-Some.ensures.steps)

@@ -4,7 +4,7 @@ use Rattle.std.proofs.lemmas.Grind.{common_steps}
 use Rattle.xc_record.specs.Lists.{has}
 use Rattle.xc_source.proofs.WaitingLaws.{keeps, kept-next}
 use Rattle.xc_source.proofs.transaction.Transaction.kept_ops.Goals as goal
-use Rattle.xc_source.proofs.transaction.Transaction.kept_ops.Goals.{then-not-contains+in_ok-push, else-not-contains}
+use Rattle.xc_source.proofs.transaction.Transaction.kept_ops.Goals.{then-not-contains+in_ok-push_at, else-not-contains}
 
 pub loop-write-preserved : goal.loop-write-preserved
 loop-write-preserved c =
@@ -17,9 +17,9 @@ loop-write-preserved c =
     let before = map (λ w. w.op) (filter (keeps t.undone) (take i t.writes)) in
     let asked : c.contains.result ≡ has v.sub t.undone = grind (arith, common_steps) in
     elim c.if-not-contains.branch [
-      | then-not-contains+in_ok-push w ↦
+      | then-not-contains+in_ok-push_at w ↦
           let test : keeps t.undone v ≡ true = grind (arith, common_steps) in
-          let pushed : w.push.new.self ≡ c.loop-write.room ++ v.op ∷ [] = grind (arith, common_steps) in
+          let pushed : w.push_at.new.self ≡ c.loop-write.room ++ v.op ∷ [] = grind (arith, common_steps) in
           w.room-is ∙ pushed ∙ ap (λ os. os ++ v.op ∷ []) c.loop-write.invariant
           ∙ ap (λ b. before ++ (if b then v.op ∷ [] else [])) (sym test) ∙ sym next
       | else-not-contains w ↦

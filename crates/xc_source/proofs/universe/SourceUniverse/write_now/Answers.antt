@@ -1,7 +1,8 @@
 use Rattle.std.proofs.Common.{refl}
-use Rattle.std.proofs.Common.{◌≡◌, ◌∙◌, ap, subst, arith, true}
+use Rattle.std.proofs.Common.{◌≡◌, ◌∙◌, ap, subst, arith, true, []}
 use Rattle.std.proofs.Common.{rules}
 use Rattle.xc_record.specs.declared.record.Kind.TheVariants as kind
+use Rattle.xc_record.specs.declared.record.Op.{Op}
 use Rattle.xc_source.specs.Universe.{Logged, unlogged}
 use Rattle.xc_source.specs.Holders.{is_holder, changed}
 use Rattle.xc_source.proofs.AnswerLaws.{write-unheld}
@@ -14,8 +15,10 @@ use Rattle.xc_source.proofs.universe.SourceUniverse.write_now.Goals as goal
 
 pub write-requires-clause-free : goal.write-requires-clause-free
 write-requires-clause-free c = λ n h.
+    let same : c.first.result ≡ c.args.op = c.first.ensures c.args.op [] c.in_ok-ops.ensures.room in
     no-other c.args.self.now c.args.txn c.args.op.key n (write-unheld c.args.txn c.args.op c.args.self.now c.requires)
-    (subst (λ (m : Machine). is_holder m.txns c.args.op.key n ≡ true) c.self.view_is h)
+    (subst (λ (m : Machine). is_holder m.txns c.args.op.key n ≡ true) c.self.view_is
+    (subst (λ (op : Op). is_holder c.self.inside.txns op.key n ≡ true) same h))
 
 pub returns-then-is_err-clause-err : goal.returns-then-is_err-clause-err
 returns-then-is_err-clause-err c =
@@ -27,8 +30,8 @@ returns-then-is_err-clause-err c =
 
 pub invariant_of-self-else-is_err : goal.invariant_of-self-else-is_err
 invariant_of-self-else-is_err c =
-    let more : c.write.new.self ≡ changed (written c.args.op) c.args.txn c.self.inside.txns = search rules in
-    universe-set c.self.inside.journal.time c.log.new.self.time c.args.txn 1 (written c.args.op) c.self.inside.txns _ more
-    (wrote-one c.args.op)
+    let more : c.write.new.self ≡ changed (written c.first.result) c.args.txn c.self.inside.txns = search rules in
+    universe-set c.self.inside.journal.time c.log.new.self.time c.args.txn 1 (written c.first.result) c.self.inside.txns _ more
+    (wrote-one c.first.result)
     (let s = ap (λ (j : Logged). j.time) c.in_ok-time.ensures.ok.1 in omega (arith, s))
-    (same-stage (written c.args.op) _ (λ t. refl)) c.self.invariant
+    (same-stage (written c.first.result) _ (λ t. refl)) c.self.invariant

@@ -27,7 +27,7 @@ use Rattle.xc_change.specs.Reader.{FitsFeed as ReaderFits}
 use Rattle.xc_target.specs.declared.target.Target.TheInside.{Inside as TargetFields}
 use Rattle.xc_target.specs.Target.{TargetState, headers_of_pollers, FitsFeed}
 use Rattle.xc_target.specs.Stands.{IsAhead, WasAhead, AreKept, Polls, StandsForSession}
-use Rattle.xc_target.specs.Answers.{Made}
+use Rattle.xc_target.specs.Answers.{Made, KeepsAlone}
 use Rattle.xc_target.proofs.SessionLaws.{place-is, position-is}
 
 -- what contracts see of a target's fields
@@ -221,7 +221,7 @@ fits-put headers counts t id p q at h a o n r f = record {
 }
 
 -- a poller that went to another place of those that were looked at, or begins at another one again
-pub fits-placed : (headers : List Header) (counts : List ℕ) (t : TargetState) (id : ℕ) (p q : PollerState) (cursor acknowledged : ℕ)
+fits-placed : (headers : List Header) (counts : List ℕ) (t : TargetState) (id : ℕ) (p q : PollerState) (cursor acknowledged : ℕ)
     → slice_get t.pollers id ≡ Some p
     → q ≡ record p { reader = record p.reader { cursor = cursor }; acknowledged = acknowledged }
     → (ReaderFits headers counts p.reader → ReaderFits headers counts q.reader) → FitsFeed headers counts t
@@ -229,6 +229,17 @@ pub fits-placed : (headers : List Header) (counts : List ℕ) (t : TargetState) 
 fits-placed headers counts t id p q cursor acknowledged at is =
     fits-put headers counts t id p q at (ap (λ (p : PollerState). p.header) is) (ap (λ (p : PollerState). p.applied) is)
     (ap (λ (p : PollerState). p.is_open) is) (ap (λ (p : PollerState). p.reader.id) is)
+
+-- so the target keeps what it keeps in a call that asks no feed
+pub keeps-placed : (t s : TargetState) (id : ℕ) (p q : PollerState) (cursor acknowledged : ℕ) → t ≡ s → slice_get t.pollers id ≡ Some p
+    → q ≡ record p { reader = record p.reader { cursor = cursor }; acknowledged = acknowledged }
+    → ((headers : List Header) (counts : List ℕ) → ReaderFits headers counts p.reader → ReaderFits headers counts q.reader)
+    → KeepsAlone s (record t { pollers = slice_set t.pollers id q })
+keeps-placed t s id p q cursor acknowledged is at made reader = record {
+  fits = λ headers counts f.
+      fits-placed headers counts t id p q cursor acknowledged at made (reader headers counts) (subst (FitsFeed headers counts) (sym is) f);
+  ranges = ap (λ (t : TargetState). map range_of t.tablets) is;
+}
 
 -- what a tablet keeps of its floors and places
 can-kept : (headers : List Header) (counts : List ℕ) (p : PollerState) (x : TargetTablet) (vs : List KeyVersion) (hs : List KeyWaiting)
@@ -267,7 +278,7 @@ ranges-thin R f (x ∷ xs) (y ∷ ys) z =
 pub length-thin : (R : TargetTablet → TargetTablet → Type 0) (xs ys : List TargetTablet) → AllZip R xs ys → length ys ≡ length xs
 length-thin R xs ys z = sym (length_all_zip R xs ys z)
 
-pub fits-thin : (headers : List Header) (counts : List ℕ) (t : TargetState) (R : TargetTablet → TargetTablet → Type 0)
+fits-thin : (headers : List Header) (counts : List ℕ) (t : TargetState) (R : TargetTablet → TargetTablet → Type 0)
     → ((x y : TargetTablet) → R x y → Thins x y) → (ys : List TargetTablet) (w : ℕ) (o : Option ℕ)
     → AllZip R t.tablets ys → FitsFeed headers counts t → FitsFeed headers counts
     (record { tablets = ys; pollers = t.pollers; cutoff = w; closed = o })
@@ -282,6 +293,14 @@ fits-thin headers counts t R thin ys w o z f = record {
       (λ p c. subst (λ (z : TargetTablet). CanPoll headers counts p z) (sym e.1.1)
       (can-kept headers counts p x e.0 e.1.0 c)) t.pollers h)
       f.tablets z;
+}
+
+pub keeps-thin : (t s : TargetState) (R : TargetTablet → TargetTablet → Type 0) → ((x y : TargetTablet) → R x y → Thins x y)
+    → (ys : List TargetTablet) (w : ℕ) (o : Option ℕ) → t ≡ s → AllZip R t.tablets ys
+    → KeepsAlone s (record { tablets = ys; pollers = t.pollers; cutoff = w; closed = o })
+keeps-thin t s R thin ys w o is z = record {
+  fits = λ headers counts f. fits-thin headers counts t R thin ys w o z (subst (FitsFeed headers counts) (sym is) f);
+  ranges = ranges-thin R thin t.tablets ys z ∙ ap (λ (t : TargetState). map range_of t.tablets) is;
 }
 
 -- up to the safe time of the session each tablet can be read

@@ -39,6 +39,11 @@ pub record Keeps {Of : Type 0} (headers : Of → List Header) (counts : Of → L
   pub closed : new.closed ≡ old.closed
   pub feed : SameFeed headers counts logs faults before after
 
+-- what a call that asks no feed keeps: the target fits each feed that it fitted, and its tablets have their ranges
+pub record KeepsAlone (old new : TargetState) : Type 0 where
+  pub fits : (headers : List Header) (counts : List ℕ) → FitsFeed headers counts old → FitsFeed headers counts new
+  pub ranges : map range_of new.tablets ≡ map range_of old.tablets
+
 -- how a call on a feed fails: it is refused exactly where the session is closed, and leaves the target as it is; a read fault has its cause
 -- in the feed, whose count of faults was `before` and is `after`
 pub record Fails {A : Type 0} (before after : ℕ) (old new : TargetState) (result : Result A TargetFail) : Type 0 where

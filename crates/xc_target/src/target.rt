@@ -1,13 +1,11 @@
 // The target of a replication session.
-ghost use Rattle.std.specs.Prelude.{◌≡◌, ◌<◌, ◌≤◌, ◌+◌, ℕ, true, map, drop, Option, None, Some, length, List};
+ghost use Rattle.std.specs.Prelude.{◌≡◌, ◌<◌, ◌≤◌, ◌+◌, ℕ, true, drop, Option, None, Some, length, List};
 ghost use Rattle.std.specs.Prelude.{IfOk, IfErr, IfSome};
 ghost use Rattle.xc_record.specs.Bounds.{are_bounds};
 ghost use Rattle.xc_record.specs.Headers.{are_headers};
 ghost use Rattle.xc_record.specs.Valid.{is_valid, headers_of};
 ghost use Rattle.xc_logs.specs.Feed.{IsFeed};
 ghost use Rattle.xc_record.specs.declared.record.Logs.{Logs};
-ghost use Rattle.xc_record.specs.declared.record.Header.{Header as HeaderOf};
-ghost use Rattle.xc_model.specs.Rows.{range_of};
 ghost use Rattle.xc_record.specs.Agreement.{disagreement};
 ghost use Rattle.xc_record.specs.Rows.{row, rows};
 ghost use Rattle.xc_record.specs.Session.{Session, IsSession, position, safe_now, start};
@@ -15,7 +13,8 @@ ghost use Rattle.xc_record.specs.Step.{drained};
 ghost use Rattle.xc_target.specs.Target.{new_target, of_parts, IsTarget, FitsFeed};
 ghost use Rattle.xc_target.specs.Stands.{StandsForSession};
 ghost use Rattle.xc_target.specs.Answers.{Made, IsAcknowledged, IsRestarted, IsNotReadable, IsPruned, IsClosed};
-ghost use Rattle.xc_target.specs.Answers.{Keeps, Fails, IsPolled, IsStopped, GaveFirst, MovesOn, halts, IsDrainFail};
+ghost use Rattle.xc_target.specs.Answers.{Keeps, KeepsAlone, Fails, IsPolled, IsStopped, GaveFirst, MovesOn, halts};
+ghost use Rattle.xc_target.specs.Answers.{IsDrainFail};
 
 use crate::answers::{Closed, Halt, PruneFail, SessionLine, TargetFail};
 use crate::draining::drain_tablet;
@@ -274,9 +273,7 @@ impl Target {
         requires { id < length self.old.pollers }
         ensures step { (logs : Logs) (m : Session) → IsSession logs m → StandsForSession logs m self.old
             → IsAcknowledged logs m id self.new result }
-        ensures fits { (headers : List HeaderOf) (counts : List ℕ) → FitsFeed headers counts self.old
-            → FitsFeed headers counts self.new }
-        ensures ranges { map range_of self.new.tablets ≡ map range_of self.old.tablets }
+        ensures keeps { KeepsAlone self.old self.new }
     {
         if let Some(t) = self.closed {
             return Err(Closed { t });
@@ -290,9 +287,7 @@ impl Target {
         requires { id < length self.old.pollers }
         ensures step { (logs : Logs) (m : Session) → IsSession logs m → StandsForSession logs m self.old
             → IsRestarted logs m id self.new result }
-        ensures fits { (headers : List HeaderOf) (counts : List ℕ) → FitsFeed headers counts self.old
-            → FitsFeed headers counts self.new }
-        ensures ranges { map range_of self.new.tablets ≡ map range_of self.old.tablets }
+        ensures keeps { KeepsAlone self.old self.new }
     {
         if let Some(t) = self.closed {
             return Err(Closed { t });
@@ -338,9 +333,7 @@ impl Target {
     pub fn prune(&mut self, u: u64) -> Result<u64, PruneFail>
         ensures step { (logs : Logs) (m : Session) → IsSession logs m → StandsForSession logs m self.old
             → IsPruned logs m u self.new result }
-        ensures fits { (headers : List HeaderOf) (counts : List ℕ) → FitsFeed headers counts self.old
-            → FitsFeed headers counts self.new }
-        ensures ranges { map range_of self.new.tablets ≡ map range_of self.old.tablets }
+        ensures keeps { KeepsAlone self.old self.new }
     {
         if let Some(t) = self.closed {
             return Err(PruneFail::Closed(t));
@@ -357,9 +350,7 @@ impl Target {
     pub fn failover(&mut self) -> Result<u64, Closed>
         ensures step { (logs : Logs) (m : Session) → IsSession logs m → StandsForSession logs m self.old
             → IsClosed logs m self.new result }
-        ensures fits { (headers : List HeaderOf) (counts : List ℕ) → FitsFeed headers counts self.old
-            → FitsFeed headers counts self.new }
-        ensures ranges { map range_of self.new.tablets ≡ map range_of self.old.tablets }
+        ensures keeps { KeepsAlone self.old self.new }
     {
         if let Some(t) = self.closed {
             return Err(Closed { t });

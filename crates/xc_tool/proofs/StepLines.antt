@@ -6,6 +6,7 @@ use Rattle.std.specs.List.{list_any, filter_map, cons_option}
 use Rattle.std.specs.Option.{option_map}
 use Rattle.std.proofs.Math.Bool.{or-false}
 use Rattle.std.proofs.lemmas.Bool.Decides.{nat_tests}
+use Rattle.std.proofs.lemmas.List.{length-map}
 use Rattle.xc_record.specs.declared.record.Logs.{Logs}
 use Rattle.xc_record.specs.declared.session.Command.{Command}
 use Rattle.xc_record.specs.declared.session.Command.TheVariants as command
@@ -21,9 +22,10 @@ use Rattle.xc_record.specs.Step.{with_position, acknowledge, set_back, read_at_l
 use Rattle.xc_model.proofs.SessionLaws.{is-open, steps-keep}
 use Rattle.xc_model.proofs.TimeLaws.{failover-closes}
 use Rattle.xc_script.specs.Lines.{line_text, lines_text, is_halt}
-use Rattle.xc_target.specs.Answers.{Made, Refused, IsPolled, IsStopped, IsPruned, IsNotReadable, IsDrainFail, halts}
+use Rattle.xc_target.specs.Answers.{Made, KeepsAlone, Refused, IsPolled, IsStopped, IsPruned, IsNotReadable, IsDrainFail, halts}
 use Rattle.xc_retain.specs.declared.retention.NotReadable.{NotReadable}
 use Rattle.xc_retain.specs.declared.retention.NotReadable.TheVariants as unreadable
+use Rattle.xc_model.specs.Rows.{range_of}
 use Rattle.xc_target.specs.declared.answers.PruneFail.{PruneFail}
 use Rattle.xc_target.specs.declared.answers.PruneFail.TheVariants as prune
 use Rattle.xc_target.specs.declared.answers.TargetFail.{TargetFail}
@@ -32,7 +34,7 @@ use Rattle.xc_target.specs.Stands.{StandsForSession}
 use Rattle.xc_target.specs.Target.{TargetState, FitsFeed}
 use Rattle.xc_record.specs.Accepted.{AcceptedTablet, accepted_tablets, halt}
 use Rattle.xc_target.specs.declared.answers.Halt.{Halt}
-use Rattle.xc_tool.specs.Answers.{Kept, KeptAlone, IsLine, IsAnswer, IsTold, row_line, halt_line}
+use Rattle.xc_tool.specs.Answers.{Kept, IsLine, IsAnswer, IsTold, row_line, halt_line}
 
 -- a closed session names its closing time where it is to change
 pub closed-line : (logs : Logs) (m : Session) (c : Command) (t : ℕ) (new : TargetState) → is_change c ≡ true → Refused logs m t new
@@ -348,9 +350,12 @@ told-answers logs m c l t text halted is (other, (e, (spelled, h))) =
     line-answers logs m c l t text halted is (spelled ∙ ap line_text same) (h ∙ ap is_halt same)
 
 -- a command that takes no records leaves the feed
-pub kept-alone : (headers : List Header) (counts : List ℕ) (old new : TargetState) → FitsFeed headers counts old → KeptAlone old new
+pub kept-alone : (headers : List Header) (counts : List ℕ) (old new : TargetState) → FitsFeed headers counts old → KeepsAlone old new
     → Kept headers counts old new
-kept-alone headers counts old new fits kept = record { fits = kept.fits headers counts fits; targets = kept.targets }
+kept-alone headers counts old new fits kept = record {
+  fits = kept.fits headers counts fits;
+  targets = sym (length-map new.tablets range_of) ∙ ap length kept.ranges ∙ length-map old.tablets range_of;
+}
 
 pub drain-closed : (logs : Logs) (m : Session) (t : ℕ) (e : TargetFail) (new : TargetState) → e ≡ fail.Closed t → IsDrainFail logs m new e
     → IsLine logs m command.Drain (line.Closed t) new

@@ -1,6 +1,5 @@
 -- What answers a command of a script.
 --     Kept headers counts old new      what each command leaves of a target, which fits a feed of these headers and numbers of records
---     KeptAlone old new      the same of a command that takes no records
 --     IsLine logs m c l t      the command c of the session m is answered by the line l alone, and leaves the target t
 --     GivesLine c old l new      the same of each session that the target `old` stands for, and of the target `new` after it
 --     IsAnswer logs m c text halted t      it is answered by the lines of this text
@@ -25,10 +24,6 @@ use Rattle.xc_tool.specs.declared.answer.Unanswered.{Unanswered}
 
 pub record Kept (headers : List Header) (counts : List ℕ) (old new : TargetState) : Type 0 where
   pub fits : FitsFeed headers counts new
-  pub targets : length new.tablets ≡ length old.tablets
-
-pub record KeptAlone (old new : TargetState) : Type 0 where
-  pub fits : (headers : List Header) (counts : List ℕ) → FitsFeed headers counts old → FitsFeed headers counts new
   pub targets : length new.tablets ≡ length old.tablets
 
 pub record IsLine (logs : Logs) (m : Session) (c : Command) (l : Line) (t : TargetState) : Type 0 where

@@ -7,8 +7,9 @@ ghost use Rattle.xc_record.specs.Session.{Session, IsSession};
 ghost use Rattle.xc_logs.specs.Feed.{SameFeed};
 ghost use Rattle.xc_script.specs.Allowed.{IsAllowed};
 ghost use Rattle.xc_target.specs.Stands.{StandsForSession};
+ghost use Rattle.xc_target.specs.Answers.{KeepsAlone};
 ghost use Rattle.xc_target.specs.Target.{FitsFeed};
-ghost use Rattle.xc_tool.specs.Answers.{Kept, KeptAlone, IsLine, GivesLine, IsAnswer, IsRestored};
+ghost use Rattle.xc_tool.specs.Answers.{Kept, IsLine, GivesLine, IsAnswer, IsRestored};
 
 use crate::answer::{Answer, Unanswered, halts_answer, line_answer, rows_answer};
 use crate::report::report;
@@ -113,7 +114,7 @@ fn stop<F: Feed>(
 
 fn acknowledge(target: &mut Target, id: u32) -> Line
     requires { id < length target.old.pollers }
-    ensures kept { KeptAlone target.old target.new }
+    ensures kept { KeepsAlone target.old target.new }
     ensures step { GivesLine (Command.Ack id) target.old result target.new }
 {
     match target.acknowledge(id) {
@@ -124,7 +125,7 @@ fn acknowledge(target: &mut Target, id: u32) -> Line
 
 fn restart(target: &mut Target, id: u32) -> Line
     requires { id < length target.old.pollers }
-    ensures kept { KeptAlone target.old target.new }
+    ensures kept { KeepsAlone target.old target.new }
     ensures step { GivesLine (Command.Restart id) target.old result target.new }
 {
     match target.restart(id) {
@@ -204,7 +205,7 @@ fn scan(alloc: Global, target: &Target) -> Result<Answer, Unanswered>
 }
 
 fn prune(target: &mut Target, u: u64) -> Line
-    ensures kept { KeptAlone target.old target.new }
+    ensures kept { KeepsAlone target.old target.new }
     ensures step { GivesLine (Command.Prune u) target.old result target.new }
 {
     match target.prune(u) {
@@ -215,7 +216,7 @@ fn prune(target: &mut Target, u: u64) -> Line
 }
 
 fn failover(alloc: Global, target: &mut Target) -> Result<Answer, Unanswered>
-    ensures kept { KeptAlone target.old target.new }
+    ensures kept { KeepsAlone target.old target.new }
     ensures step { (logs : Logs) (m : Session) → IsSession logs m
         → StandsForSession logs m target.old → disagreement logs ≡ None
         → IfOk result (λ a. IsAnswer logs m Command.Failover a.text a.halted target.new) }

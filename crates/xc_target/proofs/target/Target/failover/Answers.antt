@@ -1,15 +1,14 @@
-use Rattle.std.proofs.Common.{◌≡◌, ◌∙◌, map, ap, subst, sym, Some}
+use Rattle.std.proofs.Common.{◌≡◌, ◌∙◌, ap, subst, sym, Some}
 use Rattle.std.specs.List.{AllZip}
 use Rattle.std.specs.Vec.{with_items}
 use Rattle.std.proofs.lemmas.List.{with_items_is}
 use Rattle.xc_record.specs.Bounds.{IsPartition}
 use Rattle.xc_record.specs.Session.{safe_now}
-use Rattle.xc_model.specs.Rows.{range_of}
 use Rattle.xc_model.specs.Stands.{restore}
-use Rattle.xc_target.specs.Target.{TargetState, least_open, FitsFeed}
+use Rattle.xc_target.specs.Target.{TargetState, least_open}
 use Rattle.xc_target.specs.Stands.{StandsForSession}
 use Rattle.xc_target.proofs.SessionLaws.{safe-is}
-use Rattle.xc_target.proofs.MoveLaws.{seen, is-closed, ranges-thin, length-thin, fits-thin, restore-thins}
+use Rattle.xc_target.proofs.MoveLaws.{seen, is-closed, ranges-thin, length-thin, keeps-thin, restore-thins}
 use Rattle.xc_target.proofs.target.Target.failover.Goals as goal
 
 restored : (c : goal.After-self-2-1) → AllZip (λ x y. y ≡ restore c.least_open-t.result x) c.self.inside.tablets.items
@@ -36,15 +35,8 @@ returns-clause-step c = λ logs m is st.
     is-closed logs m t is (subst (StandsForSession logs m) (sym c.self.view_is) st) c.in_default.is c.least_open-t.result
     (with_items c.self.inside.tablets c.restore.new.tablets).items safe (restored c)
 
-pub returns-clause-fits : goal.returns-clause-fits
-returns-clause-fits c = λ headers counts f.
-    let t = seen c.self.inside in
-    fits-thin headers counts t (λ x y. y ≡ restore c.least_open-t.result x) (restore-thins c.least_open-t.result)
-    (with_items c.self.inside.tablets c.restore.new.tablets).items c.self.inside.retention (Some c.least_open-t.result) (restored c)
-    (subst (FitsFeed headers counts) (sym c.self.view_is) f)
-
-pub returns-clause-ranges : goal.returns-clause-ranges
-returns-clause-ranges c =
-    ranges-thin (λ x y. y ≡ restore c.least_open-t.result x) (restore-thins c.least_open-t.result) c.self.inside.tablets.items
-    (with_items c.self.inside.tablets c.restore.new.tablets).items (restored c)
-    ∙ ap (λ (t : TargetState). map range_of t.tablets) c.self.view_is
+pub returns-clause-keeps : goal.returns-clause-keeps
+returns-clause-keeps c =
+    keeps-thin (seen c.self.inside) c.args.self.now (λ x y. y ≡ restore c.least_open-t.result x) (restore-thins c.least_open-t.result)
+    (with_items c.self.inside.tablets c.restore.new.tablets).items c.self.inside.retention (Some c.least_open-t.result) c.self.view_is
+    (restored c)

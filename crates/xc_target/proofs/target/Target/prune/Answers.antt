@@ -1,17 +1,16 @@
-use Rattle.std.proofs.Common.{◌≡◌, ◌∙◌, ℕ, List, Result, map, ap, subst, sym}
+use Rattle.std.proofs.Common.{◌≡◌, ◌∙◌, ℕ, List, Result, ap, subst, sym}
 use Rattle.std.specs.List.{AllZip}
 use Rattle.std.specs.Vec.{with_items}
 use Rattle.std.proofs.lemmas.List.{with_items_is}
 use Rattle.xc_record.specs.Bounds.{IsPartition}
 use Rattle.xc_record.specs.Session.{safe_now}
-use Rattle.xc_model.specs.Rows.{range_of}
 use Rattle.xc_model.specs.Stands.{TargetTablet}
 use Rattle.xc_retain.specs.Retention.{IsPruned as IsKept}
 use Rattle.xc_retain.specs.declared.retention.Ahead.{Ahead}
-use Rattle.xc_target.specs.Target.{TargetState, least_open, FitsFeed}
+use Rattle.xc_target.specs.Target.{TargetState, least_open}
 use Rattle.xc_target.specs.Stands.{StandsForSession}
 use Rattle.xc_target.proofs.SessionLaws.{safe-is}
-use Rattle.xc_target.proofs.MoveLaws.{seen, Thins, ranges-thin, length-thin, fits-thin}
+use Rattle.xc_target.proofs.MoveLaws.{seen, Thins, ranges-thin, length-thin, keeps-thin}
 use Rattle.xc_target.proofs.PruneLaws.{thinned, same-thins, pruned-at, refused-as}
 use Rattle.xc_target.proofs.target.Target.prune.Goals as goal
 use Rattle.xc_target.proofs.target.Target.prune.Goals.{in-Ok, in-Err}
@@ -54,13 +53,6 @@ returns-clause-step c = λ logs m is st.
           safe w.in-Err.ahead (subst (Kept c) w.in-Err.is (kept c)))
     ]
 
-pub returns-clause-fits : goal.returns-clause-fits
-returns-clause-fits c = λ headers counts f.
-    let t = seen c.self.inside in
-    fits-thin headers counts t Thins same-thins (after c) c.prune.new.self c.self.inside.closed (thin c)
-    (subst (FitsFeed headers counts) (sym c.self.view_is) f)
-
-pub returns-clause-ranges : goal.returns-clause-ranges
-returns-clause-ranges c =
-    ranges-thin Thins same-thins c.self.inside.tablets.items (after c) (thin c)
-    ∙ ap (λ (t : TargetState). map range_of t.tablets) c.self.view_is
+pub returns-clause-keeps : goal.returns-clause-keeps
+returns-clause-keeps c =
+    keeps-thin (seen c.self.inside) c.args.self.now Thins same-thins (after c) c.prune.new.self c.self.inside.closed c.self.view_is (thin c)

@@ -1,6 +1,7 @@
 pub mod Lists
 pub mod Subs
 pub mod Packed
+pub mod Inline
 pub mod Hash
 pub mod Order
 pub mod Headers

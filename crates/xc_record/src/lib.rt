@@ -1,6 +1,7 @@
 //! Records of the source's logs, and the definitions over them.
 #![tactic(auto)]
 
+mod bytes;
 mod headers;
 mod key_hash;
 mod ops;
@@ -47,13 +48,16 @@ mod tests {
             let key = Key::new(name.as_bytes())?;
             ops.push(Op { key, value: None })?;
         }
-        let mut copy = Ops::new(rt.alloc());
+        let mut copy = ops.clone_in(rt.alloc())?;
+        assert!(rt; copy == ops);
         for op in ops.iter() {
             copy.push_at(&op)?;
         }
-        copy.append(&ops)?;
-        assert!(rt; copy.len() == 4);
-        assert!(rt; copy.op(1) == ops.op(1) && copy.op(2) == ops.op(0));
+        for _ in 0..4 {
+            copy.append(&ops)?;
+        }
+        assert!(rt; copy.len() == 12 && copy.clone_in(rt.alloc())? == copy);
+        assert!(rt; copy.op(1) == ops.op(1) && copy.op(2) == ops.op(0) && copy.op(11) == ops.op(1));
         Ok(())
     }
 

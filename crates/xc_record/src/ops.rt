@@ -5,67 +5,93 @@ ghost use Rattle.std.specs.Cmp.{partial_equiv_from_equiv};
 ghost use Rattle.std.specs.Ordering.{on};
 ghost use Rattle.std.specs.Cmp.Lexicographic.{on_texts_equal};
 ghost use Rattle.xc_record.specs.Packed.{encode, encode_op, is_op, op_of, IsAt};
+ghost use Rattle.xc_record.specs.Inline.{bytes_of};
 ghost use Rattle.xc_record.specs.declared.packed.TheConstants.{OP_BYTES};
 ghost use Rattle.std.specs.Iterator.{YieldsFirst, item_count};
 ghost use Rattle.std.specs.Option.{option_map_or, option_copied};
 ghost use Rattle.xc_base.specs.Names.{is_key, is_value};
 
+use crate::bytes::Bytes;
 use crate::packed::{OP_BYTES, after_op, after_text, op_bytes, put_op, put_parts, text, value};
 use crate::record::Op;
 use std::alloc::{AllocError, Global};
 use std::marker::Model;
 use xc_base::{Key, Value};
 
-/// The operations of a record, one after another in bytes. Contracts see them as a list.
+/// The operations of a record, one after another in bytes, of which a few take no memory of their own. Contracts see
+/// them as a list.
 #[derive(Drop, Debug)]
 pub struct Ops {
-    bytes: Vec<u8>,
+    bytes: Bytes,
+    alloc: Global,
 }
 
 impl Model for Ops {
     ghost use Rattle.std.specs.Prelude.{List};
     ghost use Rattle.xc_record.specs.declared.record.Op.{Op};
     ghost use Rattle.xc_record.specs.Packed.{decode, IsPacked};
+    ghost use Rattle.xc_record.specs.Inline.{bytes_of};
 
     ghost Value = { List Op };
 
-    ghost view = { λ l. decode l.bytes.items };
+    ghost view = { λ l. decode (bytes_of l.bytes) };
 
-    ghost invariant = { λ l. IsPacked l.bytes.items };
+    ghost invariant = { λ l. IsPacked (bytes_of l.bytes) };
 }
 
 // Puts an operation last, or leaves the bytes as they are.
-fn push_op(bytes: &mut Vec<u8>, op: &Op) -> Result<(), AllocError>
-    ensures items { bytes.new.items ≡ (if is_ok result then bytes.old.items ++ encode_op op.now else bytes.old.items) }
+fn push_op(bytes: &mut Bytes, alloc: Global, op: &Op) -> Result<(), AllocError>
+    ensures items { bytes_of bytes.new
+        ≡ (if is_ok result then bytes_of bytes.old ++ encode_op op.now else bytes_of bytes.old) }
     ensures well { OnOk result (is_op op.now ≡ true) }
 {
-    bytes.reserve(OP_BYTES)?;
-    put_op(bytes, &op.key, &op.value);
+    let mut heap = bytes.take(alloc, OP_BYTES)?;
+    put_op(&mut heap, &op.key, &op.value);
+    *bytes = Bytes::Heap(heap);
     Ok(())
-}
-
-// Puts an operation last as it lies in other bytes, or leaves the bytes as they are.
-#[inline]
-fn copy_op(bytes: &mut Vec<u8>, op: &OpAt<'_>) -> Result<(), AllocError>
-    ensures items { bytes.new.items ≡ (if is_ok result then bytes.old.items ++ encode_op op.now else bytes.old.items) }
-    ensures well { OnOk result (is_op op.now ≡ true) }
-{
-    bytes.extend_from_slice(op.bytes())
 }
 
 // Puts the operation of a key and a value last, or of a key and None, or leaves the bytes as they are.
 #[inline]
-fn push_parts(bytes: &mut Vec<u8>, key: &[u8], value: Option<&[u8]>) -> Result<(), AllocError>
+fn push_parts(
+    bytes: &mut Bytes,
+    alloc: Global,
+    key: &[u8],
+    value: Option<&[u8]>,
+) -> Result<(), AllocError>
     requires key { is_key key.now ≡ true }
     requires value { option_map_or is_value (option_copied value) true ≡ true }
-    ensures items { bytes.new.items
-        ≡ (if is_ok result then bytes.old.items ++ encode_op
-        (record { key = key.now; value = option_copied value.entry }) else bytes.old.items) }
+    ensures items { bytes_of bytes.new
+        ≡ (if is_ok result then bytes_of bytes.old ++ encode_op
+        (record { key = key.now; value = option_copied value.entry }) else bytes_of bytes.old) }
     ensures well { OnOk result (is_op (record { key = key.now; value = option_copied value.entry }) ≡ true) }
 {
-    bytes.reserve(OP_BYTES)?;
-    put_parts(bytes, key, value);
+    let mut heap = bytes.take(alloc, OP_BYTES)?;
+    put_parts(&mut heap, key, value);
+    *bytes = Bytes::Heap(heap);
     Ok(())
+}
+
+// Puts bytes last, or leaves them as they are.
+#[inline]
+fn extend(bytes: &mut Bytes, alloc: Global, more: &[u8]) -> Result<(), AllocError>
+    ensures { bytes_of bytes.new
+        ≡ (if is_ok result then bytes_of bytes.old ++ more.now else bytes_of bytes.old) }
+{
+    let mut heap = bytes.take(alloc, more.len())?;
+    let done = heap.extend_from_slice(more);
+    *bytes = Bytes::Heap(heap);
+    done
+}
+
+// Puts an operation last as it lies in other bytes, or leaves the bytes as they are.
+#[inline]
+fn copy_op(bytes: &mut Bytes, alloc: Global, op: &OpAt<'_>) -> Result<(), AllocError>
+    ensures items { bytes_of bytes.new
+        ≡ (if is_ok result then bytes_of bytes.old ++ encode_op op.now else bytes_of bytes.old) }
+    ensures well { OnOk result (is_op op.now ≡ true) }
+{
+    extend(bytes, alloc, op.bytes())
 }
 
 impl Ops {
@@ -74,7 +100,8 @@ impl Ops {
         ensures { result ≡ [] }
     {
         Ops {
-            bytes: Vec::new(alloc),
+            bytes: Bytes::Heap(Vec::new(alloc)),
+            alloc,
         }
     }
 
@@ -82,7 +109,7 @@ impl Ops {
     pub fn push(&mut self, op: Op) -> Result<(), AllocError>
         ensures { self.new ≡ (if is_ok result then self.old ++ op ∷ [] else self.old) }
     {
-        push_op(&mut self.bytes, &op)
+        push_op(&mut self.bytes, self.alloc, &op)
     }
 
     /// Puts the operation of a key and a value last, or of a key and None, which removes it, given by their bytes.
@@ -95,7 +122,7 @@ impl Ops {
             ≡ (if is_ok result then self.old ++ record { key = key.now; value = option_copied value.entry } ∷ [] else
             self.old) }
     {
-        push_parts(&mut self.bytes, key, value)
+        push_parts(&mut self.bytes, self.alloc, key, value)
     }
 
     /// Puts an operation last as it lies in other bytes. After an error they are as before.
@@ -103,7 +130,7 @@ impl Ops {
     pub fn push_at(&mut self, op: &OpAt<'_>) -> Result<(), AllocError>
         ensures { self.new ≡ (if is_ok result then self.old ++ op.now ∷ [] else self.old) }
     {
-        copy_op(&mut self.bytes, op)
+        copy_op(&mut self.bytes, self.alloc, op)
     }
 
     /// Puts other operations last, as they lie. After an error they are as before.
@@ -111,7 +138,7 @@ impl Ops {
     pub fn append(&mut self, ops: &Ops) -> Result<(), AllocError>
         ensures { self.new ≡ (if is_ok result then self.old ++ ops.now else self.old) }
     {
-        self.bytes.extend_from_slice(&ops.bytes)
+        extend(&mut self.bytes, self.alloc, ops.bytes.as_slice())
     }
 
     /// Removes them all, and keeps the memory.
@@ -136,7 +163,9 @@ impl Ops {
         ensures all { result ≡ self.now }
         ensures small { length self.now < 2 ^ 64 }
     {
-        OpsIter { rest: &self.bytes }
+        OpsIter {
+            rest: self.bytes.as_slice(),
+        }
     }
 
     /// How many there are. It goes over them.
@@ -160,12 +189,13 @@ impl Ops {
         None
     }
 
-    /// The same operations in memory of their exact size.
+    /// The same operations, in no more memory than they need.
     pub fn clone_in(&self, alloc: Global) -> Result<Ops, AllocError>
         ensures { IfOk result (λ ops. ops ≡ self.now) }
     {
         Ok(Ops {
-            bytes: Vec::from_slice(alloc, &self.bytes)?,
+            bytes: Bytes::of(alloc, self.bytes.as_slice())?,
+            alloc,
         })
     }
 }
@@ -297,8 +327,6 @@ impl Clone for Ops {
     ghost is_clone = { λ ops copy. copy ≡ ops };
 
     fn clone(&self) -> Result<Ops, AllocError> {
-        Ok(Ops {
-            bytes: self.bytes.clone()?,
-        })
+        self.clone_in(self.alloc)
     }
 }

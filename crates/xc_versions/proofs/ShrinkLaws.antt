@@ -10,6 +10,7 @@ use Rattle.xc_versions.specs.declared.page.Page.{Page}
 use Rattle.xc_versions.specs.Stored.{InOrder, is_replaced, next_replaces, pruned_before}
 use Rattle.xc_versions.specs.Pages.{held, items_of, IsPage, IsPaged, Idle, IdleNext, Dues}
 use Rattle.xc_versions.specs.Pages.{over, load, spare_of, slots_of}
+use Rattle.xc_versions.specs.Pool.{Walked}
 use Rattle.xc_versions.proofs.StoredOrder.{in_order-right}
 use Rattle.xc_versions.proofs.VersionLaws.{replaced-first}
 use Rattle.xc_versions.proofs.PageLaws.{each-left, each-right, items_of-append, items-from, idle-instead, dues-append, dues-left}
@@ -97,13 +98,6 @@ spare-gone old new i q n m h e is k =
     subst (λ (z : ℕ). spare_of old n ≤ spare_of new z) (sym k) (spare-freed (load old) (load new) n (omega arith))
 
 -- ---- a loop from the last page to the first
-
--- from the page i on, all pages are done: f says what they hold
-pub record Walked (b : List ℕ) (f : List StoredVersion → List StoredVersion) (old new : List Page) (i : ℕ) : Type 0 where
-  pub within : i ≤ length old
-  pub short : i ≤ length new
-  pub front : take i new ≡ take i old
-  pub tail : items_of b (drop i new) ≡ f (items_of b (drop i old))
 
 pub walked-start : (b : List ℕ) (f : List StoredVersion → List StoredVersion) (old : List Page) → f [] ≡ []
     → Walked b f old old (length old)

@@ -3,6 +3,7 @@
 --     IsStored b pages pool least      and what is said of each 64 pages holds
 --     Gains b v pages pages2 pool pool2      the version v was put at its place, and room for one less may be left
 --     Loses b pages pages2 pool pool2 i left      the page i lost versions: of it and what stands behind it, `left` is there now
+--     Walked b f old new i      f says what the pages from i on hold now, and those before it are as they were
 use Rattle.std.specs.Prelude.{◌≡◌, ℕ, ◌+◌, ◌≤◌, List, [], length, take, drop, slice_index_or, vec_capacity, Vec}
 use Rattle.std.specs.VecDeque.{deque_capacity}
 use Rattle.std.specs.declared.collections.VecDeque.{VecDeque}
@@ -42,3 +43,9 @@ pub record Loses (b : List ℕ) (pages pages2 : VecDeque Page Global) (pool pool
   pub spare : spare_of pages.items (length pool.items) ≤ spare_of pages2.items (length pool2.items)
   pub dues : Shrunk i (dues_of pages.items) (dues_of pages2.items)
   pub len : i ≤ length pages2.items
+
+pub record Walked (b : List ℕ) (f : List StoredVersion → List StoredVersion) (old new : List Page) (i : ℕ) : Type 0 where
+  pub within : i ≤ length old
+  pub short : i ≤ length new
+  pub front : take i new ≡ take i old
+  pub tail : items_of b (drop i new) ≡ f (items_of b (drop i old))

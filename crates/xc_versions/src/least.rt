@@ -1,5 +1,5 @@
 // What the least due of each 64 pages is, or something below it, so that a prune passes by those where nothing is due.
-ghost use Rattle.std.specs.Prelude.{◌≡◌, ◌<◌, ◌≤◌, ◌*◌, ◌%◌, ◌/◌, ℕ, List, length, slice_index_or};
+ghost use Rattle.std.specs.Prelude.{◌≡◌, ◌<◌, ◌≤◌, ◌*◌, ◌+◌, ◌%◌, ◌/◌, ℕ, List, length, min, slice_index_or};
 ghost use Rattle.xc_versions.specs.Dues.{dues_of, Covers, NotAbove, Shrunk, Grew};
 
 use crate::page::Page;
@@ -8,12 +8,40 @@ use std::collections::VecDeque;
 /// How many pages are a group, of which one number is kept.
 pub(crate) const GROUP: usize = 64;
 
-/// What is said of the group, or 0 where nothing is.
+// What is said of the group, or 0 where nothing is.
 #[inline]
-pub(crate) fn least_of(least: &[u64], group: usize) -> u64
+fn least_of(least: &[u64], group: usize) -> u64
     ensures { result ≡ slice_index_or least.now group 0 }
 {
     if group < least.len() { least[group] } else { 0 }
+}
+
+/// How many of so many groups are left where those at the end go of which nothing is due at the cutoff.
+pub(crate) fn due_groups(least: &[u64], groups: usize, cutoff: u64) -> usize
+    ensures to { result ≤ groups }
+    ensures idle { (k : ℕ) → result ≤ k → k < groups → cutoff < slice_index_or least.now k 0 }
+{
+    let mut left = groups;
+    while left > 0 {
+        if least_of(least, left - 1) <= cutoff {
+            return left;
+        }
+        left -= 1;
+    }
+    left
+}
+
+/// What the page i is due for, or u64::MAX where there is no such page.
+#[inline]
+pub(crate) fn due_of(pages: &VecDeque<Page>, i: usize) -> u64
+    ensures { i < length pages.now.items → result ≡ slice_index_or (dues_of pages.now.items) i 0 }
+{
+    if i < pages.len() {
+        let page = &pages[i];
+        page.due
+    } else {
+        u64::MAX
+    }
 }
 
 // Says of the group no more than this.
@@ -75,8 +103,8 @@ pub(crate) fn grown(
     }
 }
 
-// Says of the group what its pages are due for.
-fn raise(least: &mut Vec<u64>, pages: &VecDeque<Page>, group: usize)
+/// Says of the group what its pages are due for.
+pub(crate) fn raise(least: &mut Vec<u64>, pages: &VecDeque<Page>, group: usize)
     requires { 64 * group ≤ length pages.now.items }
     ensures { Covers (dues_of pages.now.items) least.old.items → Covers (dues_of pages.now.items) least.new.items }
 {
@@ -92,14 +120,14 @@ fn raise(least: &mut Vec<u64>, pages: &VecDeque<Page>, group: usize)
     least[group] = due;
 }
 
-/// Says of a group what its pages are due for, where the page i is its first.
-#[inline]
-pub(crate) fn raise_at(least: &mut Vec<u64>, pages: &VecDeque<Page>, i: usize)
-    requires { i ≤ length pages.now.items }
+/// Says of the group that none of its pages is due below this.
+pub(crate) fn say(least: &mut Vec<u64>, pages: &VecDeque<Page>, group: usize, due: u64)
+    requires { (k : ℕ) → 64 * group ≤ k → k < min (length pages.now.items) (64 * group + 64)
+        → due ≤ slice_index_or (dues_of pages.now.items) k 0 }
     ensures { Covers (dues_of pages.now.items) least.old.items → Covers (dues_of pages.now.items) least.new.items }
 {
-    if i % GROUP == 0 {
-        raise(least, pages, i / GROUP);
+    if group < least.len() {
+        least[group] = due;
     }
 }
 

@@ -1,17 +1,17 @@
 // Prunes and drops over pages: pages that became empty go to the pool.
-ghost use Rattle.std.specs.Prelude.{◌≡◌, ◌++◌, ◌<◌, ◌≤◌, ◌+◌, nat_lt, remove, take, drop, length, slice_get};
-ghost use Rattle.std.specs.Prelude.{slice_index_or, vec_capacity, option_map, IfSome};
+ghost use Rattle.std.specs.Prelude.{◌≡◌, ◌++◌, ◌<◌, ◌≤◌, ◌+◌, ◌*◌, ℕ, List, [], min, remove, take, drop, length};
+ghost use Rattle.std.specs.Prelude.{slice_get, slice_index_or, vec_capacity, option_map, IfSome};
 ghost use Rattle.std.specs.List.{AllByRecursion};
 ghost use Rattle.std.specs.VecDeque.{deque_capacity};
 ghost use Rattle.xc_versions.specs.Stored.{kept, pruned_before, up_to};
 ghost use Rattle.xc_versions.specs.Slots.{seen};
 ghost use Rattle.xc_versions.specs.Heads.{IsSlot};
-ghost use Rattle.xc_versions.specs.Pages.{held, IsPage, IsEmptyPage, items_of, spare_of};
+ghost use Rattle.xc_versions.specs.Pages.{held, IsPage, IsPaged, IsEmptyPage, items_of, spare_of};
 ghost use Rattle.xc_versions.specs.declared.page.Page.{Page};
-ghost use Rattle.xc_versions.specs.Pool.{IsStore, Loses};
+ghost use Rattle.xc_versions.specs.Pool.{IsStore, Loses, Walked};
 ghost use Rattle.xc_versions.specs.Dues.{dues_of, Covers, Shrunk};
 
-use crate::least::{GROUP, fill, least_of, raise_at, settle};
+use crate::least::{GROUP, due_groups, due_of, fill, raise, say, settle};
 use crate::page::Page;
 use crate::stored::Slot;
 use std::collections::VecDeque;
@@ -70,17 +70,32 @@ fn prune_at(
     dead
 }
 
-// Whether nothing of the page i is due at the cutoff.
-#[inline]
-fn is_idle(pages: &VecDeque<Page>, i: usize, cutoff: u64) -> bool
-    requires { i < length pages.now.items }
-    ensures { (q : Page) → q ≡ slice_index_or pages.now.items i q → result ≡ nat_lt cutoff q.due }
+// Where those pages begin, from `first` on up to `end`, of which nothing is due at the cutoff. None of them is due
+// below what `due` is then.
+fn pass_idle(pages: &VecDeque<Page>, first: usize, end: usize, cutoff: u64, due: &mut u64) -> usize
+    requires order { first ≤ end }
+    requires within { end ≤ length pages.now.items }
+    ensures from { first ≤ result }
+    ensures to { result ≤ end }
+    ensures idle { (k : ℕ) → result ≤ k → k < end → cutoff < slice_index_or (dues_of pages.now.items) k 0 }
+    ensures lower { due.new ≤ due.old }
+    ensures due { (k : ℕ) → result ≤ k → k < end → due.new ≤ slice_index_or (dues_of pages.now.items) k 0 }
 {
-    let page = &pages[i];
-    cutoff < page.due
+    let mut least = *due;
+    let mut i = end;
+    while i > first {
+        let page = &pages[i - 1];
+        if page.due <= cutoff {
+            break;
+        }
+        least = least.min(page.due);
+        i -= 1;
+    }
+    *due = least;
+    i
 }
 
-// The same, and what is said of the page's group holds. At the group's first page it is what the pages are due for.
+// Prunes the page i, and what is said of each group holds.
 fn prune_page(
     bytes: &[u8],
     pages: &mut VecDeque<Page>,
@@ -95,14 +110,48 @@ fn prune_page(
     ensures loses { Loses bytes.now pages.old pages.new pool.old pool.new i (pruned_before cutoff) }
     ensures least { Covers (dues_of pages.new.items) least.new.items }
 {
-    if is_idle(pages, i, cutoff) {
-        raise_at(least, pages, i);
-        return 0;
-    }
     let count = pages.len();
     let dead = prune_at(bytes, pages, pool, i, cutoff);
     settle(least, pages, i, count);
-    raise_at(least, pages, i);
+    dead
+}
+
+// Prunes the pages of a group, and says of it what they are due for then. Where all behind them was pruned, all from
+// them on is.
+fn prune_group(
+    bytes: &[u8],
+    pages: &mut VecDeque<Page>,
+    pool: &mut Vec<Page>,
+    least: &mut Vec<u64>,
+    group: usize,
+    cutoff: u64,
+) -> usize
+    requires store { IsStore bytes.now pages.old pool.old }
+    requires least { Covers (dues_of pages.old.items) least.old.items }
+    requires within { 64 * group ≤ length pages.old.items }
+    ensures store { IsStore bytes.now pages.new pool.new }
+    ensures least { Covers (dues_of pages.new.items) least.new.items }
+    ensures walked { (all : List Page) → IsPaged bytes.now all []
+        → Walked bytes.now (kept cutoff) all pages.old.items (min (length pages.old.items) (64 * group + 64))
+        → Walked bytes.now (kept cutoff) all pages.new.items (64 * group) }
+    ensures spare { spare_of pages.old.items (length pool.old.items) ≤ spare_of pages.new.items
+        (length pool.new.items) }
+{
+    let first = group * GROUP;
+    let count = pages.len();
+    let mut due = u64::MAX;
+    let mut dead: usize = 0;
+    let mut i = pass_idle(pages, first, count.min(first + GROUP), cutoff, &mut due);
+    while i > first {
+        dead = dead.saturating_add(prune_page(bytes, pages, pool, least, i - 1, cutoff));
+        due = due.min(due_of(pages, i - 1));
+        i = pass_idle(pages, first, i - 1, cutoff, &mut due);
+    }
+    if pages.len() < count {
+        raise(least, pages, group);
+    } else {
+        say(least, pages, group, due);
+    }
     dead
 }
 
@@ -123,17 +172,14 @@ pub(crate) fn prune(
         (length pool.new.items) }
     ensures least { Covers (dues_of pages.new.items) least.new.items }
 {
-    fill(least, pages.len() / GROUP + 1);
+    let groups = pages.len() / GROUP + 1;
+    fill(least, groups);
     let mut dead: usize = 0;
-    let mut i = pages.len();
-    while i > 0 {
-        let group = (i - 1) / GROUP;
-        if cutoff < least_of(least, group) {
-            i = group * GROUP;
-        } else {
-            i -= 1;
-            dead = dead.saturating_add(prune_page(bytes, pages, pool, least, i, cutoff));
-        }
+    let mut left = due_groups(least, groups, cutoff);
+    while left > 0 {
+        let group = left - 1;
+        dead = dead.saturating_add(prune_group(bytes, pages, pool, least, group, cutoff));
+        left = due_groups(least, group, cutoff);
     }
     dead
 }

@@ -7,7 +7,8 @@ use Rattle.std.specs.Prelude.{nat_le}
 use Rattle.std.proofs.lemmas.List.Elements.{filter-append}
 use Rattle.xc_versions.specs.Stored.{up_to}
 use Rattle.xc_versions.specs.Pages.{held, items_of}
-use Rattle.xc_versions.proofs.ShrinkLaws.{Walked, walked-some}
+use Rattle.xc_versions.specs.Pool.{Walked}
+use Rattle.xc_versions.proofs.ShrinkLaws.{walked-some}
 use Rattle.xc_versions.proofs.shrink.drop_after.Goals as goal
 
 both : {a b c : ℕ} → a ≤ b → b ≤ c → a ≤ c

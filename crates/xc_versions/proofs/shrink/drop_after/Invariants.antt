@@ -2,8 +2,7 @@ use Rattle.std.proofs.Common.{◌≤◌, length}
 use Rattle.xc_versions.specs.Stored.{up_to}
 use Rattle.xc_versions.specs.Pages.{spare_of}
 use Rattle.xc_versions.specs.Dues.{dues_of, Covers}
-use Rattle.xc_versions.specs.Pool.{IsStore}
-use Rattle.xc_versions.proofs.ShrinkLaws.{Walked}
+use Rattle.xc_versions.specs.Pool.{IsStore, Walked}
 use Rattle.xc_versions.proofs.shrink.drop_after.Given as goal
 
 abbrev pub invariant-loop-i : goal.invariant-loop-i

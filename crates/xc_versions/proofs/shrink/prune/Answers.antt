@@ -1,58 +1,59 @@
-use Rattle.std.proofs.Common.{◌≡◌, ℕ, ◌+◌, ◌-◌, ◌*◌, ◌/◌, ◌≤◌, length, get_or, drop, ap, sym, subst, arith}
-use Rattle.std.proofs.lemmas.List.{length-map}
-use Rattle.xc_versions.specs.declared.page.Page.{Page}
-use Rattle.xc_versions.specs.Dues.{dues_of}
-use Rattle.xc_versions.proofs.DueLaws.{passed-by}
-use Rattle.xc_versions.specs.Stored.{kept, pruned_before}
-use Rattle.xc_versions.specs.Pages.{held, items_of}
-use Rattle.xc_versions.proofs.VersionLaws.{kept-before}
-use Rattle.xc_versions.proofs.ShrinkLaws.{Walked, walked-some, order-at}
+use Rattle.std.proofs.Common.{◌≡◌, ℕ, ◌+◌, ◌-◌, ◌*◌, ◌/◌, ◌≤◌, length, min, subst, ◌∙◌, refl, arith}
+use Rattle.xc_versions.specs.Dues.{dues_of, Covers}
+use Rattle.xc_versions.specs.Stored.{kept}
+use Rattle.xc_versions.specs.Pool.{Walked}
+use Rattle.xc_versions.proofs.SplitLaws.{deque-long}
+use Rattle.xc_versions.proofs.ShrinkLaws.{walked-start}
+use Rattle.xc_versions.proofs.DueLaws.{groups-passed}
 use Rattle.xc_versions.proofs.shrink.prune.Goals as goal
 
 both : {a b c : ℕ} → a ≤ b → b ≤ c → a ≤ c
 both h k = omega arith
 
-pub loop-i-preserved-then-cutoff-least_of : goal.loop-i-preserved-then-cutoff-least_of
-loop-i-preserved-then-cutoff-least_of c =
-    let b = c.args.bytes.now in
-    let i = c.loop-i.i in
-    let u = c.args.cutoff in
-    let old = c.args.pages.now.items in
-    let mid = c.loop-i.pages.items in
-    let first = (i - 1) / 64 * 64 in
-    let w = c.loop-i.invariant.walked in
-    let short = w.short in
-    let long : length (dues_of mid) ≡ length mid = length-map mid (λ (p : Page). p.due) in
-    let said : c.least_of.result ≡ get_or c.loop-i.least.items ((i - 1) / 64) 0 = rw c.deref.ensures.value at c.least_of.ensures in
-    let early = c.if-cutoff-least_of.true in
+pub loop-left-init : goal.loop-left-init
+loop-left-init c =
+    let ps = c.args.pages.now.items in
+    let count : c.len.result ≡ length ps = c.len.ensures ∙ deque-long c.args.pages.now in
+    let to = c.due_groups-left.ensures.to in
+    let least : Covers (dues_of ps) c.fill.new.least.items =
+    λ k l. let a = c.fill.ensures (k / 64) in let b = c.requires.least k l in omega arith in
     record {
-      store = c.loop-i.invariant.store;
-      least = c.loop-i.invariant.least;
-      walked = passed-by b u old mid first i c.requires.store.paged c.loop-i.invariant.store.paged w (omega arith)
-          (λ k l m.
-          let group : k / 64 ≡ (i - 1) / 64 = omega arith in
-          let held = c.loop-i.invariant.least k (omega arith) in
-          let same : get_or c.loop-i.least.items (k / 64) 0 ≡ get_or c.loop-i.least.items ((i - 1) / 64) 0 =
-          ap (λ n. get_or c.loop-i.least.items n 0) group in
-          omega arith);
-      spare = c.loop-i.invariant.spare;
+      store = c.requires.store;
+      least = least;
+      walked = groups-passed c.args.bytes.now c.args.cutoff ps ps c.fill.new.least.items c.due_groups-left.result (c.len.result / 64 + 1)
+          c.requires.store.paged c.requires.store.paged least
+          (subst (λ (k : ℕ). Walked c.args.bytes.now (kept c.args.cutoff) ps ps k) (omega arith)
+          (walked-start c.args.bytes.now (kept c.args.cutoff) ps refl))
+          to
+          (rw c.deref.ensures.value at c.due_groups-left.ensures.idle);
+      within = omega arith;
+      spare = omega arith;
     }
 
-pub loop-i-preserved : goal.loop-i-preserved
-loop-i-preserved c =
+pub loop-left-preserved : goal.loop-left-preserved
+loop-left-preserved c =
     let b = c.args.bytes.now in
-    let i = c.loop-i.i - 1 in
     let u = c.args.cutoff in
     let old = c.args.pages.now.items in
-    let same : c.loop-i.i ≡ i + 1 = omega arith in
-    let before = subst (λ (k : ℕ). Walked b (kept u) old c.loop-i.pages.items k) same c.loop-i.invariant.walked in
-    let within = before.within in
+    let mid = c.loop-left.pages.items in
+    let new = c.prune_group.new.pages.items in
+    let group = c.loop-left.left - 1 in
+    let some = c.loop-left-test.true in
+    let to = c.due_groups-left-in-loop-left.ensures.to in
+    let before : min (length mid) (c.loop-left.left * 64) ≡ min (length mid) (64 * group + 64) = omega arith in
+    let w : Walked b (kept u) old new (64 * group) =
+    c.prune_group.ensures.walked old c.requires.store.paged
+    (subst (λ (k : ℕ). Walked b (kept u) old mid k) before c.loop-left.invariant.walked) in
+    let short = w.short in
+    let spare = c.loop-left.invariant.spare in
+    let more = c.prune_group.ensures.spare in
     record {
-      store = c.prune_page.ensures.loses.store;
-      least = c.prune_page.ensures.least;
-      walked = walked-some b (kept u) (pruned_before u) old c.loop-i.pages.items c.prune_page.new.pages.items i before
-          c.prune_page.ensures.loses.front c.prune_page.ensures.loses.tail
-          (λ q e. sym (kept-before u (held b q) (items_of b (drop (i + 1) old))
-          (order-at b old i q c.requires.store.paged (omega arith) e)));
-      spare = (let a = c.loop-i.invariant.spare in let b = c.prune_page.ensures.loses.spare in both a b);
+      store = c.prune_group.ensures.store;
+      least = c.prune_group.ensures.least;
+      walked = groups-passed b u old new c.prune_group.new.least.items c.due_groups-left-in-loop-left.result group c.requires.store.paged
+          c.prune_group.ensures.store.paged c.prune_group.ensures.least
+          (subst (λ (k : ℕ). Walked b (kept u) old new k) (omega arith) w) to
+          (rw c.deref-in-loop-left.ensures.value at c.due_groups-left-in-loop-left.ensures.idle);
+      within = omega arith;
+      spare = both spare more;
     }

@@ -1,12 +1,11 @@
 use Rattle.std.proofs.Common.{◌≡◌, ◌+◌, ◌<◌, ◌≤◌, length, drop, sym, arith, refl}
 use Rattle.std.proofs.lemmas.Grind.{common_steps}
-use Rattle.std.proofs.lemmas.Bool.{ltb-true}
 use Rattle.xc_versions.specs.Stored.{pruned_before}
 use Rattle.xc_versions.specs.Pages.{held, items_of, IsPage, slots_of, capacity_of}
 use Rattle.xc_versions.proofs.AddLaws.{page-at}
 use Rattle.xc_versions.proofs.SubLaws.{sub-pruned}
-use Rattle.xc_versions.proofs.ShrinkLaws.{idle-at, order-at, pruned-idle, idle-from-next}
-use Rattle.xc_versions.proofs.LossLaws.{loses-none, loses-all, loses-some}
+use Rattle.xc_versions.proofs.ShrinkLaws.{idle-from-next}
+use Rattle.xc_versions.proofs.LossLaws.{loses-all, loses-some}
 use Rattle.xc_versions.proofs.shrink.prune_at.Goals as goal
 
 pub returns-then-is_empty : goal.returns-then-is_empty

@@ -12,7 +12,7 @@ use Rattle.xc_text.specs.declared.line.Version.TheVariants.{One, Two}
 use Rattle.xc_text.specs.declared.line.LogLine.{LogLine}
 use Rattle.xc_text.specs.declared.line.LogLine.TheVariants as line
 use Rattle.xc_text.specs.Lines.{op_of, all_ops, ops_of, kind_of, kind_by, line_of, line_by, entry_of, header_of, version_of, at_end, number}
-use Rattle.xc_text.specs.Lines.{first_number, intent_of, sub_of, without_of, apply_of, abort_of, safe_of, split_of, ◌>>=◌}
+use Rattle.xc_text.specs.Lines.{first_number, only_number, intent_of, sub_of, without_of, apply_of, abort_of, safe_of, split_of, ◌>>=◌}
 use Rattle.xc_text.proofs.ValidParts.{has_ops}
 
 -- the test holds of what there is
@@ -23,6 +23,11 @@ then_holds : {A B : Type 0} (p : B → Bool) (o : Option A) (f : A → Option B)
     → holds_of p (option_and_then f o) ≡ true
 then_holds p None f h = refl
 then_holds p (Some x) f h = h x
+
+map_holds : {A B : Type 0} (p : B → Bool) (f : A → B) (o : Option A) → ((x : A) → p (f x) ≡ true)
+    → holds_of p (option_map f o) ≡ true
+map_holds p f None h = refl
+map_holds p f (Some x) h = h x
 
 end_holds : {A : Type 0} (p : A → Bool) (words : List (List ℕ)) (x : A) → p x ≡ true → holds_of p (at_end words x) ≡ true
 end_holds p [] x h = h
@@ -71,13 +76,10 @@ intents_some v words =
     (λ sub. intent_some txn.0 sub.0 (ops_of v sub.1) (ops_some v sub.1)))
 
 abort_some : (words : List (List ℕ)) → holds_of has_ops (abort_of words) ≡ true
-abort_some words =
-    then_holds has_ops (first_number words) (λ txn. at_end txn.1 (Abort txn.0)) (λ txn. end_holds has_ops txn.1 (Abort txn.0) refl)
+abort_some words = map_holds has_ops Abort (only_number words) (λ txn. refl)
 
 safe_some : (words : List (List ℕ)) → holds_of has_ops (safe_of words) ≡ true
-safe_some words =
-    then_holds has_ops (first_number words) (λ value. at_end value.1 (Safe value.0))
-    (λ value. end_holds has_ops value.1 (Safe value.0) refl)
+safe_some words = map_holds has_ops Safe (only_number words) (λ value. refl)
 
 split_some : (words : List (List ℕ)) → holds_of has_ops (split_of words) ≡ true
 split_some words =

@@ -29,7 +29,7 @@ use Rattle.xc_text.specs.declared.line.LogLine.TheVariants as line
 use Rattle.xc_text.specs.Lines.{◌>>=◌, no_name, name_of, number, first_number, at_end, set_of, op_written, op_meant, op_is_named, op_of}
 use Rattle.xc_text.specs.Lines.{all_ops, ops_of, sub_named, sub_of, intent_of, all_numbers, numbers_of, without_of, apply_of, abort_of}
 use Rattle.xc_text.specs.Lines.{safe_of, split_of, kind_by, kind_of, kind_numbers_fit, kind_names_fit, names_fit, entry_of, parent_of}
-use Rattle.xc_text.specs.Lines.{header_of, version_of, line_by, line_of, header_numbers_fit, numbers_fit}
+use Rattle.xc_text.specs.Lines.{only_number, header_of, version_of, line_by, line_of, header_numbers_fit, numbers_fit}
 use Rattle.xc_text.specs.Printed.{spaced, line_text, name_word, spelled, op_by, op_word, op_spelled, sub_words, without_words, kind_words}
 use Rattle.xc_text.specs.Printed.{kind_spelled, first_line, record_text, parent_words, header_text}
 use Rattle.xc_text.proofs.PrintedLines.{header_words, in_range-subs}
@@ -72,6 +72,16 @@ first_word (w ∷ ws) p h l = first_cases w ws p (number w) refl h l
 ended : {A : Type 0} (ws : List (List ℕ)) (x y : A) → at_end ws x ≡ Some y → (ws ≡ []) × (x ≡ y)
 ended [] x y h = (refl, same_Some x y h)
 ended (w ∷ ws) x y h = cc
+
+only_word : (ws : List (List ℕ)) (n : ℕ) → only_number ws ≡ Some n → n < 2 ^ 62 → ws ≡ decimal n ∷ []
+only_word ws n h l =
+    option_and_then_some (λ p. at_end p.1 p.0) (first_number ws) n h
+    (λ p is end. let z = ended p.1 p.0 n end in first_word ws p is (subst (λ m. m < 2 ^ 62) (sym z.1) l)
+    ∙ ap (λ m. decimal m ∷ p.1) z.1 ∙ ap (λ us. decimal n ∷ us) z.0)
+
+map_some : {A B P : Type 0} (f : A → B) (o : Option A) (y : B) → option_map f o ≡ Some y → ((x : A) → o ≡ Some x → f x ≡ y → P) → P
+map_some f None y h k = cc
+map_some f (Some x) y h k = k x refl (same_Some (f x) y h)
 
 time_low : (n : ℕ) → is_time n ≡ true → n < 2 ^ 62
 time_low n h = let p = and_parts (nat_le 1 n) (nat_lt n (2 ^ 62)) h in grind (arith, nat_tests)
@@ -293,19 +303,13 @@ apply_words v words k h =
 
 abort_words : (v : Version) (words : List (List ℕ)) (k : Kind) → abort_of words ≡ Some k → AreWords v (codes "abort" ∷ words) k
 abort_words v words k h =
-    option_and_then_some (λ txn. at_end txn.1 (Abort txn.0)) (first_number words) k h
-    (λ txn is end. let z = ended txn.1 (Abort txn.0) k end in subst (AreWords v (codes "abort" ∷ words)) z.1
-    (λ fit named. (ap (λ ws. codes "abort" ∷ ws) (first_word words txn is (txn_low txn.0 fit) ∙ ap (λ ws. decimal txn.0 ∷ ws) z.0), refl)))
+    map_some Abort (only_number words) k h (λ txn is same. subst (AreWords v (codes "abort" ∷ words)) same
+    (λ fit named. (ap (λ ws. codes "abort" ∷ ws) (only_word words txn is (txn_low txn fit)), refl)))
 
 safe_words : (v : Version) (words : List (List ℕ)) (k : Kind) → safe_of words ≡ Some k → AreWords v (codes "safe" ∷ words) k
 safe_words v words k h =
-    option_and_then_some (λ value. at_end value.1 (Safe value.0)) (first_number words) k h
-    (λ value is end. let z = ended value.1 (Safe value.0) k end in subst (AreWords v (codes "safe" ∷ words)) z.1
-    (λ fit named. (
-      ap (λ ws. codes "safe" ∷ ws) (first_word words value is (time_low value.0 fit)
-          ∙ ap (λ ws. decimal value.0 ∷ ws) z.0),
-      refl,
-    )))
+    map_some Safe (only_number words) k h (λ value is same. subst (AreWords v (codes "safe" ∷ words)) same
+    (λ fit named. (ap (λ ws. codes "safe" ∷ ws) (only_word words value is (time_low value fit)), refl)))
 
 split_words : (v : Version) (words : List (List ℕ)) (k : Kind) → split_of words ≡ Some k → AreWords v (codes "split" ∷ words) k
 split_words v words k h =
@@ -403,12 +407,11 @@ end_words v words l h =
 abbrev AreParent : List (List ℕ) → Option ℕ → Type 0
 AreParent words parent = option_map_or (λ p. nat_lt p 64) parent true ≡ true → words ≡ parent_words parent
 
-child_words : (ws : List (List ℕ)) (parent : Option ℕ) → (first_number ws >>= (λ p. at_end p.1 (Some p.0))) ≡ Some parent
+child_words : (ws : List (List ℕ)) (parent : Option ℕ) → option_map Some (only_number ws) ≡ Some parent
     → AreParent (codes "child" ∷ ws) parent
 child_words ws parent h =
-    option_and_then_some (λ p. at_end p.1 (Some p.0)) (first_number ws) parent h
-    (λ p is end. let z = ended p.1 (Some p.0) parent end in subst (AreParent (codes "child" ∷ ws)) z.1
-    (λ fit. ap (λ us. codes "child" ∷ us) (first_word ws p is (tablet_low p.0 fit) ∙ ap (λ us. decimal p.0 ∷ us) z.0)))
+    map_some Some (only_number ws) parent h (λ p is same. subst (AreParent (codes "child" ∷ ws)) same
+    (λ fit. ap (λ us. codes "child" ∷ us) (only_word ws p is (tablet_low p fit))))
 
 root_words : (ws : List (List ℕ)) (parent : Option ℕ) → at_end ws None ≡ Some parent → AreParent (codes "root" ∷ ws) parent
 root_words ws parent h =
@@ -419,7 +422,7 @@ parent_are [] parent h = absurd (none-some parent h)
 parent_are (w ∷ ws) parent h = by (bytes_eq w (codes "root")) (bytes_eq w (codes "child")) refl refl h
   where
     by : (a b : Bool) → bytes_eq w (codes "root") ≡ a → bytes_eq w (codes "child") ≡ b
-        → (if a then at_end ws None else (if b then (first_number ws >>= (λ p. at_end p.1 (Some p.0))) else None)) ≡ Some parent
+        → (if a then at_end ws None else (if b then option_map Some (only_number ws) else None)) ≡ Some parent
         → AreParent (w ∷ ws) parent
     by true b p q g fit = ap (λ v. v ∷ ws) ((bytes_eq-Decides w (codes "root")).0 p) ∙ root_words ws parent g fit
     by false true p q g fit = ap (λ v. v ∷ ws) ((bytes_eq-Decides w (codes "child")).0 q) ∙ child_words ws parent g fit

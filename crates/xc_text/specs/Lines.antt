@@ -57,6 +57,12 @@ is_over (word ∷ words) = false
 abbrev pub at_end : {A : Type 0} → List (List ℕ) → A → Option A
 at_end words x = if is_over words then Some x else None
 
+-- the number that the only word spells
+abbrev pub only_number : List (List ℕ) → Option ℕ
+only_number words = do
+  n ← first_number words
+  at_end n.1 n.0
+
 -- ---- operations
 
 -- The key and the value as they are written. `key=value`: the first `=` ends the key
@@ -135,14 +141,10 @@ apply_of words = do
   Some (Apply txn.0 commit.0 without)
 
 abbrev pub abort_of : List (List ℕ) → Option Kind
-abort_of words = do
-  txn ← first_number words
-  at_end txn.1 (Abort txn.0)
+abort_of words = option_map Abort (only_number words)
 
 abbrev pub safe_of : List (List ℕ) → Option Kind
-safe_of words = do
-  value ← first_number words
-  at_end value.1 (Safe value.0)
+safe_of words = option_map Safe (only_number words)
 
 abbrev pub split_of : List (List ℕ) → Option Kind
 split_of words = do
@@ -211,7 +213,7 @@ abbrev pub parent_of : List (List ℕ) → Option (Option ℕ)
 parent_of [] = None
 parent_of (word ∷ words) =
     if bytes_eq word (codes "root") then at_end words None
-    else (if bytes_eq word (codes "child") then first_number words >>= (λ parent. at_end parent.1 (Some parent.0)) else None)
+    else (if bytes_eq word (codes "child") then option_map Some (only_number words) else None)
 
 -- `tablet ID LO HI ..`, after the first word
 abbrev pub header_of : List (List ℕ) → Option Header

@@ -5,7 +5,7 @@ ghost use Rattle.std.specs.List.{position_or_len, before_first, after_first, lis
 ghost use Rattle.std.specs.Option.{option_map_or, option_copied};
 ghost use Rattle.xc_base.specs.Words.{split_on};
 ghost use Rattle.xc_record.specs.Hash.{hash_of};
-ghost use Rattle.xc_text.specs.Lines.{number, first_number, sub_of, is_over, op_is_named, kind_of};
+ghost use Rattle.xc_text.specs.Lines.{number, first_number, only_number, sub_of, is_over, op_is_named, kind_of};
 ghost use Rattle.xc_text.specs.Verbs.{verb_word};
 ghost use Rattle.xc_text.specs.declared.line.Version.{Version};
 ghost use Rattle.xc_text.specs.Printed.{op_by, op_spelled};
@@ -193,6 +193,17 @@ impl<'a> Words<'a> {
             Some(word) => number(word),
             None => Err(Fail::Bad(LogKind::Form)),
         }
+    }
+
+    // The number that the only word left spells.
+    #[inline(always)]
+    pub(crate) fn only_number(&mut self) -> Result<u64, Fail>
+        ensures { MatchResult result (λ n. only_number self.old ≡ Some n) (λ e. (e ≡ Bad Form)
+            × (only_number self.old ≡ None)) }
+    {
+        let value = self.number()?;
+        self.end()?;
+        Ok(value)
     }
 
     // The number of the subtransaction that the next two words name, or 0 where the next word isn't `sub`.

@@ -66,9 +66,7 @@ fn read_parent(mut words: Words<'_>) -> Result<Option<u64>, Fail>
         return Ok(None);
     }
     if word == b"child".as_slice() {
-        let parent = words.number()?;
-        words.end()?;
-        return Ok(Some(parent));
+        return Ok(Some(words.only_number()?));
     }
     Err(Fail::Bad(LogKind::Form))
 }

@@ -156,8 +156,7 @@ fn read_apply(mut words: Words<'_>) -> Result<Kind, Fail>
 fn read_abort(mut words: Words<'_>) -> Result<Kind, Fail>
     ensures { Answers (λ kind. kind) result (judge kind_numbers_fit kind_names_fit (abort_of words.entry)) }
 {
-    let txn = words.number()?;
-    words.end()?;
+    let txn = words.only_number()?;
     Ok(Kind::Abort {
         txn: transaction_in(txn)?,
     })
@@ -167,8 +166,7 @@ fn read_abort(mut words: Words<'_>) -> Result<Kind, Fail>
 fn read_safe(mut words: Words<'_>) -> Result<Kind, Fail>
     ensures { Answers (λ kind. kind) result (judge kind_numbers_fit kind_names_fit (safe_of words.entry)) }
 {
-    let value = words.number()?;
-    words.end()?;
+    let value = words.only_number()?;
     Ok(Kind::Safe {
         value: time_in(value)?,
     })

@@ -1,5 +1,6 @@
 pub mod ContentsLaws
 pub mod Aparts
+pub mod Widths
 pub mod ApplyLaws
 pub mod RoomLaws
 pub mod StateLaws

@@ -9,6 +9,9 @@ ghost use Rattle.xc_base.specs.declared.limits.TheConstants.{MOST_RECORDS, RECOR
 
 use xc_record::{Header, Kind, OpAt, Ops, Record, hash_bytes};
 
+// So many operations get room whether or not their keys are in the range.
+const FEW_OPS: usize = 512;
+
 /// What records need, of operations whose keys are in a range.
 #[derive(Drop, Debug)]
 pub(crate) struct Room {
@@ -82,8 +85,8 @@ impl Room {
         }
     }
 
-    /// What the records of a source tablet with this header need, of at most 64 operations each.
-    pub(crate) fn of(header: &Header, records: &[Record], lo: u16, hi: u16) -> Room
+    // What the records of a source tablet with this header need, of at most 64 operations each.
+    fn counted(header: &Header, records: &[Record], lo: u16, hi: u16) -> Room
         requires keep { all_keep header.now records.now ≡ true }
         requires few { length records.now ≤ MOST_RECORDS }
         requires small { list_all (λ r. nat_le (ops_in r.kind) RECORD_OPERATIONS) records.now ≡ true }
@@ -102,6 +105,27 @@ impl Room {
             room.count(header, &item.kind, lo, hi);
         }
         room
+    }
+
+    /// At least what the records of a source tablet with this header need, of at most 64 operations each. Where they
+    /// have few operations in all, it is what all of these need, so that no key is hashed for it.
+    pub(crate) fn of(header: &Header, records: &[Record], lo: u16, hi: u16) -> Room
+        requires keep { all_keep header.now records.now ≡ true }
+        requires few { length records.now ≤ MOST_RECORDS }
+        requires small { list_all (λ r. nat_le (ops_in r.kind) RECORD_OPERATIONS) records.now ≡ true }
+        ensures puts { puts_in lo hi records.now ≤ result.puts }
+        ensures holds { holds_in lo hi records.now ≤ result.holds }
+        ensures applies { result.applies ≡ has_apply records.now }
+        ensures few_puts { result.puts ≤ RECORD_OPERATIONS * length records.now }
+        ensures few_holds { result.holds ≤ RECORD_OPERATIONS * length records.now }
+    {
+        if !is_apart(header, lo, hi) {
+            let all = Room::counted(header, records, 0, u16::MAX);
+            if all.puts <= FEW_OPS && all.holds <= FEW_OPS {
+                return all;
+            }
+        }
+        Room::counted(header, records, lo, hi)
     }
 
     /// How many versions may be added, where so many operations wait already: an apply may take them all.

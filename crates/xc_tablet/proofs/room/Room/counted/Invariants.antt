@@ -1,7 +1,7 @@
 use Rattle.std.proofs.Common.{◌≡◌, ◌+◌, ◌*◌, ◌≤◌, ◌||◌, drop, true}
 use Rattle.xc_tablet.specs.Contents.{all_keep}
 use Rattle.xc_tablet.specs.Room.{puts_in, holds_in, has_apply}
-use Rattle.xc_tablet.proofs.room.Room.of.Given as goal
+use Rattle.xc_tablet.proofs.room.Room.counted.Given as goal
 
 abbrev pub invariant-loop-item : goal.invariant-loop-item
 invariant-loop-item l = record {
